@@ -1,0 +1,200 @@
+-- What the caller lends to every call, and how it is read and changed (document 01, "What the caller lends").
+use Prim.Native.Nat.{ℕ, zero, suc, _+_, _*_}
+use mathlib.Core.Bool.{Bool, true, false, cond, not, _&&_}
+use mathlib.Core.Option.{Option, none, some}
+use mathlib.Core.List.{List, [], _∷_}
+use lib.Dec.{leb, ltb, eqb}
+use lib.ListN.{length, getD, set, replicate}
+use lib.Seq.{sets}
+use Rattle.model.specs.Search.{find, lowest, below}
+use Rattle.model.specs.Readers.{odd, joined, left}
+use Rattle.model.specs.declared.Session.{Session}
+use Rattle.model.specs.declared.Sessions.{Sessions}
+use Rattle.model.specs.declared.Lock.{Lock}
+
+-- the locks: for each cell a reader set, a claimant and a writer mark, each kind in a list of its own
+pub record Locks : Type 0 where
+  pub readers : List ℕ
+  pub claimants : List ℕ
+  pub exclusives : List ℕ
+
+-- one value and one class for each cell, the locks, and the logs of all sessions
+pub record Buffers : Type 0 where
+  pub values : List ℕ
+  pub classes : List ℕ
+  pub locks : Locks
+  pub logs : List ℕ
+
+-- the lent buffers and the sixteen records: what one call hands to the next
+pub record Store : Type 0 where
+  pub lent : Buffers
+  pub sessions : Sessions
+
+-- the number of cells
+unfoldable pub size : Buffers → ℕ
+size B = length (B .values)
+
+-- ---- session records
+
+abbrev pub idle : Session
+idle = record { phase = 0; count = 0; next = 0 }
+
+abbrev pub running : Session
+running = record { phase = 1; count = 0; next = 0 }
+
+unfoldable pub sessionAt : Sessions → ℕ → Session
+sessionAt ss s = getD (ss .records) s idle
+
+unfoldable pub withSession : Sessions → ℕ → Session → Sessions
+withSession ss s x = record { records = set (ss .records) s x }
+
+abbrev pub withEntry : Session → Session
+withEntry x = record { phase = x .phase; count = suc (x .count); next = x .next }
+
+abbrev pub moveTo : ℕ → ℕ → Session → Session
+moveTo phase next x = record { phase = phase; count = x .count; next = next }
+
+-- ---- logs
+
+-- session s owns the 128 words from 128 × s: entry k is the four words from 4 × k of these
+unfoldable pub word : List ℕ → ℕ → ℕ → ℕ → ℕ
+word logs s k j = getD logs (128 * s + (4 * k + j)) 0
+
+-- an entry besides its cell: the value found, the present value, and whether it was written, by the fourth word's lowest bit
+pub record Entry : Type 0 where
+  pub snapshot : ℕ
+  pub current : ℕ
+  pub dirty : Bool
+
+unfoldable pub cellAt : List ℕ → ℕ → ℕ → ℕ
+cellAt logs s k = word logs s k 0
+
+unfoldable pub entryAt : List ℕ → ℕ → ℕ → Entry
+entryAt logs s k = record { snapshot = word logs s k 1; current = word logs s k 2; dirty = odd (word logs s k 3) }
+
+-- which of the m entries of session s is the cell's, and the entry
+unfoldable pub slotIn : List ℕ → ℕ → ℕ → ℕ → Option ℕ
+slotIn logs s m c = find (cellAt logs s) m c
+
+unfoldable pub entryOf : List ℕ → ℕ → Option ℕ → Option Entry
+entryOf logs s none = none
+entryOf logs s (some k) = some (entryAt logs s k)
+
+unfoldable pub lookIn : List ℕ → ℕ → ℕ → ℕ → Option Entry
+lookIn logs s m c = entryOf logs s (slotIn logs s m c)
+
+-- what a running session calls written, and what counts as written from the seal on
+abbrev pub isDirty : Option Entry → Bool
+isDirty none = false
+isDirty (some e) = e .dirty
+
+unfoldable pub publishes : Entry → Bool
+publishes e = e .dirty
+
+abbrev pub isPublished : Option Entry → Bool
+isPublished none = false
+isPublished (some e) = publishes e
+
+unfoldable pub publishesIn : List ℕ → ℕ → ℕ → ℕ → Bool
+publishesIn logs s m c = isPublished (lookIn logs s m c)
+
+-- the lowest written cell not below a cell
+unfoldable pub targetIn : List ℕ → ℕ → ℕ → ℕ → Option ℕ
+targetIn logs s m from = lowest (λ c. leb from c && publishesIn logs s m c) (cellAt logs s) m
+
+abbrev pub currentOf : Option Entry → ℕ
+currentOf none = 0
+currentOf (some e) = e .current
+
+-- the logs with entry k of session s new: found and present are the value v, not written
+unfoldable pub appended : List ℕ → ℕ → ℕ → ℕ → ℕ → List ℕ
+appended logs s k c v = sets logs (128 * s + 4 * k) (c ∷ v ∷ v ∷ 0 ∷ [])
+
+-- the logs with the present value v in entry k of session s, which is then written
+unfoldable pub updated : List ℕ → ℕ → ℕ → ℕ → List ℕ
+updated logs s k v = sets logs (128 * s + (4 * k + 2)) (v ∷ 1 ∷ [])
+
+-- ---- locks
+
+-- no readers, claimant 16, mark 0
+abbrev pub free : Lock
+free = record { readers = 0; claimant = 16; exclusive = 0 }
+
+unfoldable pub lockAt : Locks → ℕ → Lock
+lockAt L c = record { readers = getD (L .readers) c 0; claimant = getD (L .claimants) c 16; exclusive = getD (L .exclusives) c 0 }
+
+unfoldable pub setLock : ℕ → Lock → Locks → Locks
+setLock c l L =
+    record {
+      readers = set (L .readers) c (l .readers);
+      claimants = set (L .claimants) c (l .claimant);
+      exclusives = set (L .exclusives) c (l .exclusive);
+    }
+
+-- the locks with that of one cell changed
+unfoldable pub lockOn : ℕ → (Lock → Lock) → Locks → Locks
+lockOn c f L = setLock c (f (lockAt L c)) L
+
+-- the locks with those of the cells of k entries changed, where a cell passes a test
+unfoldable pub sweep : (ℕ → Bool) → (Lock → Lock) → (ℕ → ℕ) → ℕ → Locks → Locks
+sweep at f cell zero L = L
+sweep at f cell (suc k) L = let r = sweep at f cell k L in cond (at (cell k)) (lockOn (cell k) f r) r
+
+-- a session joins and leaves the readers; it leaves with claim and mark gone; the same only where the claim is its own
+unfoldable pub join : ℕ → Lock → Lock
+join s l = record { readers = joined s (l .readers); claimant = l .claimant; exclusive = l .exclusive }
+
+unfoldable pub leave : ℕ → Lock → Lock
+leave s l = record { readers = left s (l .readers); claimant = l .claimant; exclusive = l .exclusive }
+
+unfoldable pub vacate : ℕ → Lock → Lock
+vacate s l = record { readers = left s (l .readers); claimant = 16; exclusive = 0 }
+
+unfoldable pub withdraw : ℕ → Lock → Lock
+withdraw s l = cond (eqb (l .claimant) s) (vacate s l) (leave s l)
+
+-- a session becomes claimant, and claimant with the mark
+unfoldable pub claim : ℕ → Lock → Lock
+claim s l = record { readers = l .readers; claimant = s; exclusive = l .exclusive }
+
+unfoldable pub own : ℕ → Lock → Lock
+own s l = record { readers = l .readers; claimant = s; exclusive = 1 }
+
+-- ---- caps and set-up
+
+-- caps by class 0 to 15
+unfoldable pub caps : List ℕ
+caps = 1 ∷ 6 ∷ 8 ∷ 10 ∷ 12 ∷ 15 ∷ 18 ∷ 21 ∷ 24 ∷ 27 ∷ 30 ∷ 36 ∷ 42 ∷ 48 ∷ 60 ∷ 4294967295 ∷ []
+
+unfoldable pub cap : ℕ → ℕ
+cap k = getD caps k 0
+
+-- a class byte above 15 and a value above its cap do not fit
+unfoldable pub fits : ℕ → ℕ → Bool
+fits k v = ltb k 16 && leb v (cap k)
+
+unfoldable pub allFit : List ℕ → List ℕ → Bool
+allFit [] ks = true
+allFit (v ∷ vs) [] = false
+allFit (v ∷ vs) (k ∷ ks) = fits k v && allFit vs ks
+
+-- n from 1 to 1,024, classes and locks n long, 2,048 words of logs
+unfoldable pub lengthsFit : Buffers → Bool
+lengthsFit B =
+    let n = size B in
+    leb 1 n && leb n 1024 && eqb (length (B .classes)) n && eqb (length (B .locks .readers)) n
+    && eqb (length (B .locks .claimants)) n && eqb (length (B .locks .exclusives)) n && eqb (length (B .logs)) 2048
+
+-- all sessions idle, all locks empty, all log words 0; values and classes are not changed
+unfoldable pub fresh : Buffers → Store
+fresh B =
+    let n = size B in
+    record {
+      lent = record {
+        values = B .values;
+        classes = B .classes;
+        locks = record { readers = replicate n 0; claimants = replicate n 16; exclusives = replicate n 0 };
+        logs = replicate 2048 0;
+      };
+      sessions = record { records = replicate 16 idle };
+    }

@@ -1,0 +1,4 @@
+pub mod Search
+pub mod Readers
+pub mod Buffers
+pub mod Step

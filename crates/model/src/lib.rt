@@ -1,0 +1,69 @@
+// The types of the store: what a session keeps between calls, a lock, a call, what a call decides and what it answers.
+// The definitions over them, document 01's steps and demand 3, are in specs/.
+
+// A session's record: phase (0 idle, 1 running, 2 promoting, 3 publishing, 4 releasing), entry count, next cell.
+pub struct Session {
+    pub phase: u8,
+    pub count: u8,
+    pub next: u16,
+}
+
+// The records of the sixteen sessions, passed in and handed back by every call.
+pub struct Sessions {
+    pub records: [Session; 16],
+}
+
+// A cell's lock: the reader set (bit s for session s), the claimant (16 is nobody) and the writer mark.
+pub struct Lock {
+    pub readers: u16,
+    pub claimant: u8,
+    pub exclusive: u8,
+}
+
+// A call on the store.
+pub enum Call {
+    Begin(u8),
+    Read(u8, u32),
+    Write(u8, u32, u32),
+    Seal(u8),
+    Advance(u8),
+    Abandon(u8),
+    Peek(u8, u32),
+}
+
+// What a call answers; specs/Step.antt gives the number and the value of each.
+pub enum Answer {
+    Done,
+    Value(u32),
+    Sealed,
+    Moved,
+    Waiting,
+    Committed,
+    Refused(u8),
+}
+
+// What a call decides before it changes anything; specs/Step.antt says what each leaves and answers.
+pub enum Plan {
+    Refuse(u8),
+    Start,
+    Tell(u32),
+    Enter(u32),
+    Update(u32, u32),
+    EnterUpdate(u32, u32),
+    RollBack,
+    Cancel,
+    CommitReads,
+    BeginPromotion,
+    Wait(u32),
+    Own(u32),
+    Publish(u32, u32),
+    Release(u32),
+    ShowStore(u32),
+    ShowLog(u32),
+}
+
+// A call's answer and the records that it hands back.
+pub struct Reply {
+    pub answer: Answer,
+    pub sessions: Sessions,
+}
