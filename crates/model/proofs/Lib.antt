@@ -1,0 +1,4 @@
+pub mod Tools
+pub mod Laws
+pub mod Roles
+pub mod View

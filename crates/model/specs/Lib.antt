@@ -2,3 +2,5 @@ pub mod Search
 pub mod Readers
 pub mod Buffers
 pub mod Step
+pub mod History
+pub mod Isolation
