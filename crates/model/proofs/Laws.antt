@@ -10,8 +10,11 @@ use lib.Dec.{ltb, eqb}
 use lib.ListN.{length, getD, set, length-set}
 use lib.Seq.{sets, getD-set-same, getD-set-other}
 use borrow.Author.Tests.{eqb-true, eq-eqb, ne-eqb, ltb-true, ltb-false}
+use Rattle.model.specs.declared.Session.{Session}
+use Rattle.model.specs.declared.Sessions.{Sessions}
 use Rattle.model.specs.declared.Lock.{Lock}
-use Rattle.model.specs.Buffers.{Locks, word, cellAt, entryAt, slotIn, entryOf, lookIn, lockAt, setLock, lockOn, sweep, leave, vacate, withdraw, fits}
+use Rattle.model.specs.Buffers.{Locks, idle, sessionAt, withSession, word, cellAt, entryAt, slotIn, entryOf, lookIn, lockAt, setLock, lockOn, sweep, leave, vacate, withdraw}
+use Rattle.model.specs.Isolation.{at}
 use Rattle.model.specs.Readers.{odd, assign}
 use Rattle.model.specs.Search.{some?, orElse, find, lower, lowest, below, tally}
 use Rattle.model.proofs.Tools.{same, split, test, which, nothing, clash, both-l, both-r, and-false, orElse-none}
@@ -326,3 +329,17 @@ module _ (logs : List ℕ) (s m k c v : ℕ) (ls : s < 16) (lm : m ≤ 32) (len 
   changed-new =
       let u = find-some (cellAt logs s) c m f .0 in
       rw (changed-find c, f) (rw (changed-word s k 1 (omega arith), changed-at 0 (omega arith), changed-at 1 (omega arith)))
+
+-- ---- session records
+
+pub session-same : (ss : Sessions) (s : ℕ) (x : Session) → length (ss .records) ≡ 16 → s < 16 → sessionAt (withSession ss s x) s ≡ x
+unfolding sessionAt withSession
+session-same ss s x h lt = getD-set-same (ss .records) s x idle (omega arith)
+
+pub session-other : (ss : Sessions) (s : ℕ) (x : Session) (t : ℕ) → (t ≡ s → ⊥) → sessionAt (withSession ss s x) t ≡ sessionAt ss t
+unfolding sessionAt withSession
+session-other ss s x t n = getD-set-other (ss .records) s t x idle n
+
+pub length-records : (ss : Sessions) (s : ℕ) (x : Session) → length (withSession ss s x .records) ≡ length (ss .records)
+unfolding withSession
+length-records ss s x = length-set (ss .records) s x

@@ -2,3 +2,9 @@ pub mod Tools
 pub mod Laws
 pub mod Roles
 pub mod View
+pub mod Ledger
+pub mod Invariant
+pub mod Running
+pub mod Effects
+pub mod Sealing
+pub mod Advancing

@@ -1,4 +1,4 @@
--- One cell and all sessions: what each session is to the cell, the lock, the figure in the store and the last committed figure.
+-- One cell and all sessions: what each session is to the cell, the lock, the value in the store and the last committed value.
 use Prim.Native.Nat.{ℕ, _<_}
 use native.Mathlib.Omega.{arith}
 use mathlib.Core.Path.{_≡_, refl, sym, _∙_, ap, subst}
@@ -6,11 +6,12 @@ use mathlib.Core.Bool.{Bool, true, false, _||_}
 use lib.Dec.{eqb}
 use borrow.Author.Tests.{eqb-true, eqb-false}
 use Rattle.model.specs.declared.Lock.{Lock}
-use Rattle.model.specs.Buffers.{join, leave, vacate, withdraw, claim, own, fresh}
+use Rattle.model.specs.Buffers.{join, leave, vacate, withdraw, claim, own}
+use Rattle.model.specs.Isolation.{at}
 use Rattle.model.specs.Readers.{member, assign}
 use Rattle.model.proofs.Tools.{same, split, clash, member-assign-same, member-assign-other}
 
--- nothing; entered while running, with the figure found; written and not yet promoted; promoted, with the currentOf figure; committed
+-- nothing; entered while running, with the value found; written and not yet promoted; promoted, with the present value; committed
 -- and not yet published; published and not yet released
 pub data Role : Type 0 where
   out : Role
@@ -51,7 +52,7 @@ pub record Locked (p : ℕ → Role) (l : Lock) : Type 0 where
   pub alone : (s t : ℕ) → owns (p s) ≡ true → holds (p t) ≡ true → t ≡ s
   pub early : (s : ℕ) → l .claimant ≡ s → l .exclusive ≡ 1 → owns (p s) ≡ true
 
--- the figures go with the parts
+-- the values go with the parts
 pub record Valued (p : ℕ → Role) (fig lat : ℕ) : Type 0 where
   pub fresh : (s f : ℕ) → p s ≡ reading f → f ≡ lat
   pub due : (s v : ℕ) → p s ≡ pending v → v ≡ lat
@@ -169,7 +170,7 @@ module _ {p q : ℕ → Role} (s : ℕ) (o : (t : ℕ) → (t ≡ s → ⊥) →
         rest = every (λ u x. holds x ≡ true → u ≡ s) (λ e. refl) (λ u n e. absurd (none u n e))
 
   module _ {fig lat : ℕ} (v : Valued p fig lat) where
-    -- nothing that the figures show
+    -- nothing that the values show
     pub stays : ((f : ℕ) → X ≡ reading f → p s ≡ reading f) → ((f : ℕ) → X ≡ pending f → p s ≡ pending f) → pends X ≡ pends (p s) → Valued q fig lat
     stays a c d =
         record {
@@ -187,7 +188,7 @@ module _ {p q : ℕ → Role} (s : ℕ) (o : (t : ℕ) → (t ≡ s → ⊥) →
           settled = λ h. e;
         }
 
-    -- a new last committed figure, by the one session that holds the cell
+    -- a new last committed value, by the one session that holds the cell
     pub commits : ((t : ℕ) → (t ≡ s → ⊥) → holds (p t) ≡ true → ⊥) → {f : ℕ} → X ≡ pending f → Valued q fig f
     commits w {f} h =
         record {
@@ -196,8 +197,8 @@ module _ {p q : ℕ → Role} (s : ℕ) (o : (t : ℕ) → (t ≡ s → ⊥) →
           settled = λ k. absurd (clash (pends (q s)) (ap pends (b ∙ h)) (k s));
         }
 
-    pub publishes : {f : ℕ} → p s ≡ pending f → X ≡ published → Valued q f lat
-    publishes {f} h k =
+    pub settles : {f : ℕ} → p s ≡ pending f → X ≡ published → Valued q f lat
+    settles {f} h k =
         let e = v .due s f h in
         record {
           fresh = every (λ t x. (f : ℕ) → x ≡ reading f → f ≡ lat) (λ f i. cc) (λ t n. v .fresh t);

@@ -1,8 +1,9 @@
 -- The store as the proofs look at it: a session's record, its notes, its written cells.
 use Prim.Native.Nat.{ℕ}
+use mathlib.Core.Path.{_≡_, refl}
 use mathlib.Core.Bool.{Bool}
-use mathlib.Core.Option.{Option}
-use Rattle.model.specs.Buffers.{Store, Entry, slotIn, lookIn, isPublished, targetIn}
+use mathlib.Core.Option.{Option, none, some}
+use Rattle.model.specs.Buffers.{Store, Entry, slotIn, lookIn, isDirty, publishes, isPublished, targetIn}
 use Rattle.model.specs.Step.{recordOf}
 
 unfoldable pub slot : Store → ℕ → ℕ → Option ℕ
@@ -16,3 +17,9 @@ written σ s c = isPublished (look σ s c)
 
 unfoldable pub target : Store → ℕ → ℕ → Option ℕ
 target σ s from = targetIn (σ .lent .logs) s (recordOf σ s .count) from
+
+-- what was written while running is what counts as written from the seal on
+pub dirty-publishes : (o : Option Entry) → isDirty o ≡ isPublished o
+unfolding publishes
+dirty-publishes none = refl
+dirty-publishes (some e) = refl

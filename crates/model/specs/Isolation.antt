@@ -45,8 +45,8 @@ module _ (start : List ℕ) (h : List Event) where
 
   -- v is the value of the last commit to cell c before place q, or the starting value where there is none
   pub data Last (c q v : ℕ) : Type 0 where
-    last : (p : ℕ) → CommitsTo c q p → ((r : ℕ) → CommitsTo c q r → commitOf r ≤ commitOf p) → valueWritten (at p) c ≡ v → Last c q v
-    never : ((r : ℕ) → CommitsTo c q r → ⊥) → startingValue start c ≡ v → Last c q v
+    lastCommit : (p : ℕ) → CommitsTo c q p → ((r : ℕ) → CommitsTo c q r → commitOf r ≤ commitOf p) → valueWritten (at p) c ≡ v → Last c q v
+    noCommit : ((r : ℕ) → CommitsTo c q r → ⊥) → startingValue start c ≡ v → Last c q v
 
   pub record Isolated : Type 0 where
     -- the snapshot is the place of its own seal, after its begin and not after its commit
