@@ -157,9 +157,9 @@ module _ {start : List ℕ} {σ : Store} {T : Ledger} (s : ℕ) (lt : s < 16) (I
 
   -- ---- begin
 
-  pub begins : recordOf σ s .phase ≡ 0
+  pub started : recordOf σ s .phase ≡ 0
       → Inv start (change σ s (σ .lent .locks) (σ .lent .values) (σ .lent .logs) running) (heard s (opened s (T .place)) (T .commits) T)
-  begins h =
+  started h =
       let a = acts (I .shape) s lt (σ .lent .locks) (σ .lent .values) running in
       let same-role : (c : ℕ) → role (change σ s (σ .lent .locks) (σ .lent .values) (σ .lent .logs) running) c s ≡ role σ c s = λ c. role-gone a refl c ∙ sym (idle-out σ s c h) in
       let blank : (c : ℕ) → look (change σ s (σ .lent .locks) (σ .lent .values) (σ .lent .logs) running) s c ≡ none = λ c. look-mine a c ∙ unfold lookIn slotIn entryOf find in refl in

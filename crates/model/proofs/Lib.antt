@@ -8,3 +8,4 @@ pub mod Running
 pub mod Effects
 pub mod Sealing
 pub mod Advancing
+pub mod Preservation

@@ -34,8 +34,8 @@ module _ (start : List ℕ) (h : List Event) where
   commitOf p = commit (length start) (at p)
 
   -- the transaction of place p has a call of its own at place q that passes a test
-  abbrev pub Own : ℕ → ℕ → (Placed → Bool) → Type 0
-  Own p q test = Any (λ (x : Placed). (x .place ≡ q) × (test x ≡ true)) (at p)
+  abbrev pub OwnCall : ℕ → ℕ → (Placed → Bool) → Type 0
+  OwnCall p q test = Any (λ (x : Placed). (x .place ≡ q) × (test x ≡ true)) (at p)
 
   -- the transaction of place p committed to cell c before place q
   pub record CommitsTo (c q p : ℕ) : Type 0 where
@@ -50,9 +50,9 @@ module _ (start : List ℕ) (h : List Event) where
 
   pub record Isolated : Type 0 where
     -- the snapshot is the place of its own seal, after its begin and not after its commit
-    pub snapshots : (p : ℕ) → Commits p → (p < snapshotOf p) × (snapshotOf p ≤ commitOf p) × Own p (snapshotOf p) seals
+    pub snapshots : (p : ℕ) → Commits p → (p < snapshotOf p) × (snapshotOf p ≤ commitOf p) × OwnCall p (snapshotOf p) seals
     -- the commit is the place of its own advance, or of that seal where it wrote no cell
-    pub commits : (p : ℕ) → Commits p → Own p (commitOf p) (λ x. cond (eqb (cellsWritten (length start) (at p)) 0) (seals x) (moves x))
+    pub commits : (p : ℕ) → Commits p → OwnCall p (commitOf p) (λ x. cond (eqb (cellsWritten (length start) (at p)) 0) (seals x) (moves x))
     -- each read before writing is the last commit's before the snapshot
     pub reads : (p : ℕ) → Commits p → All (λ (r : ReadOf). Last (r .cell) (snapshotOf p) (r .value)) (readsBeforeWriting (at p))
     -- two writers of one cell have spans, from snapshot to commit, that do not meet

@@ -193,7 +193,7 @@ sealPlan (some c) = BeginPromotion
 -- advance in phase 2: a claimant other than the session rolls it back; with other readers it waits; else the cell is its own
 unfoldable pub promotePlan : ℕ → ℕ → Lock → Plan
 promotePlan s c l =
-    cond (not (claimed l) || eqb (l .claimant) s) (cond (eqb (otherReaders s (l .readers)) 0) (Own c) (Wait c)) RollBack
+    cond (claimed l && not (eqb (l .claimant) s)) RollBack (cond (eqb (otherReaders s (l .readers)) 0) (Own c) (Wait c))
 
 -- advance at the lowest written cell not below next
 unfoldable pub advancePlan : Buffers → ℕ → Session → Option ℕ → Plan
