@@ -16,7 +16,7 @@ use Rattle.model.specs.Search.{tally}
 use Rattle.model.specs.Step.{number, valueOf, sessionOf, reply}
 use Rattle.model.proofs.Tools.{upd}
 
--- its session and the place of its begin; whether it is open; its reads before writing; the cells it wrote and its figures there; the
+-- its session and the place of its begin; whether it is open; its reads before writing; the cells it wrote and its values there; the
 -- place of its seal (0: none yet); its answers 103; whether it is committed, and the place (0: none yet)
 pub record Txn : Type 0 where
   pub who : ℕ
@@ -203,11 +203,12 @@ observe n (Peek s c) a T = amendBy s (news n (T .place) (Peek s c) a) T
 abbrev pub blank : Ledger
 blank = record { place = 1; mine = λ s. ended (opened s 0); commits = [] }
 
-unfoldable pub ledger : Store → List Call → Ledger
-ledger σ [] = blank
-ledger σ (k ∷ ks) = observe (length (σ .lent .values)) k (reply k (run σ ks)) (ledger σ ks)
+-- the ledger of n cells after a list of calls, from one to go on with
+unfoldable pub ledger : ℕ → Ledger → Store → List Call → Ledger
+ledger n T σ [] = T
+ledger n T σ (k ∷ ks) = observe n k (reply k (run σ ks)) (ledger n T σ ks)
 
--- the figure of the last commit to a cell before a place, or the starting figure
+-- the value of the last commit to a cell before a place, or the starting value
 unfoldable pub valueBefore : ℕ → List ℕ → List Commit → ℕ → ℕ
 valueBefore p start [] c = getD start c 0
 valueBefore p start (k ∷ ks) c = cond (ltb (k .place) p && k .wrote c) (k .value c) (valueBefore p start ks c)

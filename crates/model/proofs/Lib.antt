@@ -9,3 +9,6 @@ pub mod Effects
 pub mod Sealing
 pub mod Advancing
 pub mod Preservation
+pub mod Matching
+pub mod Settled
+pub mod Runs
