@@ -171,6 +171,7 @@ module _ {start : List ℕ} {σ : Store} {T : Ledger} (s : ℕ) (lt : s < 16) (I
         live = refl;
         open′ = refl;
         moved = refl;
+        unsealed = refl;
         reads = tt;
         wrote = λ c. rw (blank c);
         value = λ c e. absurd (clash (isDirty (look (change σ s (σ .lent .locks) (σ .lent .values) (σ .lent .logs) running) s c)) e (rw (blank c)));

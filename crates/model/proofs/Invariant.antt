@@ -62,6 +62,7 @@ pub record Running (look : ℕ → Option Entry) (t : Txn) : Type 0 where
   pub live : t .live ≡ true
   pub open′ : t .done ≡ false
   pub moved : t .moved ≡ 0
+  pub unsealed : t .snap ≡ 0
   pub wrote : (c : ℕ) → t .wrote c ≡ isDirty (look c)
   pub value : (c : ℕ) → isDirty (look c) ≡ true → t .value c ≡ currentOf (look c)
   pub reads : All (λ (r : ReadOf). (e : Entry) × (look (r .cell) ≡ some e) × (e .snapshot ≡ r .value)) (t .reads)

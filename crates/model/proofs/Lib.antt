@@ -12,3 +12,6 @@ pub mod Preservation
 pub mod Matching
 pub mod Settled
 pub mod Runs
+pub mod Words
+pub mod Agreement
+pub mod Commits

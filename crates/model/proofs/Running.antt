@@ -17,6 +17,7 @@ module _ {f g : ℕ → Option Entry} {t : Txn} (c v : ℕ) (R : Running f t) (o
         live = R .live;
         open′ = R .open′;
         moved = R .moved;
+        unsealed = R .unsealed;
         wrote = λ d. same d c (λ e. rw (e, k) (R .wrote c ∙ rw h)) (λ n. rw (o d n) (R .wrote d));
         value = λ d. same d c (λ e. rw (e, k) (λ q. absurd (clash false q refl))) (λ n. rw (o d n) (R .value d));
         reads = all-map (λ r x. same (r .cell) c (λ e. nothing (sym h ∙ rw e at (x .1))) (λ n. (x .0, o (r .cell) n ∙ x .1, x .2))) (t .reads) (R .reads);
@@ -29,6 +30,7 @@ module _ {f g : ℕ → Option Entry} {t : Txn} (c v : ℕ) (R : Running f t) (o
         live = R .live;
         open′ = R .open′;
         moved = R .moved;
+        unsealed = R .unsealed;
         wrote = λ d. same d c (λ w. rw (w, k, upd-same (t .wrote) c true)) (λ n. rw (o d n, upd-other (t .wrote) c true d n) (R .wrote d));
         value = λ d. same d c (λ w. rw (w, k, upd-same (t .value) c v) (λ q. refl)) (λ n. rw (o d n, upd-other (t .value) c v d n) (R .value d));
         reads = all-map (λ r x. same (r .cell) c
@@ -43,6 +45,7 @@ run-saw {f} {t} c e R h =
       live = R .live;
       open′ = R .open′;
       moved = R .moved;
+        unsealed = R .unsealed;
       wrote = R .wrote;
       value = R .value;
       clean = R .clean;

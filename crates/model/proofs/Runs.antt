@@ -85,10 +85,10 @@ inv-from I (k ∷ ks) = keep (inv-from I ks) k
 
 -- from any store with the invariant and no transaction open
 module _ (φ : Store) (I₀ : Inv (φ .lent .values) φ blank) where
-  abbrev pub told : List Call → Ledger
-  told ks = ledger (length (φ .lent .values)) blank φ ks
+  abbrev pub ledger-of : List Call → Ledger
+  ledger-of ks = ledger (length (φ .lent .values)) blank φ ks
 
-  pub inv-run : (ks : List Call) → Inv (φ .lent .values) (run φ ks) (told ks)
+  pub inv-run : (ks : List Call) → Inv (φ .lent .values) (run φ ks) (ledger-of ks)
   inv-run = inv-from I₀
 
   match-start : Matches (length (φ .lent .values)) [] blank
@@ -104,9 +104,9 @@ module _ (φ : Store) (I₀ : Inv (φ .lent .values) φ blank) where
         every = λ p d. clash false d refl;
       }
 
-  pub match-run : (ks : List Call) → Matches (length (φ .lent .values)) (history φ ks) (told ks)
+  pub match-run : (ks : List Call) → Matches (length (φ .lent .values)) (history φ ks) (ledger-of ks)
   unfolding history ledger
   match-run [] = match-start
   match-run (k ∷ ks) =
       matches (match-run ks) k (reply k (run φ ks)) (λ s e h. begin-idle (inv-run ks) s (rw (← e) h))
-      (keeps-settled (inv-run ks) (length (φ .lent .values)) (told ks .place) k)
+      (keeps-settled (inv-run ks) (length (φ .lent .values)) (ledger-of ks .place) k)

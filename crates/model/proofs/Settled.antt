@@ -29,13 +29,13 @@ module _ {first : List ℕ} {σ : Store} {T : Ledger} (I : Inv first σ T) where
       (unfold answer in λ e. absurd (omega arith)) (unfold answer in λ e. absurd (omega arith)) (unfold answer in λ e. absurd (omega arith)) (unfold answer in λ e. absurd (omega arith))
       (λ lt k h e. let ph = eqb-true (recordOf σ s .phase) 0 h in rw ph at (I .link s))
 
-  -- a write is answered 100 only while no answer 103 has come
-  pub write-early : (s c v : ℕ) → number (reply (Write s c v) σ) ≡ 100 → T .mine s .moved ≡ 0
+  -- a write is answered 100 only before the seal
+  pub write-early : (s c v : ℕ) → number (reply (Write s c v) σ) ≡ 100 → (T .mine s .moved ≡ 0) × (T .mine s .snap ≡ 0)
   unfolding reply planOf plan
   write-early s c v =
-      guarded (λ p. number (answer s p σ) ≡ 100 → T .mine s .moved ≡ 0) (σ .lent) s (recordOf σ s) (eqb (recordOf σ s .phase) 1) _
+      guarded (λ p. number (answer s p σ) ≡ 100 → (T .mine s .moved ≡ 0) × (T .mine s .snap ≡ 0)) (σ .lent) s (recordOf σ s) (eqb (recordOf σ s .phase) 1) _
       (unfold answer in λ e. absurd (omega arith)) (unfold answer in λ e. absurd (omega arith)) (unfold answer in λ e. absurd (omega arith)) (unfold answer in λ e. absurd (omega arith))
-      (λ lt k h e. let r : Running (look σ s) (T .mine s) = rw (eqb-true (recordOf σ s .phase) 1 h) at (I .link s) in r .moved)
+      (λ lt k h e. let r : Running (look σ s) (T .mine s) = rw (eqb-true (recordOf σ s .phase) 1 h) at (I .link s) in (r .moved, r .unsealed))
 
   late-phase : (s : ℕ) → T .mine s .live ≡ true → T .mine s .done ≡ true → 3 ≤ recordOf σ s .phase
   late-phase s l d = go (recordOf σ s .phase) (I .link s)
