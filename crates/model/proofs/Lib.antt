@@ -15,3 +15,4 @@ pub mod Runs
 pub mod Words
 pub mod Agreement
 pub mod Commits
+pub mod Writers
