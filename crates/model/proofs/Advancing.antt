@@ -20,7 +20,7 @@ use Rattle.model.proofs.Effects.{Acts, ses-same, frame, look-mine, role
 use Rattle.model.proofs.Invariant.{roleIn, roleOf, role, latest, Promoting, Finishing, Link, just-past, Inv, role-other, quiet, committing, ticks}
 use Rattle.model.proofs.Laws.{find-some, Low, lowest-is, Long, lock-same, lock-other, long-set, tally-flat, tally-more}
 use Rattle.model.proofs.Ledger.{Txn, ended, advanced, Commit, Ledger, tick, asCommit}
-use Rattle.model.proofs.Roles.{Role, out, wanting, owning, pending, published, holds, owns, pends, Locked, Valued, flip, kept, vacates, takes, stays, commits, settles, claims}
+use Rattle.model.proofs.Roles.{Role, out, wanting, owning, pending, published, holds, owns, pends, claims?, Locked, Valued, flip, kept, vacates, takes, stays, commits, settles, claims}
 use Rattle.model.proofs.Tools.{same, split, test, which, clash, both-l, both-r, alone-member}
 use Rattle.model.proofs.View.{slot, look, written, target}
 
@@ -275,7 +275,7 @@ module _ {start : List ℕ} {σ : Store} {T : Ledger} (s : ℕ) (lt : s < 16) (I
           same d c
           (λ e. rw e (rw (on-same (length start) c (own s) L₀ (I .shape .long) inn) (takes s (role-other (frame b) c) (is c here) (I .locked c inn) (ap holds wants) refl refl lt lone)))
           (λ n. rw (on-other (length start) c (own s) L₀ (I .shape .long) d n)
-          (kept s (role-other (frame b) d) (is d w) (I .locked d ld) (sym (ap holds (was d w n))) (sym (ap owns (was d w n))))))
+          (kept s (role-other (frame b) d) (is d w) (I .locked d ld) (sym (ap holds (was d w n))) (sym (ap owns (was d w n))) (λ _. refl))))
           (λ w. rw (on-other (length start) c (own s) L₀ (I .shape .long) d (λ e. clash (written σ s c) here (rw e at w))) (locked-still b d (dry d w) (I .locked d ld)))
 
       last-valued : (k : Commit) → k .wrote ≡ T .mine s .wrote → k .value ≡ T .mine s .value → (d : ℕ) → d < length start
@@ -317,7 +317,7 @@ module _ {start : List ℕ} {σ : Store} {T : Ledger} (s : ℕ) (lt : s < 16) (I
         shape = record { values = I .shape .values; records = I .shape .records; long = on-long (length start) c (claim s) L₀ w; logs = I .shape .logs; counts = I .shape .counts };
         locked = λ d ld.
             same d c
-            (λ e. rw e (rw (on-same (length start) c (claim s) L₀ w inn) (claims (I .locked c inn) s cl (ap owns (role-here 0 ph) ∙ unfold roleIn in refl))))
+            (λ e. rw e (rw (on-same (length start) c (claim s) L₀ w inn) (claims (I .locked c inn) s cl (ap owns (role-here 0 ph) ∙ unfold roleIn in refl) (ap claims? (role-here 0 ph) ∙ unfold roleIn in refl))))
             (λ n. rw (on-other (length start) c (claim s) L₀ w d n) (I .locked d ld));
         valued = I .valued;
         link = J .link;
@@ -345,7 +345,7 @@ module _ {start : List ℕ} {σ : Store} {T : Ledger} (s : ℕ) (lt : s < 16) (I
           let b = a L₀ (set F₀ c v) phase next in
           one-cell L₀ (set F₀ c v) (moveTo phase next x) (I .shape .long) (length-set F₀ c v ∙ I .shape .values) (I .shape .counts s)
           (λ d n. (sp d n, refl, getD-set-other F₀ c d v 0 n))
-          (kept s (role-other (frame b) c) now (I .locked c inn) (sym (ap holds was)) (sym (ap owns was)))
+          (kept s (role-other (frame b) c) now (I .locked c inn) (sym (ap holds was)) (sym (ap owns was)) (λ _. refl))
           (rw (getD-set-same F₀ c v 0 (omega (arith, I .shape .values, inn))) (settles s (role-other (frame b) c) now (I .valued c inn) was refl))
           (advanced (length start) (T .place) (T .mine s)) li
 

@@ -97,8 +97,11 @@ agrees-continued {n} q e (x ∷ r) {u} A late set early =
     let o = eqb-true (sessionOf (e .call)) (sessionOf (x .call)) (both-r (not (ends x)) (eqb (sessionOf (e .call)) (sessionOf (x .call))) y) ∙ sym w in
     rw (y, absorb-mine n q e u l o) (told A (placed q e) o l late (set l o) (λ s c v. early l s c v o) (e .call) refl))
     (λ y.
-    rw (y, absorb-other n q e u (λ l o. clash (not (ends x) && eqb (sessionOf (e .call)) (sessionOf (x .call)))
-    (rw (sym (A .live) ∙ l, eq-eqb (sessionOf (e .call)) (sessionOf (x .call)) (o ∙ w))) y)) A)
+    rw (
+      y,
+      absorb-other n q e u (λ l o. clash (not (ends x) && eqb (sessionOf (e .call)) (sessionOf (x .call)))
+          (rw (sym (A .live) ∙ l, eq-eqb (sessionOf (e .call)) (sessionOf (x .call)) (o ∙ w))) y),
+    ) A)
 
 -- ---- every run
 

@@ -17,7 +17,7 @@ use Rattle.model.specs.Step.{rolledBack, change, changeLogs, recordOf}
 use Rattle.model.proofs.Invariant.{roleIn, roleOf, role, Running, Link, Shape, just-map, Inv, Frame, role-other, assemble, quiet}
 use Rattle.model.proofs.Laws.{Long, lock-same, lock-other, long-set, long-sweep, lock-sweep, withdraw-withdraw, grown-other, grown-find, grown-new, grown-old, changed-other, changed-old, changed-new, session-same, session-other, length-records}
 use Rattle.model.proofs.Ledger.{Txn, opened, saw, wroteTo, Commit, Ledger, blank}
-use Rattle.model.proofs.Roles.{Role, out, reading, holds, owns, pends, Locked, Valued, unowned, kept, joins, withdraws, stays, sees}
+use Rattle.model.proofs.Roles.{Role, out, reading, holds, owns, pends, claims?, Locked, Valued, unowned, kept, joins, withdraws, stays, sees}
 use Rattle.model.proofs.Running.{run-enter, run-note, run-saw}
 use Rattle.model.proofs.Tools.{same, which, nothing, clash, upd}
 use Rattle.model.proofs.View.{slot, look}
@@ -74,7 +74,7 @@ module _ {n : ℕ} {σ τ : Store} {s : ℕ} {x : Session} (a : Acts n σ s x τ
   -- a cell at which nothing changed
   module _ (c : ℕ) (b : role τ c s ≡ role σ c s) where
     pub locked-still : {l : Lock} → Locked (role σ c) l → Locked (role τ c) l
-    locked-still g = kept s (role-other frame c) b g refl refl
+    locked-still g = kept s (role-other frame c) b g refl refl (λ h. h)
 
     pub valued-still : {fig lat : ℕ} → Valued (role σ c) fig lat → Valued (role τ c) fig lat
     valued-still v = stays s (role-other frame c) b v (λ f e. e) (λ f e. e) refl
@@ -150,7 +150,7 @@ module _ {start : List ℕ} {σ : Store} {T : Ledger} (s : ℕ) (lt : s < 16) (I
       (λ c lc.
       rw (lock-sweep (λ c. true) (withdraw s) (cellAt (σ .lent .logs) s) (σ .lent .locks) (length start) (I .shape .long) (withdraw-withdraw s (λ e. omega arith)) c lc (x .count))
       (which (find (cellAt (σ .lent .logs) s) (x .count) c)
-      (λ p. rw p (kept s (role-other (frame a) c) (role-gone a refl c) (I .locked c lc) (sym (ap holds (unknown σ s c p))) (sym (ap owns (unknown σ s c p)))))
+      (λ p. rw p (kept s (role-other (frame a) c) (role-gone a refl c) (I .locked c lc) (sym (ap holds (unknown σ s c p))) (sym (ap owns (unknown σ s c p))) (λ h. sym (ap claims? (unknown σ s c p)) ∙ h)))
       (λ k p. rw p (withdraws s (role-other (frame a) c) (role-gone a refl c) (I .locked c lc) refl))))
       (λ c lc. stays s (role-other (frame a) c) (role-gone a refl c) (I .valued c lc) (λ f e. not-in (sym e) refl) (λ f e. not-in (sym e) refl) (sym (np c)))
       (link-mine a start (T .commits) (suc (T .place)) u refl dead)

@@ -16,3 +16,4 @@ pub mod Words
 pub mod Agreement
 pub mod Commits
 pub mod Writers
+pub mod Demand3

@@ -2,6 +2,7 @@
 use Prim.Native.Nat.{ℕ, _<_}
 use native.Mathlib.Omega.{arith}
 use mathlib.Core.Path.{_≡_, refl, sym, _∙_, ap, subst}
+use mathlib.Core.Logic.{_⊎_, inl, inr}
 use mathlib.Core.Bool.{Bool, true, false, _||_}
 use lib.Dec.{eqb}
 use borrow.Author.Tests.{eqb-true, eqb-false}
@@ -45,12 +46,22 @@ pends (owning v) = false
 pends (pending v) = true
 pends published = false
 
--- the lock goes with the parts
+-- it has a claim or may make one: its cell is to be promoted, or has been
+abbrev pub claims? : Role → Bool
+claims? out = false
+claims? (reading f) = false
+claims? wanting = true
+claims? (owning v) = true
+claims? (pending v) = true
+claims? published = true
+
+-- the lock goes with the roles
 pub record Locked (p : ℕ → Role) (l : Lock) : Type 0 where
   pub readers : (s : ℕ) → member (l .readers) s ≡ holds (p s)
   pub owner : (s : ℕ) → owns (p s) ≡ true → (l .claimant ≡ s) × (l .exclusive ≡ 1) × (s < 16)
   pub alone : (s t : ℕ) → owns (p s) ≡ true → holds (p t) ≡ true → t ≡ s
   pub early : (s : ℕ) → l .claimant ≡ s → l .exclusive ≡ 1 → owns (p s) ≡ true
+  pub claimer : (l .claimant ≡ 16) ⊎ (claims? (p (l .claimant)) ≡ true)
 
 -- the values go with the parts
 pub record Valued (p : ℕ → Role) (fig lat : ℕ) : Type 0 where
@@ -65,6 +76,14 @@ owns-holds wanting h = refl
 owns-holds (owning v) h = refl
 owns-holds (pending v) h = refl
 owns-holds published h = refl
+
+owns-claims : (x : Role) → owns x ≡ true → claims? x ≡ true
+owns-claims out h = h
+owns-claims (reading f) h = h
+owns-claims wanting h = refl
+owns-claims (owning v) h = refl
+owns-claims (pending v) h = refl
+owns-claims published h = refl
 
 pends-owns : (x : Role) → owns x ≡ false → pends x ≡ false
 pends-owns out h = refl
@@ -88,14 +107,24 @@ module _ {p q : ℕ → Role} (s : ℕ) (o : (t : ℕ) → (t ≡ s → ⊥) →
   every P a f t = same t s (λ e. rw (e, b) a) (λ n. rw (o t n) (f t n))
 
   module _ {l : Lock} (g : Locked p l) where
+    -- the claim of another stays good, and its own where it goes on to claim
+    claimer-on : (claims? (p s) ≡ true → claims? X ≡ true) → (l .claimant ≡ 16) ⊎ (claims? (q (l .claimant)) ≡ true)
+    claimer-on k = go (g .claimer)
+      where
+        go : (l .claimant ≡ 16) ⊎ (claims? (p (l .claimant)) ≡ true) → (l .claimant ≡ 16) ⊎ (claims? (q (l .claimant)) ≡ true)
+        go (inl e) = inl e
+        go (inr h) =
+            inr (same (l .claimant) s (λ e. ap claims? (ap q e ∙ b) ∙ k (ap (λ (t : ℕ). claims? (p t)) (sym e) ∙ h)) (λ n. ap claims? (o (l .claimant) n) ∙ h))
+
     -- nothing that the lock shows
-    pub kept : holds X ≡ holds (p s) → owns X ≡ owns (p s) → Locked q l
-    kept h w =
+    pub kept : holds X ≡ holds (p s) → owns X ≡ owns (p s) → (claims? (p s) ≡ true → claims? X ≡ true) → Locked q l
+    kept h w k =
         record {
           readers = every (λ t x. member (l .readers) t ≡ holds x) (g .readers s ∙ sym h) (λ t n. g .readers t);
           owner = every (λ t x. owns x ≡ true → (l .claimant ≡ t) × (l .exclusive ≡ 1) × (t < 16)) (λ e. g .owner s (sym w ∙ e)) (λ t n. g .owner t);
           alone = λ t u. every (λ t x. owns x ≡ true → holds (q u) ≡ true → u ≡ t) (λ e. rest s u (sym w ∙ e)) (λ t n. rest t u) t;
           early = every (λ t x. l .claimant ≡ t → l .exclusive ≡ 1 → owns x ≡ true) (λ c m. w ∙ g .early s c m) (λ t n. g .early t);
+          claimer = claimer-on k;
         }
       where
         rest : (t u : ℕ) → owns (p t) ≡ true → holds (q u) ≡ true → u ≡ t
@@ -111,13 +140,14 @@ module _ {p q : ℕ → Role} (s : ℕ) (o : (t : ℕ) → (t ≡ s → ⊥) →
           owner = λ t e. absurd (clash (owns (q t)) e (idle t));
           alone = λ t u e. absurd (clash (owns (q t)) e (idle t));
           early = λ t e m. absurd (clash (owns (p 16)) (g .early 16 c m) (unowned g c 16));
+          claimer = inl c;
         }
       where
         idle : (t : ℕ) → owns (q t) ≡ false
         idle = every (λ t x. owns x ≡ false) w (λ t n. unowned g c t)
 
-    -- a reader less; it held no promoted claim
-    pub leaves : X ≡ out → (l .claimant ≡ s → l .exclusive ≡ 1 → ⊥) → Locked q (leave s l)
+    -- a reader less; the claim is not its own
+    pub leaves : X ≡ out → (l .claimant ≡ s → ⊥) → Locked q (leave s l)
     unfolding leave
     leaves h w =
         record {
@@ -125,11 +155,16 @@ module _ {p q : ℕ → Role} (s : ℕ) (o : (t : ℕ) → (t ≡ s → ⊥) →
               (λ t n. member-assign-other (l .readers) s t false n ∙ g .readers t);
           owner = every (λ t x. owns x ≡ true → (l .claimant ≡ t) × (l .exclusive ≡ 1) × (t < 16)) (λ e. absurd (clash (owns X) e (ap owns h))) (λ t n. g .owner t);
           alone = λ t u. every (λ t x. owns x ≡ true → holds (q u) ≡ true → u ≡ t) (λ e. absurd (clash (owns X) e (ap owns h))) (λ t n. rest t u) t;
-          early = every (λ t x. l .claimant ≡ t → l .exclusive ≡ 1 → owns x ≡ true) (λ c m. absurd (w c m)) (λ t n. g .early t);
+          early = every (λ t x. l .claimant ≡ t → l .exclusive ≡ 1 → owns x ≡ true) (λ c m. absurd (w c)) (λ t n. g .early t);
+          claimer = stays-claimed (g .claimer);
         }
       where
         rest : (t u : ℕ) → owns (p t) ≡ true → holds (q u) ≡ true → u ≡ t
         rest t u a = every (λ u x. holds x ≡ true → u ≡ t) (λ e. absurd (clash (holds X) e (ap holds h))) (λ u n. g .alone t u a) u
+
+        stays-claimed : (l .claimant ≡ 16) ⊎ (claims? (p (l .claimant)) ≡ true) → (l .claimant ≡ 16) ⊎ (claims? (q (l .claimant)) ≡ true)
+        stays-claimed (inl e) = inl e
+        stays-claimed (inr k) = inr (ap claims? (o (l .claimant) w) ∙ k)
 
     -- the claimant leaves
     pub vacates : X ≡ out → l .claimant ≡ s → Locked q (vacate s l)
@@ -141,6 +176,7 @@ module _ {p q : ℕ → Role} (s : ℕ) (o : (t : ℕ) → (t ≡ s → ⊥) →
           owner = λ t e. absurd (clash (owns (q t)) e (idle t));
           alone = λ t u e. absurd (clash (owns (q t)) e (idle t));
           early = λ t e m. absurd (let z : _≡_ {A = ℕ} 0 1 = m in omega arith);
+          claimer = inl refl;
         }
       where
         idle : (t : ℕ) → owns (q t) ≡ false
@@ -150,7 +186,7 @@ module _ {p q : ℕ → Role} (s : ℕ) (o : (t : ℕ) → (t ≡ s → ⊥) →
     unfolding withdraw
     withdraws h =
         split (λ (x : Lock). Locked q x) (eqb (l .claimant) s) (λ e. vacates h (eqb-true (l .claimant) s e))
-        (λ e. leaves h (λ c m. eqb-false (l .claimant) s e c))
+        (λ e. leaves h (λ c. eqb-false (l .claimant) s e c))
 
     -- it is promoted: no other reads, and nobody else claims
     pub takes : holds (p s) ≡ true → holds X ≡ true → owns X ≡ true → s < 16 → ((t : ℕ) → (t ≡ s → ⊥) → member (l .readers) t ≡ false) → Locked q (own s l)
@@ -161,6 +197,7 @@ module _ {p q : ℕ → Role} (s : ℕ) (o : (t : ℕ) → (t ≡ s → ⊥) →
           owner = every (λ t x. owns x ≡ true → (s ≡ t) × (_≡_ {A = ℕ} 1 1) × (t < 16)) (λ e. (refl, refl, lt)) (λ t n e. absurd (none t n (owns-holds (p t) e)));
           alone = λ t u. every (λ t x. owns x ≡ true → holds (q u) ≡ true → u ≡ t) (λ e. rest u) (λ t n e. absurd (none t n (owns-holds (p t) e))) t;
           early = every (λ t x. s ≡ t → _≡_ {A = ℕ} 1 1 → owns x ≡ true) (λ e m. w) (λ t n e m. absurd (n (sym e)));
+          claimer = inr (ap claims? b ∙ owns-claims X w);
         }
       where
         none : (t : ℕ) → (t ≡ s → ⊥) → holds (p t) ≡ true → ⊥
@@ -218,12 +255,13 @@ module _ {p : ℕ → Role} {l : Lock} (g : Locked p l) (s : ℕ) (c : (eqb (l .
           let d : eqb (l .claimant) s ≡ true = rw e at c in
           clash (owns (p s)) (subst (λ (x : ℕ). owns (p x) ≡ true) (sym (g .owner t h .0) ∙ eqb-true (l .claimant) s d) h) w
 
-  pub claims : Locked p (claim s l)
+  pub claims : claims? (p s) ≡ true → Locked p (claim s l)
   unfolding claim
-  claims =
+  claims k =
       record {
         readers = g .readers;
         owner = λ t h. absurd (clash (owns (p t)) h (nobody t));
         alone = λ t u h. absurd (clash (owns (p t)) h (nobody t));
         early = λ t e m. absurd (clash (owns (p (l .claimant))) (g .early (l .claimant) refl m) (nobody (l .claimant)));
+        claimer = inr k;
       }

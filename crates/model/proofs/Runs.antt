@@ -2,6 +2,7 @@
 use Prim.Native.Nat.{ℕ, zero, suc}
 use native.Mathlib.Omega.{arith}
 use mathlib.Core.Path.{_≡_, refl, sym, _∙_, ap}
+use mathlib.Core.Logic.{inl}
 use mathlib.Core.Bool.{false}
 use mathlib.Core.List.{List, [], _∷_}
 use lib.ListN.{length, getD, replicate, length-replicate}
@@ -61,6 +62,7 @@ module _ (B : Buffers) where
               owner = λ s h. absurd (clash (owns (role (fresh B) c s)) h (ap owns (nobody-in c s)));
               alone = λ s t h. absurd (clash (owns (role (fresh B) c s)) h (ap owns (nobody-in c s)));
               early = λ s e m. absurd (let z : _≡_ {A = ℕ} 0 1 = m in omega arith);
+              claimer = inl refl;
             });
         valued = λ c lc.
             record {

@@ -1,7 +1,8 @@
 -- Sealing keeps the invariant.
 use Prim.Native.Nat.{ℕ, suc, _<_}
 use native.Mathlib.Omega.{arith}
-use mathlib.Core.Path.{_≡_, refl, sym, _∙_}
+use mathlib.Core.Path.{_≡_, refl, sym, _∙_, ap, subst}
+use mathlib.Core.Logic.{_⊎_, inl, inr}
 use mathlib.Core.Bool.{true, false, cond, not}
 use mathlib.Core.Option.{none, some}
 use mathlib.Core.List.{List, _∷_}
@@ -16,7 +17,7 @@ use Rattle.model.proofs.Effects.{Acts, ses-same, frame, look-mine, role
 use Rattle.model.proofs.Invariant.{roleIn, roleOf, role, latest, before-latest, all-map, Running, Inv, Frame, role-other, quiet, committing}
 use Rattle.model.proofs.Laws.{Long, long-sweep, lock-sweep, leave-leave, tally-more}
 use Rattle.model.proofs.Ledger.{Txn, ended, sealedAt, Ledger, asCommit, valueBefore}
-use Rattle.model.proofs.Roles.{Role, out, wanting, holds, owns, pends, Locked, Valued, kept, leaves, stays}
+use Rattle.model.proofs.Roles.{Role, out, wanting, holds, owns, pends, claims?, Locked, Valued, kept, leaves, stays}
 use Rattle.model.proofs.Tools.{test, which, clash}
 use Rattle.model.proofs.View.{slot, look, written, dirty-publishes}
 
@@ -29,6 +30,16 @@ module _ {start : List ℕ} {σ : Store} {T : Ledger} (s : ℕ) (lt : s < 16) (I
   known c {k} p =
       let e = running-role σ s c (entryAt (σ .lent .logs) s k) ph (slot-some σ s c (unfold slot slotIn in p)) in
       (rw e, rw e)
+
+  -- a running session claims nothing
+  unclaimed : (c : ℕ) {k : ℕ} → c < length start → find (cellAt (σ .lent .logs) s) (recordOf σ s .count) c ≡ some k → lockAt (σ .lent .locks) c .claimant ≡ s → ⊥
+  unclaimed c {k} lc p e = go (I .locked c lc .claimer)
+    where
+      go : (lockAt (σ .lent .locks) c .claimant ≡ 16) ⊎ (claims? (role σ c (lockAt (σ .lent .locks) c .claimant)) ≡ true) → ⊥
+      go (inl f) = omega (arith, lt)
+      go (inr h) =
+          clash (claims? (role σ c s)) (subst (λ (t : ℕ). claims? (role σ c t) ≡ true) e h)
+          (ap claims? (running-role σ s c (entryAt (σ .lent .logs) s k) ph (slot-some σ s c (unfold slot slotIn in p))))
 
   wrote-none : (c : ℕ) → find (cellAt (σ .lent .logs) s) (recordOf σ s .count) c ≡ none → written σ s c ≡ false
   unfolding written
@@ -49,12 +60,12 @@ module _ {start : List ℕ} {σ : Store} {T : Ledger} (s : ℕ) (lt : s < 16) (I
       unfold written look in
       rw (lock-sweep (λ c. not (written σ s c)) (leave s) (cellAt (σ .lent .logs) s) (σ .lent .locks) (length start) (I .shape .long) (leave-leave s) c lc (recordOf σ s .count))
       (which (find (cellAt (σ .lent .logs) s) (recordOf σ s .count) c)
-      (λ p. rw p (kept s (role-other f c) b (I .locked c lc) (rw (wrote-none c p, unknown σ s c p)) (rw (wrote-none c p, unknown σ s c p))))
+      (λ p. rw p (kept s (role-other f c) b (I .locked c lc) (rw (wrote-none c p, unknown σ s c p)) (rw (wrote-none c p, unknown σ s c p)) (rw (wrote-none c p, unknown σ s c p) (λ h. h))))
       (λ k p.
       let w = known c p in
       test (written σ s c)
-      (λ q. rw (p, q) (kept s (role-other f c) b (I .locked c lc) (rw q (sym (w .0))) (rw q (sym (w .1)))))
-      (λ q. rw (p, q) (leaves s (role-other f c) b (I .locked c lc) (rw q) (λ e m. clash (owns (role σ c s)) (I .locked c lc .early s e m) (w .1))))))
+      (λ q. rw (p, q) (kept s (role-other f c) b (I .locked c lc) (rw q (sym (w .0))) (rw q (sym (w .1))) (rw q (λ _. refl))))
+      (λ q. rw (p, q) (leaves s (role-other f c) b (I .locked c lc) (rw q) (unclaimed c lc p)))))
 
   dropped-valued : {τ : Store} → Frame s σ τ → (c : ℕ) → c < length start → role τ c s ≡ after c → Valued (role τ c) (getD (σ .lent .values) c 0) (latest start (T .commits) c)
   unfolding after

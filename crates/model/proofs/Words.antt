@@ -11,7 +11,7 @@ use borrow.Author.Tests.{eqb-true, eqb-false, eq-eqb, ne-eqb, ltb-true, ltb-fals
 use Rattle.model.specs.declared.Call.{Call}
 use Rattle.model.specs.declared.Call.the-variants.{Begin, Read, Write, Seal, Advance, Abandon, Peek}
 use Rattle.model.specs.Buffers.{own}
-use Rattle.model.specs.History.{argument, is, Placed, ends, ownerOf, writes, wrote, valueWritten, cellsWritten, ReadOf, readsBeforeWriting, seals, snapshot, moves, movesIn, moveNumber, commit, committed}
+use Rattle.model.specs.History.{argument, is, Placed, ends, isOpen, ownerOf, writes, wrote, valueWritten, cellsWritten, ReadOf, readsBeforeWriting, seals, snapshot, moves, movesIn, moveNumber, commit, committed}
 use Rattle.model.specs.Isolation.{at}
 use Rattle.model.specs.Search.{tally}
 use Rattle.model.specs.Step.{number, valueOf, sessionOf}
@@ -19,11 +19,6 @@ use Rattle.model.proofs.Advancing.{late}
 use Rattle.model.proofs.Ledger.{Txn, ended, saw, wroteTo, sealedAt, advanced, over, news, apply}
 use Rattle.model.proofs.Matching.{OptAll, Same}
 use Rattle.model.proofs.Tools.{same, split, test, clash, upd}
-
--- the transaction goes on
-abbrev pub isOpen : List Placed → Bool
-isOpen [] = false
-isOpen (x ∷ t) = not (ends x)
 
 -- the commit of a transaction that wrote m cells and was sealed at place q
 unfoldable pub commitBy : ℕ → ℕ → List Placed → ℕ

@@ -1,18 +1,18 @@
--- Demand 3 whole: the writer locks, and the theorem.
+-- The writer locks of committed transactions: with its commit call, and not before, a transaction holds all the cells it wrote.
 use Prim.Native.Nat.{ℕ, zero, suc, _≤_, _<_}
 use native.Mathlib.Omega.{arith}
 use mathlib.Core.Path.{_≡_, refl, sym, _∙_, ap, subst}
 use mathlib.Core.Bool.{Bool, true, false, _&&_}
 use mathlib.Core.Option.{Option, none, some}
-use mathlib.Core.List.{List, [], _∷_, reverse}
+use mathlib.Core.List.{List, [], _∷_}
 use lib.Dec.{ltb, eqb}
 use lib.ListN.{length, List·getD-eq-default}
 use borrow.Author.Tests.{ltb-true, ltb-false, le-leb, lt-leb}
 use Rattle.model.specs.declared.Call.{Call}
-use Rattle.model.specs.Buffers.{Locks, Store, lockAt, allFit, lengthsFit, fresh}
+use Rattle.model.specs.Buffers.{Locks, Store, lockAt}
 use Rattle.model.specs.History.{Event, run, history, transaction, wrote}
-use Rattle.model.specs.Isolation.{All, at, Commits, commitOf, Isolated, Holds, firsts, HoldsAtCommit, Demand3}
-use Rattle.model.specs.Step.{number, recordOf, sessionOf, reply, setUpAnswer, setUp}
+use Rattle.model.specs.Isolation.{All, at, Commits, commitOf, Isolated, Holds, firsts, HoldsAtCommit}
+use Rattle.model.specs.Step.{recordOf, sessionOf, reply}
 use Rattle.model.proofs.Advancing.{late, role-late}
 use Rattle.model.proofs.Agreement.{agrees-run}
 use Rattle.model.proofs.Commits.{pick, all-both, tells, isolated}
@@ -22,7 +22,7 @@ use Rattle.model.proofs.Laws.{Long}
 use Rattle.model.proofs.Ledger.{Txn, news, apply, absorb, txn, Commit, Ledger, observe, blank, ledger, Lawful}
 use Rattle.model.proofs.Matching.{OptAll, Well, news-well, txn-old, Recorded, Grown, kept, grew, observe-grows}
 use Rattle.model.proofs.Roles.{owns, flip}
-use Rattle.model.proofs.Runs.{inv-fresh, ledger-of, inv-run, match-run}
+use Rattle.model.proofs.Runs.{ledger-of, inv-run, match-run}
 use Rattle.model.proofs.Tools.{same, split, test, which, clash, both-l}
 use Rattle.model.proofs.View.{look, written}
 use Rattle.model.proofs.Words.{Agrees, commit-is, done-is, who-is}
@@ -274,19 +274,3 @@ module _ (φ : Store) (I₀ : Inv (φ .lent .values) φ blank) where
       isolated (φ .lent .values) (history φ ks) (ledger-of φ I₀ ks .commits) (inv-run φ I₀ ks .lawful)
       (all-map (λ k r. tells (φ .lent .values) (history φ ks) k (words ks (k .began)) r) (ledger-of φ I₀ ks .commits) (M .recorded))
       (λ p d. M .every p (done-of ks p d))
-
--- demand 3 from any store with the invariant and no transaction open
-pub demand3-from : (σ : Store) → Inv (σ .lent .values) σ blank → (calls : List Call) → Demand3 σ calls
-demand3-from σ I calls = record { isolated = isolation σ I (reverse calls); locks = writing σ I (reverse calls) }
-
--- set-up answered 100: what it left
-pub set-up-fresh : (σ : Store) → number (setUpAnswer (σ .lent)) ≡ 100 → setUp σ ≡ fresh (σ .lent)
-unfolding setUpAnswer setUp
-set-up-fresh σ h =
-    test (lengthsFit (σ .lent))
-    (λ y. test (allFit (σ .lent .values) (σ .lent .classes)) (λ z. rw (y, z)) (λ z. absurd (let e : 8 ≡ 100 = rw (y, z) at h in omega arith)))
-    (λ y. absurd (let e : 7 ≡ 100 = rw y at h in omega arith))
-
--- demand 3: any store that set-up answers 100, and any list of calls from what it leaves
-pub demand3 : (σ : Store) → number (setUpAnswer (σ .lent)) ≡ 100 → (calls : List Call) → Demand3 (setUp σ) calls
-demand3 σ h calls = subst (λ (φ : Store). Demand3 φ calls) (sym (set-up-fresh σ h)) (demand3-from (fresh (σ .lent)) (inv-fresh (σ .lent)) calls)

@@ -87,6 +87,11 @@ unfoldable pub transaction : ℕ → List Event → List Placed
 transaction p [] = []
 transaction p (e ∷ h) = cond (eqb (suc (length h)) p) (opening p e) (continued (suc (length h)) e (transaction p h))
 
+-- it goes on: its newest call has not ended it
+abbrev pub isOpen : List Placed → Bool
+isOpen [] = false
+isOpen (x ∷ t) = not (ends x)
+
 abbrev pub ownerOf : List Placed → ℕ
 ownerOf [] = 0
 ownerOf (x ∷ t) = sessionOf (x .call)

@@ -4,3 +4,4 @@ pub mod Buffers
 pub mod Step
 pub mod History
 pub mod Isolation
+pub mod Companions
