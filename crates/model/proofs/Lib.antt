@@ -17,3 +17,5 @@ pub mod Agreement
 pub mod Commits
 pub mod Writers
 pub mod Demand3
+pub mod Orders
+pub mod Histories

@@ -5,3 +5,5 @@ pub mod Step
 pub mod History
 pub mod Isolation
 pub mod Companions
+pub mod Orders
+pub mod Histories
