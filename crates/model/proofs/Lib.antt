@@ -19,3 +19,4 @@ pub mod Writers
 pub mod Demand3
 pub mod Orders
 pub mod Histories
+pub mod OddBuffers

@@ -129,3 +129,30 @@ abandonPublishing = oneCell (Begin 0 ∷ Write 0 0 1 ∷ Seal 0 ∷ Advance 0 �
 unfoldable pub orders : List Row
 orders =
     listing ∷ skew ∷ skewUnsealed ∷ readPastClaim ∷ writeAtCap ∷ writeAboveCap ∷ lastSession ∷ noSuchSession ∷ beginTwice ∷ beginSeal ∷ abandonPublishing ∷ []
+
+-- ---- two orders more, for wrong stores that no starred order shows (document 01, "Wrong stores that look sound")
+
+-- session 0 writes both cells while session 1 reads cell 1: nothing is published while cell 1 is unpromoted
+unfoldable pub unpromoted : Row
+unpromoted =
+    record {
+      values = 3 ∷ 5 ∷ [];
+      classes = 2 ∷ 2 ∷ [];
+      calls = Begin 0 ∷ Begin 1 ∷ Write 0 0 4 ∷ Write 0 1 6 ∷ Read 1 1 ∷ Seal 0 ∷ Advance 0 ∷ Advance 0 ∷ [];
+      answers = Done ∷ Done ∷ Done ∷ Done ∷ Value 5 ∷ Sealed ∷ Moved ∷ Waiting ∷ [];
+      ends = 3 ∷ 5 ∷ [];
+    }
+
+-- session 0 has published cell 0 and not yet cell 1: no cell is free
+unfoldable pub halfPublished : Row
+halfPublished =
+    record {
+      values = 3 ∷ 5 ∷ [];
+      classes = 2 ∷ 2 ∷ [];
+      calls = Begin 0 ∷ Write 0 0 4 ∷ Write 0 1 6 ∷ Seal 0 ∷ Advance 0 ∷ Advance 0 ∷ Advance 0 ∷ Begin 1 ∷ Read 1 0 ∷ [];
+      answers = Done ∷ Done ∷ Done ∷ Sealed ∷ Moved ∷ Moved ∷ Moved ∷ Done ∷ Refused 6 ∷ [];
+      ends = 4 ∷ 5 ∷ [];
+    }
+
+unfoldable pub traps : List Row
+traps = unpromoted ∷ halfPublished ∷ []
