@@ -237,7 +237,7 @@ module _ (logs : List ℕ) (s k c v : ℕ) (ls : s < 16) (lk : k < 32) (len : le
   abbrev grown : List ℕ
   grown = sets logs (128 * s + 4 * k) (c ∷ v ∷ v ∷ 0 ∷ [])
 
-  grown-word : (j : ℕ) → j < 4 → word grown s k j ≡ getD (c ∷ v ∷ v ∷ 0 ∷ []) j 0
+  pub grown-word : (j : ℕ) → j < 4 → word grown s k j ≡ getD (c ∷ v ∷ v ∷ 0 ∷ []) j 0
   unfolding word
   grown-word j l =
       let e : 128 * s + (4 * k + j) ≡ 128 * s + 4 * k + j = omega arith in

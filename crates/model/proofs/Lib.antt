@@ -17,3 +17,4 @@ pub mod Agreement
 pub mod Commits
 pub mod Writers
 pub mod Demand3
+pub mod Caps
