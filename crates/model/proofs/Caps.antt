@@ -5,7 +5,6 @@ use Prim.Native.Nat.{ℕ, zero, suc, _+_, _*_, _≤_, _<_}
 use native.Mathlib.Omega.{arith}
 use mathlib.Core.Path.{_≡_, refl, sym, _∙_, ap, subst}
 use mathlib.Core.Bool.{Bool, true, false, cond, not, _&&_, _||_}
-use mathlib.Core.Option.{Option, none, some}
 use mathlib.Core.List.{List, [], _∷_, reverse}
 use lib.Dec.{leb, ltb, eqb}
 use lib.ListN.{length, getD, set}
@@ -35,7 +34,7 @@ use Rattle.model.proofs.Tools.{same, split, test, which, clash, both-l,
 abbrev pub InUse : Session → ℕ → Type 0
 InUse x k = (x .phase ≡ 0 → ⊥) × (k < x .count)
 
--- the current value of entry k of session s is within its cell's cap
+-- the current value of entry k of session s is within the bound of its cell
 abbrev pub EntryWithin : (ℕ → ℕ) → List ℕ → ℕ → ℕ → Type 0
 EntryWithin bound logs s k = entryAt logs s k .current ≤ bound (cellAt logs s k)
 
@@ -53,8 +52,8 @@ set-either P (x ∷ l) zero (suc j) a d f h = h
 set-either P (x ∷ l) (suc i) zero a d f h = h
 set-either P (x ∷ l) (suc i) (suc j) a d f h = set-either P l i j a d (λ e. f (ap suc e)) h
 
--- all entries lie one after the other: entry j of session t is the same four words as entry k of session s where 32 × t + j is 32 × s + k,
--- and else has none of them
+-- entries lie one after the other through all the logs: entry j of session t is entry k of session s where 32 × t + j is 32 × s + k, and else has
+-- none of its words; so no bound on the other sessions' counts is needed
 word-same : (logs : List ℕ) (s k t j i : ℕ) → 32 * t + j ≡ 32 * s + k → word logs t j i ≡ word logs s k i
 unfolding word
 word-same logs s k t j i e = ap (λ (p : ℕ). getD logs p 0) (let q : 128 * t + (4 * j + i) ≡ 128 * s + (4 * k + i) = omega arith in q)
@@ -96,19 +95,19 @@ module _ (bound : ℕ → ℕ) (logs : List ℕ) (s k : ℕ) where
 -- ---- what a plan leaves
 
 -- session s acts: the values, the entries in use before, and those of its new record are within the caps
-acts : (σ : Store) (s : ℕ) (L : Locks) (vs W : List ℕ) (x : Session) → ((c : ℕ) → getD vs c 0 ≤ capOf σ c)
+change-keeps : (σ : Store) (s : ℕ) (L : Locks) (vs W : List ℕ) (x : Session) → ((c : ℕ) → getD vs c 0 ≤ capOf σ c)
     → ((t k : ℕ) → InUse (recordOf σ t) k → EntryWithin (capOf σ) W t k) → ((k : ℕ) → InUse x k → EntryWithin (capOf σ) W s k)
     → Capped (change σ s L vs W x)
 unfolding sessionAt withSession
-acts σ s L vs W x h old new =
+change-keeps σ s L vs W x h old new =
     record {
       stored = h;
       logged = λ t k. set-either (λ (y : Session). InUse y k → EntryWithin (capOf σ) W t k) (σ .sessions .records) s t x idle (λ e. rw e (new k)) (old t k);
     }
 
 -- a value written into an entry
-updates : {σ : Store} → Capped σ → (s k v : ℕ) → v ≤ capOf σ (cellAt (σ .lent .logs) s k) → Capped (changeLogs σ (updated (σ .lent .logs) s k v))
-updates {σ} I s k v h = record { stored = I .stored; logged = λ t j u. updated-within (capOf σ) (σ .lent .logs) s k v h t j (I .logged t j u) }
+update-keeps : {σ : Store} → Capped σ → (s k v : ℕ) → v ≤ capOf σ (cellAt (σ .lent .logs) s k) → Capped (changeLogs σ (updated (σ .lent .logs) s k v))
+update-keeps {σ} I s k v h = record { stored = I .stored; logged = λ t j u. updated-within (capOf σ) (σ .lent .logs) s k v h t j (I .logged t j u) }
 
 handled-in-use : (B : Buffers) (s c : ℕ) (x : Session) → (x .phase ≡ 0 → ⊥) → (k : ℕ) → InUse (handled B s c x) k → InUse x k
 unfolding handled
@@ -118,11 +117,11 @@ handled-in-use B s c x n k =
 
 module _ {σ : Store} (I : Capped σ) (s : ℕ) where
   -- values and logs stay, and no more entries are in use
-  shrinks : (L : Locks) (x : Session) → ((k : ℕ) → InUse x k → InUse (recordOf σ s) k) → Capped (change σ s L (σ .lent .values) (σ .lent .logs) x)
-  shrinks L x f = acts σ s L (σ .lent .values) (σ .lent .logs) x (I .stored) (I .logged) (λ k u. I .logged s k (f k u))
+  shrink-keeps : (L : Locks) (x : Session) → ((k : ℕ) → InUse x k → InUse (recordOf σ s) k) → Capped (change σ s L (σ .lent .values) (σ .lent .logs) x)
+  shrink-keeps L x f = change-keeps σ s L (σ .lent .values) (σ .lent .logs) x (I .stored) (I .logged) (λ k u. I .logged s k (f k u))
 
-  idles : (L : Locks) → Capped (change σ s L (σ .lent .values) (σ .lent .logs) idle)
-  idles L = shrinks L idle (λ k u. absurd (u .0 refl))
+  idle-keeps : (L : Locks) → Capped (change σ s L (σ .lent .values) (σ .lent .logs) idle)
+  idle-keeps L = shrink-keeps L idle (λ k u. absurd (u .0 refl))
 
   module _ (n : recordOf σ s .phase ≡ 0 → ⊥) where
     -- what the log has for a cell
@@ -132,30 +131,30 @@ module _ {σ : Store} (I : Capped σ) (s : ℕ) where
         which (find (cellAt (σ .lent .logs) s) (recordOf σ s .count) c) (λ p. rw p (omega arith))
         (λ k p. let f = find-some (cellAt (σ .lent .logs) s) c (recordOf σ s .count) p in rw p (rw (f .1) at (I .logged s k (n, f .0))))
 
-    enters : length (σ .lent .logs) ≡ 2048 → s < 16 → recordOf σ s .count < 32 → (c : ℕ) → Capped (after s (Enter c) σ)
+    enter-keeps : length (σ .lent .logs) ≡ 2048 → s < 16 → recordOf σ s .count < 32 → (c : ℕ) → Capped (after s (Enter c) σ)
     unfolding after
-    enters len lt room c =
+    enter-keeps len lt room c =
         let v = getD (σ .lent .values) c 0 in
         let m = recordOf σ s .count in
         let w = appended-within (capOf σ) (σ .lent .logs) s m c v lt room len (I .stored c) in
-        acts σ s (lockOn c (join s) (σ .lent .locks)) (σ .lent .values) (appended (σ .lent .logs) s m c v) (withEntry (recordOf σ s)) (I .stored)
+        change-keeps σ s (lockOn c (join s) (σ .lent .locks)) (σ .lent .values) (appended (σ .lent .logs) s m c v) (withEntry (recordOf σ s)) (I .stored)
         (λ t j u. w t j (λ _. I .logged t j u)) (λ j u. w s j (λ ne. I .logged s j (n, omega (arith, u .1))))
 
-    publishes : (c v : ℕ) → v ≤ capOf σ c → Capped (after s (Publish c v) σ)
+    publish-keeps : (c v : ℕ) → v ≤ capOf σ c → Capped (after s (Publish c v) σ)
     unfolding after
-    publishes c v h =
-        acts σ s (σ .lent .locks) (set (σ .lent .values) c v) (σ .lent .logs) (handled (σ .lent) s c (recordOf σ s))
+    publish-keeps c v h =
+        change-keeps σ s (σ .lent .locks) (set (σ .lent .values) c v) (σ .lent .logs) (handled (σ .lent) s c (recordOf σ s))
         (λ d. set-either (λ x. x ≤ capOf σ d) (σ .lent .values) c d v 0 (λ e. rw e h) (I .stored d)) (I .logged)
         (λ k u. I .logged s k (handled-in-use (σ .lent) s c (recordOf σ s) n k u))
 
 -- ---- the calls
 
--- a call that is not turned down: the logs' length besides what `guarded` tells
 logs-long : (B : Buffers) → lengthsFit B ≡ true → length (B .logs) ≡ 2048
 unfolding lengthsFit
 logs-long B h =
     test (eqb (length (B .logs)) 2048) (eqb-true (length (B .logs)) 2048) (λ q. absurd (clash (lengthsFit B) h (rw (q, and-false))))
 
+-- what `guarded` tells of a call that is not turned down, and the logs' length
 fitting {ℓ} : (P : Plan → Type ℓ) (B : Buffers) (s : ℕ) (x : Session) (fit : Bool) (p : Plan) → ((k : ℕ) → P (Refuse k))
     → (length (B .logs) ≡ 2048 → s < 16 → fit ≡ true → P p) → P (guard B s x fit p)
 unfolding guard
@@ -169,13 +168,13 @@ module _ {σ : Store} (I : Capped σ) where
   abbrev Kept : Call → Plan → Type 0
   Kept k p = Capped (after (sessionOf k) p σ) × (valueOf (answer (sessionOf k) p σ) ≤ capOf σ (cellOf k))
 
-  refused : (k : Call) (m : ℕ) → Kept k (Refuse m)
+  keep-refusal : (k : Call) (m : ℕ) → Kept k (Refuse m)
   unfolding after answer
-  refused k m = (I, omega arith)
+  keep-refusal k m = (I, omega arith)
 
-  rolled : (k : Call) → Kept k RollBack
+  keep-rollback : (k : Call) → Kept k RollBack
   unfolding after answer
-  rolled k = (idles I (sessionOf k) _, omega arith)
+  keep-rollback k = (idle-keeps I (sessionOf k) _, omega arith)
 
   -- a call of a running session on a cell
   on-cell : (k : Call) (p : Plan) → let s = sessionOf k in let c = cellOf k in
@@ -183,8 +182,8 @@ module _ {σ : Store} (I : Capped σ) where
       → Kept k (guard (σ .lent) s (recordOf σ s) (eqb (recordOf σ s .phase) 1) (known (σ .lent) c p))
   on-cell k p f =
       let s = sessionOf k in
-      fitting (Kept k) (σ .lent) s (recordOf σ s) (eqb (recordOf σ s .phase) 1) (known (σ .lent) (cellOf k) p) (refused k)
-      (λ len lt h. cell-known (Kept k) (σ .lent) (cellOf k) p (refused k 3) (λ _. f len lt (λ e. let w = eqb-true (recordOf σ s .phase) 1 h in omega arith)))
+      fitting (Kept k) (σ .lent) s (recordOf σ s) (eqb (recordOf σ s .phase) 1) (known (σ .lent) (cellOf k) p) (keep-refusal k)
+      (λ len lt h. cell-known (Kept k) (σ .lent) (cellOf k) p (keep-refusal k 3) (λ _. f len lt (λ e. let w = eqb-true (recordOf σ s .phase) 1 h in omega arith)))
 
   keep-read : (s c : ℕ) → Kept (Read s c) (plan (Read s c) (σ .lent) (recordOf σ s))
   unfolding plan readPlan after answer lookIn entryOf
@@ -192,8 +191,8 @@ module _ {σ : Store} (I : Capped σ) where
       on-cell (Read s c) (readPlan (σ .lent) s (recordOf σ s) c (slotIn (σ .lent .logs) s (recordOf σ s .count) c))
       (λ len lt n.
       choose (Kept (Read s c)) (readPlan (σ .lent) s (recordOf σ s) c) (slotIn (σ .lent .logs) s (recordOf σ s .count) c)
-      (λ _. cell-new (Kept (Read s c)) (recordOf σ s) (lockAt (σ .lent .locks) c) (Enter c) (refused (Read s c) 5) (rolled (Read s c))
-      (λ room _. (enters I s n len lt room c, I .stored c)))
+      (λ _. cell-new (Kept (Read s c)) (recordOf σ s) (lockAt (σ .lent .locks) c) (Enter c) (keep-refusal (Read s c) 5) (keep-rollback (Read s c))
+      (λ room _. (enter-keeps I s n len lt room c, I .stored c)))
       (λ j p. (I, rw p at (current-within I s n c))))
 
   keep-write : (s c v : ℕ) → Kept (Write s c v) (plan (Write s c v) (σ .lent) (recordOf σ s))
@@ -209,79 +208,79 @@ module _ {σ : Store} (I : Capped σ) where
       (λ h.
       let le : v ≤ capOf σ c = leb-true v (cap k) h in
       choose (Kept call) (writeSlot (σ .lent) (recordOf σ s) c v) (slotIn (σ .lent .logs) s m c)
-      (λ _. cell-new (Kept call) (recordOf σ s) (lockAt (σ .lent .locks) c) (EnterUpdate c v) (refused call 5) (rolled call)
-      (λ room _. (updates (enters I s n len lt room c) s m v (rw (entered-cell (σ .lent .logs) s m c (getD (σ .lent .values) c 0) lt room len) le), omega arith)))
-      (λ j p. (updates I s j v (rw (find-some (cellAt (σ .lent .logs) s) c m p .1) le), omega arith)))
-      (λ _. refused call 4))
-      (λ _. refused call 8))
+      (λ _. cell-new (Kept call) (recordOf σ s) (lockAt (σ .lent .locks) c) (EnterUpdate c v) (keep-refusal call 5) (keep-rollback call)
+      (λ room _. (update-keeps (enter-keeps I s n len lt room c) s m v (rw (entered-cell (σ .lent .logs) s m c (getD (σ .lent .values) c 0) lt room len) le), omega arith)))
+      (λ j p. (update-keeps I s j v (rw (find-some (cellAt (σ .lent .logs) s) c m p .1) le), omega arith)))
+      (λ _. keep-refusal call 4))
+      (λ _. keep-refusal call 8))
 
   keep-peek : (s c : ℕ) → Kept (Peek s c) (plan (Peek s c) (σ .lent) (recordOf σ s))
   unfolding plan peekPlan after answer
   keep-peek s c =
       on-cell (Peek s c) (peekPlan (σ .lent) s c (slotIn (σ .lent .logs) s (recordOf σ s .count) c))
       (λ _ _ _.
-      choose (Kept (Peek s c)) (peekPlan (σ .lent) s c) (slotIn (σ .lent .logs) s (recordOf σ s .count) c) (λ _. refused (Peek s c) 14)
+      choose (Kept (Peek s c)) (peekPlan (σ .lent) s c) (slotIn (σ .lent .logs) s (recordOf σ s .count) c) (λ _. keep-refusal (Peek s c) 14)
       (λ k _. split (Kept (Peek s c)) (entryAt (σ .lent .logs) s k .dirty) (λ _. (I, omega arith)) (λ _. (I, omega arith))))
 
   keep-begin : (s : ℕ) → Kept (Begin s) (plan (Begin s) (σ .lent) (recordOf σ s))
   unfolding plan after answer
   keep-begin s =
-      fitting (Kept (Begin s)) (σ .lent) s (recordOf σ s) (eqb (recordOf σ s .phase) 0) Start (refused (Begin s))
-      (λ _ _ _. (shrinks I s (σ .lent .locks) running (λ k u. absurd (omega (arith, u .1))), omega arith))
+      fitting (Kept (Begin s)) (σ .lent) s (recordOf σ s) (eqb (recordOf σ s .phase) 0) Start (keep-refusal (Begin s))
+      (λ _ _ _. (shrink-keeps I s (σ .lent .locks) running (λ k u. absurd (omega (arith, u .1))), omega arith))
 
   keep-abandon : (s : ℕ) → Kept (Abandon s) (plan (Abandon s) (σ .lent) (recordOf σ s))
   unfolding plan after answer
   keep-abandon s =
-      fitting (Kept (Abandon s)) (σ .lent) s (recordOf σ s) (eqb (recordOf σ s .phase) 1 || eqb (recordOf σ s .phase) 2) Cancel (refused (Abandon s))
-      (λ _ _ _. (idles I s _, omega arith))
+      fitting (Kept (Abandon s)) (σ .lent) s (recordOf σ s) (eqb (recordOf σ s .phase) 1 || eqb (recordOf σ s .phase) 2) Cancel (keep-refusal (Abandon s))
+      (λ _ _ _. (idle-keeps I s _, omega arith))
 
   keep-seal : (s : ℕ) → Kept (Seal s) (plan (Seal s) (σ .lent) (recordOf σ s))
   unfolding plan sealPlan after answer
   keep-seal s =
       let x = recordOf σ s in
-      fitting (Kept (Seal s)) (σ .lent) s x (eqb (x .phase) 1) (sealPlan (targetIn (σ .lent .logs) s (x .count) 0)) (refused (Seal s))
+      fitting (Kept (Seal s)) (σ .lent) s x (eqb (x .phase) 1) (sealPlan (targetIn (σ .lent .logs) s (x .count) 0)) (keep-refusal (Seal s))
       (λ _ _ h.
-      choose (Kept (Seal s)) sealPlan (targetIn (σ .lent .logs) s (x .count) 0) (λ _. (idles I s _, omega arith))
-      (λ c _. (shrinks I s _ (moveTo 2 0 x) (λ k u. (λ e. let w = eqb-true (x .phase) 1 h in omega arith, u .1)), omega arith)))
+      choose (Kept (Seal s)) sealPlan (targetIn (σ .lent .logs) s (x .count) 0) (λ _. (idle-keeps I s _, omega arith))
+      (λ c _. (shrink-keeps I s _ (moveTo 2 0 x) (λ k u. (λ e. let w = eqb-true (x .phase) 1 h in omega arith, u .1)), omega arith)))
 
   keep-advance : (s : ℕ) → Kept (Advance s) (plan (Advance s) (σ .lent) (recordOf σ s))
   unfolding plan advancePlan promotePlan after answer releasing
   keep-advance s =
       let x = recordOf σ s in
       let call = Advance s in
-      fitting (Kept call) (σ .lent) s x (leb 2 (x .phase)) (advancePlan (σ .lent) s x (targetIn (σ .lent .logs) s (x .count) (x .next))) (refused call)
+      fitting (Kept call) (σ .lent) s x (leb 2 (x .phase)) (advancePlan (σ .lent) s x (targetIn (σ .lent .logs) s (x .count) (x .next))) (keep-refusal call)
       (λ _ _ h.
       let n : x .phase ≡ 0 → ⊥ = λ e. let w = leb-true 2 (x .phase) h in omega arith in
-      choose (Kept call) (advancePlan (σ .lent) s x) (targetIn (σ .lent .logs) s (x .count) (x .next)) (λ _. refused call 9)
+      choose (Kept call) (advancePlan (σ .lent) s x) (targetIn (σ .lent .logs) s (x .count) (x .next)) (λ _. keep-refusal call 9)
       (λ c _.
-      let hands : (L : Locks) → Capped (change σ s L (σ .lent .values) (σ .lent .logs) (handled (σ .lent) s c x)) =
-      λ L. shrinks I s L (handled (σ .lent) s c x) (handled-in-use (σ .lent) s c x n) in
+      let handle-keeps : (L : Locks) → Capped (change σ s L (σ .lent .values) (σ .lent .logs) (handled (σ .lent) s c x)) =
+      λ L. shrink-keeps I s L (handled (σ .lent) s c x) (handled-in-use (σ .lent) s c x n) in
       split (Kept call) (eqb (x .phase) 2)
       (λ _.
       let l = lockAt (σ .lent .locks) c in
-      split (Kept call) (claimed l && not (eqb (l .claimant) s)) (λ _. rolled call)
-      (λ _. split (Kept call) (eqb (otherReaders s (l .readers)) 0) (λ _. (hands _, omega arith))
+      split (Kept call) (claimed l && not (eqb (l .claimant) s)) (λ _. keep-rollback call)
+      (λ _. split (Kept call) (eqb (otherReaders s (l .readers)) 0) (λ _. (handle-keeps _, omega arith))
       (λ _. (record { stored = I .stored; logged = I .logged }, omega arith))))
-      (λ _. split (Kept call) (eqb (x .phase) 3) (λ _. (publishes I s n c _ (current-within I s n c), omega arith))
-      (λ _. (hands _, split (λ a. valueOf a ≤ capOf σ 0) (some? (targetIn (σ .lent .logs) s (x .count) (suc c))) (λ _. omega arith) (λ _. omega arith))))))
+      (λ _. split (Kept call) (eqb (x .phase) 3) (λ _. (publish-keeps I s n c _ (current-within I s n c), omega arith))
+      (λ _. (handle-keeps _, split (λ a. valueOf a ≤ capOf σ 0) (some? (targetIn (σ .lent .logs) s (x .count) (suc c))) (λ _. omega arith) (λ _. omega arith))))))
 
-  kept : (k : Call) → Kept k (planOf k σ)
+  keep : (k : Call) → Kept k (planOf k σ)
   unfolding planOf
-  kept (Begin s) = keep-begin s
-  kept (Read s c) = keep-read s c
-  kept (Write s c v) = keep-write s c v
-  kept (Seal s) = keep-seal s
-  kept (Advance s) = keep-advance s
-  kept (Abandon s) = keep-abandon s
-  kept (Peek s c) = keep-peek s c
+  keep (Begin s) = keep-begin s
+  keep (Read s c) = keep-read s c
+  keep (Write s c v) = keep-write s c v
+  keep (Seal s) = keep-seal s
+  keep (Advance s) = keep-advance s
+  keep (Abandon s) = keep-abandon s
+  keep (Peek s c) = keep-peek s c
 
   pub keeps-capped : (k : Call) → Capped (step k σ)
   unfolding step
-  keeps-capped k = kept k .0
+  keeps-capped k = keep k .0
 
   pub answers-within : (k : Call) → valueOf (reply k σ) ≤ capOf σ (cellOf k)
   unfolding reply
-  answers-within k = kept k .1
+  answers-within k = keep k .1
 
 -- ---- classes never change
 
@@ -330,7 +329,7 @@ module _ {σ : Store} (I : Capped σ) where
   within-from ks = record { stored = λ c. omega (arith, capped-run ks .stored c, cap-run σ ks c); told = reads-within ks }
 
 -- what set-up tested
-all-fit : (vs ks : List ℕ) → allFit vs ks ≡ true → (c : ℕ) → getD vs c 0 ≤ cap (getD ks c 0)
+pub all-fit : (vs ks : List ℕ) → allFit vs ks ≡ true → (c : ℕ) → getD vs c 0 ≤ cap (getD ks c 0)
 unfolding allFit fits
 all-fit [] ks h c = omega arith
 all-fit (v ∷ vs) [] h c = absurd (clash false h refl)

@@ -18,3 +18,4 @@ pub mod Commits
 pub mod Writers
 pub mod Demand3
 pub mod Caps
+pub mod Sets
