@@ -17,3 +17,8 @@ pub mod Agreement
 pub mod Commits
 pub mod Writers
 pub mod Demand3
+pub mod SerialLedger
+pub mod SerialLocks
+pub mod SerialCalls
+pub mod Serial
+pub mod SerialExamples
