@@ -22,23 +22,23 @@ use Rattle.model.specs.Readers.{otherReaders}
 use Rattle.model.specs.Search.{some?, tally}
 use Rattle.model.specs.Step.{number, valueOf, recordOf, releasing, answer, recordFits, guard, known, claimed, newCell, readPlan, writeSlot, writePlan, sealPlan, promotePlan, advancePlan, peekPlan, plan, sessionOf, planOf, reply}
 use Rattle.model.proofs.Advancing.{target-some}
-use Rattle.model.proofs.Effects.{slot-none, slot-some}
+use Rattle.model.proofs.Effects.{slot-some}
 use Rattle.model.proofs.Invariant.{latest, Promoting, Finishing, Inv}
 use Rattle.model.proofs.Ledger.{ended, saw, sealedAt, advanced, over, news, Ledger, tick, amendBy, observe}
 use Rattle.model.proofs.Preservation.{choose, guarded, running-cell, unlogged-cell, inside, inside-wrote, phase-le, runs, none-written}
 use Rattle.model.proofs.Roles.{flip}
 use Rattle.model.proofs.SerialLedger.{overlay, Follows, follows-tick, follows-start, follows-on, follows-commit, follows-end, follows-write}
-use Rattle.model.proofs.SerialLocks.{no-readers, own-claim, new-out, reads-store, reads-entry}
+use Rattle.model.proofs.SerialLocks.{unlogged-out, no-readers, own-claim, reads-store, reads-entry}
 use Rattle.model.proofs.Tools.{split, test, clash, both-l, both-r, and-false}
 use Rattle.model.proofs.View.{slot, look, target}
 
--- what an answer to a call leaves the serial store z
+-- call k answered a, where the serial store z follows the ledger T: it goes on to follow, nobody was in the way, and a value read is the draft's
 pub record Serially (start : List ℕ) (T : Ledger) (z : Serial) (k : Call) (a : Answer) : Type 0 where
   pub follows : Follows start (observe (length start) k a T) (serialStep (record { call = k; answer = a }) z)
   pub undisturbed : Undisturbed (record { call = k; answer = a })
   pub read : is 2 101 k a ≡ true → valueOf a ≡ getD (z .draft) (cellOf k) 0
 
--- a number neither 6 nor 104 nor, of a read, 101: only the serial store's step is to be shown
+-- an answer neither 6 nor 104 nor, to a read, 101: what is left to show is that the serial store goes on to follow
 module _ {start : List ℕ} {T : Ledger} {z : Serial} (k : Call) (a : Answer) where
   answered : eqb (number a) 6 ≡ false → eqb (number a) 104 ≡ false → is 2 101 k a ≡ false
       → Follows start (observe (length start) k a T) (serialStep (record { call = k; answer = a }) z) → Serially start T z k a
@@ -118,7 +118,7 @@ module _ {start : List ℕ} {σ : Store} {T : Ledger} {z : Serial} (I : Inv star
       let s = sessionOf k in
       let a = alone s (runs I s ph .live) in
       unlogged-cell (Fine k) (recordOf σ s) (lockAt (σ .lent .locks) c) p (refused 5 refl k)
-      (λ n. absurd (own-claim I s a c lc n .1 (new-out I s a c lc ph (slot-none σ s c new)))) (λ _ _. f)
+      (λ n. absurd (own-claim I s a c lc n .1 (unlogged-out σ s c new))) (λ _ _. f)
 
   read-fine : (s c : ℕ) → Fine (Read s c) (plan (Read s c) (σ .lent) (recordOf σ s))
   unfolding plan readPlan answer observe news over amendBy serialStep slot
@@ -127,7 +127,7 @@ module _ {start : List ℕ} {σ : Store} {T : Ledger} {z : Serial} (I : Inv star
       (λ ph lc.
       let a = alone s (runs I s ph .live) in
       choose (Fine (Read s c)) (readPlan (σ .lent) s (recordOf σ s) c) (slot σ s c)
-      (λ p. on-new (Read s c) c (Enter c) ph lc p (told ph lc (getD (σ .lent .values) c 0) (reads-store I s a c lc ph (slot-none σ s c p))))
+      (λ p. on-new (Read s c) c (Enter c) ph lc p (told ph lc (getD (σ .lent .values) c 0) (reads-store I s a c lc ph p)))
       (λ j p. told ph lc (entryAt (σ .lent .logs) s j .current) (reads-entry I s a c lc ph (entryAt (σ .lent .logs) s j) (slot-some σ s c p))))
     where
       told : recordOf σ s .phase ≡ 1 → c < length start → (v : ℕ) → v ≡ overlay (T .mine s) (latest start (T .commits)) c → Serially start T z (Read s c) (Value v)

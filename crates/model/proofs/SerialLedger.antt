@@ -1,5 +1,5 @@
--- The serial store meets the ledger: while one transaction is open at most, the serial store's draft is the last committed values under what
--- that transaction wrote, and its values are the last committed ones. Every news keeps this, by whether the transaction is committed before and after.
+-- The serial store meets the ledger: with one transaction open at most, its draft is the last committed values under what that transaction wrote,
+-- and its values are the last committed ones until that transaction commits. Each piece of news keeps this, by cases on committed before and after.
 use Prim.Native.Nat.{ℕ, _<_}
 use native.Mathlib.Omega.{arith}
 use mathlib.Core.Path.{_≡_, refl, sym, _∙_, ap}

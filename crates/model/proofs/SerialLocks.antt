@@ -10,16 +10,17 @@ use mathlib.Core.List.{List}
 use lib.Count.{ones, onesIn}
 use lib.ListN.{length, getD}
 use borrow.Author.Tests.{eqb-false}
-use Rattle.model.specs.Buffers.{Store, Entry, isDirty, currentOf, lockAt}
+use Rattle.model.specs.Buffers.{Store, Entry, slotIn, isDirty, currentOf, lockAt}
 use Rattle.model.specs.Readers.{odd, member, assign, otherReaders}
 use Rattle.model.specs.Step.{recordOf}
-use Rattle.model.proofs.Effects.{idle-out, running-role}
-use Rattle.model.proofs.Invariant.{roleOf, role, latest, Running, Link, Inv}
+use Rattle.model.proofs.Effects.{unknown, idle-out, running-role, slot-none}
+use Rattle.model.proofs.Invariant.{role, latest, Running, Link, Inv}
 use Rattle.model.proofs.Ledger.{Ledger}
+use Rattle.model.proofs.Preservation.{runs}
 use Rattle.model.proofs.Roles.{out, holds, pends, claims?}
 use Rattle.model.proofs.SerialLedger.{overlay}
 use Rattle.model.proofs.Tools.{same, test, clash, member-assign-same, member-assign-other}
-use Rattle.model.proofs.View.{look}
+use Rattle.model.proofs.View.{slot, look}
 
 -- ---- reader sets
 
@@ -38,7 +39,11 @@ member-alone x s h =
     ap ones (no-member (assign x s false) (assign x s false) (omega arith)
     (λ t. same t s (λ e. rw e (member-assign-same x s false)) (λ n. member-assign-other x s t false n ∙ h t n)))
 
--- ---- sessions with no open transaction
+-- ---- who is nothing to a cell
+
+pub unlogged-out : (σ : Store) (s c : ℕ) → slot σ s c ≡ none → role σ c s ≡ out
+unfolding slot slotIn
+unlogged-out σ s c p = unknown σ s c p
 
 module _ {start : List ℕ} {σ : Store} {T : Ledger} (I : Inv start σ T) where
   closed-idle : (s : ℕ) → T .mine s .live ≡ false → recordOf σ s .phase ≡ 0
@@ -68,7 +73,7 @@ module _ {start : List ℕ} {σ : Store} {T : Ledger} (I : Inv start σ T) where
     pub no-readers : otherReaders s (lockAt (σ .lent .locks) c .readers) ≡ 0
     no-readers = member-alone (lockAt (σ .lent .locks) c .readers) s (λ t n. I .locked c lc .readers t ∙ ap holds (others-out t n))
 
-    -- a claimant is the session, and it is at the cell
+    -- a claimant is the session itself, and it is something to the cell
     pub own-claim : (lockAt (σ .lent .locks) c .claimant ≡ 16 → ⊥) → (lockAt (σ .lent .locks) c .claimant ≡ s) × (role σ c s ≡ out → ⊥)
     own-claim n = go (I .locked c lc .claimer)
       where
@@ -84,16 +89,12 @@ module _ {start : List ℕ} {σ : Store} {T : Ledger} (I : Inv start σ T) where
 
     module _ (ph : recordOf σ s .phase ≡ 1) where
       run : Running (look σ s) (T .mine s)
-      run = rw ph at (I .link s)
-
-      pub new-out : look σ s c ≡ none → role σ c s ≡ out
-      unfolding role roleOf
-      new-out p = rw p
+      run = runs I s ph
 
       -- a new cell: the store's value
-      pub reads-store : look σ s c ≡ none → getD (σ .lent .values) c 0 ≡ overlay (T .mine s) (latest start (T .commits)) c
+      pub reads-store : slot σ s c ≡ none → getD (σ .lent .values) c 0 ≡ overlay (T .mine s) (latest start (T .commits)) c
       reads-store p =
-          rw (run .wrote c, p) (value-latest c lc (λ u. same u s (λ e. rw e (new-out p)) (others-out u)))
+          rw (run .wrote c, slot-none σ s c p) (value-latest c lc (λ u. same u s (λ e. rw e (unlogged-out σ s c p)) (others-out u)))
 
       -- a cell in the log: its present value
       pub reads-entry : (e : Entry) → look σ s c ≡ some e → e .current ≡ overlay (T .mine s) (latest start (T .commits)) c
