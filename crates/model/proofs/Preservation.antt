@@ -20,7 +20,7 @@ use Rattle.model.specs.Readers.{otherReaders}
 use Rattle.model.specs.Search.{some?, find, below, tally}
 use Rattle.model.specs.Step.{rolledBack, handled, change, recordOf, after, releasing, answer, recordFits, guard, known, claimed, newCell, readPlan, writeSlot, writePlan, sealPlan, promotePlan, advancePlan, peekPlan, plan, sessionOf, planOf, step, reply}
 use Rattle.model.proofs.Advancing.{target-some, target-none, late, role-late, more-open, holds-more, last-done, holds-last, waits, publishes-more, publishes-last, releases-more, releases-last}
-use Rattle.model.proofs.Effects.{running-role, slot-none, slot-some, heard, rolls, started, tells, enter-phase, enter-look, enter-slot, enters, notes}
+use Rattle.model.proofs.Effects.{running-role, slot-none, slot-some, amended, rolls, started, tells, enter-phase, enter-look, enter-slot, enters, notes}
 use Rattle.model.proofs.Invariant.{roleIn, roleOf, role, Running, Promoting, Finishing, Inv, ticks}
 use Rattle.model.proofs.Laws.{find-some, below-is, tally-flat, tally-more}
 use Rattle.model.proofs.Ledger.{Txn, ended, saw, wroteTo, sealedAt, advanced, over, news, Commit, Ledger, asCommit, amend, amendBy, starts, observe}
@@ -69,14 +69,14 @@ neither-other false false h = absurd (clash true refl h)
 
 module _ (s : ℕ) (f : Txn → Txn) (T : Ledger) (l : T .mine s .live ≡ true) where
   amend-same : (f (T .mine s) .done && not (T .mine s .done)) ≡ false
-      → amend s f T ≡ heard s (f (T .mine s)) (T .commits) T
+      → amend s f T ≡ amended s (f (T .mine s)) (T .commits) T
   unfolding amend
-  amend-same d = cond-true (T .mine s .live) _ _ l ∙ ap (λ (ks : List Commit). heard s (f (T .mine s)) ks T) (cond-false (f (T .mine s) .done && not (T .mine s .done)) _ _ d)
+  amend-same d = cond-true (T .mine s .live) _ _ l ∙ ap (λ (ks : List Commit). amended s (f (T .mine s)) ks T) (cond-false (f (T .mine s) .done && not (T .mine s .done)) _ _ d)
 
   amend-commit : (f (T .mine s) .done && not (T .mine s .done)) ≡ true
-      → amend s f T ≡ heard s (f (T .mine s)) (asCommit s (T .place) (f (T .mine s)) ∷ T .commits) T
+      → amend s f T ≡ amended s (f (T .mine s)) (asCommit s (T .place) (f (T .mine s)) ∷ T .commits) T
   unfolding amend
-  amend-commit d = cond-true (T .mine s .live) _ _ l ∙ ap (λ (ks : List Commit). heard s (f (T .mine s)) ks T) (cond-true (f (T .mine s) .done && not (T .mine s .done)) _ _ d)
+  amend-commit d = cond-true (T .mine s .live) _ _ l ∙ ap (λ (ks : List Commit). amended s (f (T .mine s)) ks T) (cond-true (f (T .mine s) .done && not (T .mine s .done)) _ _ d)
 
 -- ---- what a call that is not turned down has passed
 
@@ -301,7 +301,7 @@ module _ {first : List ℕ} {σ : Store} {T : Ledger} (I : Inv first σ T) where
         (holds-more s lt I ins c tgt ph al p)))
 
     module _ (r : Finishing (T .mine s)) where
-      on-103 : amend s (advanced (length first) (T .place)) T ≡ heard s (advanced (length first) (T .place) (T .mine s)) (T .commits) T
+      on-103 : amend s (advanced (length first) (T .place)) T ≡ amended s (advanced (length first) (T .place) (T .mine s)) (T .commits) T
       on-103 = amend-same s (advanced (length first) (T .place)) T (r .live) (long-done D (T .mine s .done) (r .done))
 
       keep-publish : recordOf σ s .phase ≡ 3 → Kept (Advance s) (Publish c (currentOf (look σ s c)))
