@@ -42,7 +42,7 @@ fn whole(random: &Random) -> Vec<u8> {
 
 /// Appends starting cells and then good calls, as long as more are wanted for this many calls and bytes.
 fn fill(random: &Random, bytes: &mut Vec<u8>, more: impl Fn(usize, usize) -> bool) {
-    let n = match random.weighted(&[50, 25, 20, 4, 1]) {
+    let n = match random.weighted(&[45, 22, 28, 4, 1]) {
         0 => random.range(1, 4),
         1 => random.range(5, 12),
         2 => random.range(33, 48),
@@ -50,10 +50,11 @@ fn fill(random: &Random, bytes: &mut Vec<u8>, more: impl Fn(usize, usize) -> boo
         _ => 1024,
     };
     let mut buffers = starting_cells(random, n, bytes);
+    let sweeping = n > 32 && random.percent(70);
     let shape = Shape {
-        sessions: random.pick(&[1, 2, 2, 2, 3, 3, 4, 6, 16]),
+        sessions: if sweeping { random.range(1, 3) } else { random.pick(&[1, 2, 2, 2, 3, 3, 4, 6, 16]) },
         hot: random.range(1, n.min(4)),
-        sweeping: n > 32 && random.percent(70),
+        sweeping,
     };
     let mut made = 0;
     while more(made, bytes.len()) {
@@ -101,13 +102,13 @@ fn next_call(random: &Random, shape: &Shape, buffers: &Buffers) -> Field {
     let tags = [field::BEGIN, field::READ, field::WRITE, field::SEAL, field::ADVANCE, field::ABANDON];
     let weights = match record.phase {
         IDLE => [88, 3, 3, 2, 2, 2],
-        RUNNING if shape.sweeping && record.count < 28 => [1, 72, 24, 1, 1, 1],
-        RUNNING if shape.sweeping => [2, 60, 22, 10, 2, 4],
+        RUNNING if shape.sweeping && record.count < 28 => [1, 78, 20, 0, 1, 0],
+        RUNNING if shape.sweeping => [2, 62, 22, 10, 2, 2],
         RUNNING => [2, 38, 36, 19, 2, 3],
         _ => [1, 2, 2, 1, 91, 3],
     };
     let tag = tags[random.weighted(&weights)];
-    let cell = choose_cell(random, shape, buffers, record.count);
+    let cell = choose_cell(random, shape, buffers, session);
     let value = choose_value(random, buffers, cell);
     carried(tag, session, cell, value)
 }
@@ -121,13 +122,14 @@ fn carried(tag: u8, session: u8, cell: u16, value: u32) -> Field {
     }
 }
 
-fn choose_cell(random: &Random, shape: &Shape, buffers: &Buffers, count: u8) -> u16 {
+fn choose_cell(random: &Random, shape: &Shape, buffers: &Buffers, session: u8) -> u16 {
     let n = buffers.values.len();
     if random.percent(2) {
         return random.pick(&[n as u16, n as u16 + 1, 1024, 65_535, random.word() as u16]);
     }
     if shape.sweeping && random.percent(85) {
-        return ((count as usize + random.below(2)) % n) as u16;
+        let entered = buffers.sessions[session as usize].count as usize;
+        return ((16 * session as usize + entered + random.below(2)) % n) as u16;
     }
     let bound = if random.percent(75) { shape.hot } else { n };
     random.below(bound) as u16
