@@ -42,20 +42,30 @@ static inline uint32_t find(const uint32_t *log, uint32_t count, uint32_t cell)
     return i;
 }
 
-/* The entry of the lowest dirty cell not below `from`; `count` if there is none. */
-static inline uint32_t lowest_dirty(const uint32_t *log, uint32_t count, uint32_t from)
+/* What an advance handles: the entry of the lowest dirty cell not below next, and whether a higher dirty cell is left. */
+typedef struct {
+    uint32_t entry;
+    int more;
+} dirty_step;
+
+/* The step from `from` on; its entry is `count` if there is none. */
+static inline dirty_step lowest_dirty(const uint32_t *log, uint32_t count, uint32_t from)
 {
-    uint32_t best = count;
-    uint32_t best_cell = UINT32_MAX;
+    dirty_step step = {count, 0};
+    uint32_t lowest = UINT32_MAX;
     for (uint32_t i = 0; i < count; i++) {
         uint32_t cell = log[PLAIN_ENTRY_WORDS * i + CELL];
         uint32_t dirty = log[PLAIN_ENTRY_WORDS * i + DIRTY] & 1;
-        if (dirty && cell >= from && cell < best_cell && is_first(log, i)) {
-            best = i;
-            best_cell = cell;
+        if (!dirty || cell < from || cell == lowest || (cell > lowest && step.more) || !is_first(log, i)) {
+            continue;
+        }
+        step.more = step.entry < count;
+        if (cell < lowest) {
+            step.entry = i;
+            lowest = cell;
         }
     }
-    return best;
+    return step;
 }
 
 static inline int lengths_fit(const plain_lent *lent)
@@ -65,8 +75,8 @@ static inline int lengths_fit(const plain_lent *lent)
            lent->claimants_len == n && lent->exclusives_len == n && lent->logs_len == PLAIN_LOG_WORDS;
 }
 
-/* Refusals 7, 1 and 9, or 0. In phases 2 to 4 `lowest` becomes the entry that an advance handles. */
-static inline uint32_t judge(const plain_lent *lent, const plain_session *sessions, uint8_t session, uint32_t *lowest)
+/* Refusals 7, 1 and 9, or 0. In phases 2 to 4 `step` becomes what an advance handles. */
+static inline uint32_t judge(const plain_lent *lent, const plain_session *sessions, uint8_t session, dirty_step *step)
 {
     if (!lengths_fit(lent)) {
         return 7;
@@ -85,14 +95,17 @@ static inline uint32_t judge(const plain_lent *lent, const plain_session *sessio
         return 9;
     }
     const uint32_t *log = entry_at(lent, session, 0);
+    uint32_t n = (uint32_t)lent->values_len;
+    int stray = 0;
     for (uint32_t i = 0; i < record.count; i++) {
-        if (log[PLAIN_ENTRY_WORDS * i + CELL] >= lent->values_len) {
-            return 9;
-        }
+        stray |= log[PLAIN_ENTRY_WORDS * i + CELL] >= n;
+    }
+    if (stray) {
+        return 9;
     }
     if (record.phase >= PROMOTING) {
-        *lowest = lowest_dirty(log, record.count, record.next);
-        if (*lowest == record.count) {
+        *step = lowest_dirty(log, record.count, record.next);
+        if (step->entry == record.count) {
             return 9;
         }
     }
@@ -174,8 +187,8 @@ plain_answer plain_set_up(const plain_lent *lent, plain_session *sessions)
 
 plain_answer plain_begin(const plain_lent *lent, plain_session *sessions, uint8_t session)
 {
-    uint32_t lowest;
-    uint32_t refused = judge(lent, sessions, session, &lowest);
+    dirty_step step;
+    uint32_t refused = judge(lent, sessions, session, &step);
     if (refused) {
         return answer(refused);
     }
@@ -191,8 +204,8 @@ plain_answer plain_begin(const plain_lent *lent, plain_session *sessions, uint8_
 
 plain_answer plain_read(const plain_lent *lent, plain_session *sessions, uint8_t session, uint32_t cell)
 {
-    uint32_t lowest;
-    uint32_t refused = judge(lent, sessions, session, &lowest);
+    dirty_step step;
+    uint32_t refused = judge(lent, sessions, session, &step);
     if (refused) {
         return answer(refused);
     }
@@ -214,8 +227,8 @@ plain_answer plain_read(const plain_lent *lent, plain_session *sessions, uint8_t
 
 plain_answer plain_write(const plain_lent *lent, plain_session *sessions, uint8_t session, uint32_t cell, uint32_t value)
 {
-    uint32_t lowest;
-    uint32_t refused = judge(lent, sessions, session, &lowest);
+    dirty_step step;
+    uint32_t refused = judge(lent, sessions, session, &step);
     if (refused) {
         return answer(refused);
     }
@@ -245,8 +258,8 @@ plain_answer plain_write(const plain_lent *lent, plain_session *sessions, uint8_
 
 plain_answer plain_seal(const plain_lent *lent, plain_session *sessions, uint8_t session)
 {
-    uint32_t lowest;
-    uint32_t refused = judge(lent, sessions, session, &lowest);
+    dirty_step step;
+    uint32_t refused = judge(lent, sessions, session, &step);
     if (refused) {
         return answer(refused);
     }
@@ -281,8 +294,8 @@ plain_answer plain_seal(const plain_lent *lent, plain_session *sessions, uint8_t
 
 plain_answer plain_advance(const plain_lent *lent, plain_session *sessions, uint8_t session)
 {
-    uint32_t lowest = 0;
-    uint32_t refused = judge(lent, sessions, session, &lowest);
+    dirty_step step = {0, 0};
+    uint32_t refused = judge(lent, sessions, session, &step);
     if (refused) {
         return answer(refused);
     }
@@ -290,7 +303,7 @@ plain_answer plain_advance(const plain_lent *lent, plain_session *sessions, uint
     if (record->phase < PROMOTING) {
         return answer(2);
     }
-    const uint32_t *entry = entry_at(lent, session, lowest);
+    const uint32_t *entry = entry_at(lent, session, step.entry);
     uint32_t cell = entry[CELL];
     if (record->phase == PROMOTING) {
         uint8_t claimant = lent->claimants[cell];
@@ -310,7 +323,7 @@ plain_answer plain_advance(const plain_lent *lent, plain_session *sessions, uint
         lent->claimants[cell] = PLAIN_NOBODY;
         lent->exclusives[cell] = 0;
     }
-    if (lowest_dirty(entry_at(lent, session, 0), record->count, cell + 1) < record->count) {
+    if (step.more) {
         record->next = (uint16_t)(cell + 1);
         return answer(103);
     }
@@ -325,8 +338,8 @@ plain_answer plain_advance(const plain_lent *lent, plain_session *sessions, uint
 
 plain_answer plain_abandon(const plain_lent *lent, plain_session *sessions, uint8_t session)
 {
-    uint32_t lowest;
-    uint32_t refused = judge(lent, sessions, session, &lowest);
+    dirty_step step;
+    uint32_t refused = judge(lent, sessions, session, &step);
     if (refused) {
         return answer(refused);
     }
@@ -342,8 +355,8 @@ plain_answer plain_abandon(const plain_lent *lent, plain_session *sessions, uint
 static inline uint32_t judge_peek(const plain_lent *lent, const plain_session *sessions, uint8_t session, uint32_t cell,
                                   const uint32_t **entry)
 {
-    uint32_t lowest;
-    uint32_t refused = judge(lent, sessions, session, &lowest);
+    dirty_step step;
+    uint32_t refused = judge(lent, sessions, session, &step);
     if (refused) {
         return refused;
     }

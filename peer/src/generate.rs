@@ -16,14 +16,15 @@ struct Shape {
 
 /// The input of one case.
 pub fn input(random: &Random) -> Vec<u8> {
-    match random.weighted(&[700, 30, 20, 4, 200, 20, 6]) {
+    match random.weighted(&[700, 30, 20, 4, 200, 20, 6, 6]) {
         0 => whole(random),
         1 => refused_cells(random),
         2 => (0..random.below(40)).map(|_| random.byte()).collect(),
         3 => too_many_cells(random),
         4 => damaged(random),
         5 => Vec::new(),
-        _ => at_the_limit(random),
+        6 => at_the_limit(random),
+        _ => too_long(random),
     }
 }
 
@@ -248,5 +249,12 @@ fn at_the_limit(random: &Random) -> Vec<u8> {
     fill(random, &mut bytes, |_, length| length <= MAX_INPUT);
     let length = random.pick(&[MAX_INPUT, MAX_INPUT, MAX_INPUT + 1, MAX_INPUT - 1]);
     bytes.truncate(length);
+    bytes
+}
+
+/// A short file with zero bytes after it, up to more than the longest input.
+fn too_long(random: &Random) -> Vec<u8> {
+    let mut bytes = whole(random);
+    bytes.resize(MAX_INPUT + random.pick(&[1, 2, 100, 5000]), 0);
     bytes
 }

@@ -126,7 +126,7 @@ def draw(history):
     if not history.calls:
         note = history.note or "There are no calls."
         canvas.text(MARGIN, 40, note, anchor="start", size=15)
-        return document(canvas, 720, 64)
+        return document(canvas, len(note) * 10 + 2 * MARGIN, 64)
     cells, left_out = shown_cells(history)
     values = dict(enumerate(history.cells))
     canvas.text(MARGIN, 34, history.summary(), anchor="start", weight="bold", size=16)

@@ -28,7 +28,7 @@ fn main() {
         count: options.number("count", 10_000).unwrap_or_else(|fault| stop(&fault)),
         from: options.number("from", 0).unwrap_or_else(|fault| stop(&fault)),
     };
-    println!("seed {}, cases {} to {}", run.seed, run.from, run.from + run.count - run.count.min(1));
+    println!("seed {}, count {}, from case {}", run.seed, run.count, run.from);
     match command {
         "replays" => replays(&run, &options),
         "answers" => answers(&run),
