@@ -87,7 +87,7 @@ fn starting_cells(random: &Random, n: usize, bytes: &mut Vec<u8>) -> Buffers {
 fn value_within(random: &Random, class: u8) -> u32 {
     let cap = CAPS[class as usize];
     match random.weighted(&[70, 15, 15]) {
-        0 => random.word() % cap.min(100).max(1),
+        0 => random.word() % cap.clamp(1, 100),
         1 => cap,
         _ => (random.next() % (cap as u64 + 1)) as u32,
     }

@@ -5,6 +5,7 @@ pub mod arbitrary;
 pub mod boundary;
 pub mod field;
 pub mod generate;
+pub mod lent;
 pub mod options;
 pub mod random;
 pub mod replay;

@@ -36,7 +36,7 @@ impl Random {
 
     /// A number below `bound`, which is at least 1.
     pub fn below(&self, bound: usize) -> usize {
-        ((self.next() >> 32) * bound as u64 >> 32) as usize
+        (((self.next() >> 32) * bound as u64) >> 32) as usize
     }
 
     /// A number from `low` to `high`, both included.

@@ -61,7 +61,15 @@ fn a_session_above_15_is_1_even_with_a_cell_that_is_not_there() {
     let mut buffers = store_of(3);
     let before = buffers.clone();
     for session in [16, 17, 255] {
-        for call in [begin(session), read(session, 9), write(session, 9, 9), seal(session), advance(session), abandon(session), peek(session, 9)] {
+        for call in [
+            begin(session),
+            read(session, 9),
+            write(session, 9, 9),
+            seal(session),
+            advance(session),
+            abandon(session),
+            peek(session, 9),
+        ] {
             assert_eq!(buffers.call(call), number(1));
         }
     }
@@ -189,7 +197,10 @@ fn the_class_comes_before_the_cap_and_the_cap_before_the_log() {
     let entries: Vec<[u32; 4]> = (0..32).map(|_| [1, 3, 4, 0]).collect();
     let mut buffers = entered(1, &entries);
     buffers.classes = vec![16, 2, 2];
-    run(&mut buffers, &[(write(3, 3, 9), number(3)), (write(3, 0, 9), number(8)), (write(3, 2, 9), number(4)), (write(3, 2, 8), number(5))]);
+    run(
+        &mut buffers,
+        &[(write(3, 3, 9), number(3)), (write(3, 0, 9), number(8)), (write(3, 2, 9), number(4)), (write(3, 2, 8), number(5))],
+    );
     run(&mut buffers, &[(read(3, 0), number(5))]);
 }
 

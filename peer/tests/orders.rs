@@ -43,7 +43,10 @@ fn skewed() -> Buffers {
 fn the_listing() {
     let mut buffers = store(&[(2, 3), (2, 5)]);
     run(&mut buffers, &up_to_line_nine());
-    run(&mut buffers, &[(advance(1), number(6)), (advance(0), number(103)), (advance(0), number(103)), (advance(0), number(105))]);
+    run(
+        &mut buffers,
+        &[(advance(1), number(6)), (advance(0), number(103)), (advance(0), number(103)), (advance(0), number(105))],
+    );
     assert_eq!(buffers.values, [4, 5]);
     assert_eq!(buffers.readers, [0, 0]);
     assert_eq!(buffers.claimants, [16, 16]);
@@ -130,7 +133,10 @@ fn begin_and_seal_commits() {
 #[test]
 fn abandon_while_publishing_is_refused() {
     let mut buffers = store_of(1);
-    run(&mut buffers, &[(begin(0), number(100)), (write(0, 0, 5), number(100)), (seal(0), number(102)), (advance(0), number(103))]);
+    run(
+        &mut buffers,
+        &[(begin(0), number(100)), (write(0, 0, 5), number(100)), (seal(0), number(102)), (advance(0), number(103))],
+    );
     assert_eq!(buffers.sessions[0].phase, 3);
     run(&mut buffers, &[(abandon(0), number(2)), (advance(0), number(103)), (abandon(0), number(2)), (advance(0), number(105))]);
     assert_eq!(buffers.values, [5]);
@@ -168,15 +174,24 @@ fn a_store_has_one_to_1024_cells() {
 fn lost_updates_do_not_happen() {
     let mut buffers = store(&[(15, 10)]);
     run(&mut buffers, &[(begin(0), number(100)), (begin(1), number(100)), (read(0, 0), value(10)), (read(1, 0), value(10))]);
-    run(&mut buffers, &[(write(0, 0, 11), number(100)), (seal(0), number(102)), (advance(0), number(104)), (advance(0), number(104))]);
-    run(&mut buffers, &[(abandon(1), number(100)), (advance(0), number(103)), (advance(0), number(103)), (advance(0), number(105))]);
+    run(
+        &mut buffers,
+        &[(write(0, 0, 11), number(100)), (seal(0), number(102)), (advance(0), number(104)), (advance(0), number(104))],
+    );
+    run(
+        &mut buffers,
+        &[(abandon(1), number(100)), (advance(0), number(103)), (advance(0), number(103)), (advance(0), number(105))],
+    );
     assert_eq!(buffers.values, [11]);
 }
 
 #[test]
 fn nothing_is_published_before_the_last_promotion_or_freed_before_the_last_publication() {
     let mut buffers = store_of(2);
-    run(&mut buffers, &[(begin(0), number(100)), (write(0, 1, 5), number(100)), (write(0, 0, 4), number(100)), (seal(0), number(102))]);
+    run(
+        &mut buffers,
+        &[(begin(0), number(100)), (write(0, 1, 5), number(100)), (write(0, 0, 4), number(100)), (seal(0), number(102))],
+    );
     let mut seen = Vec::new();
     for answer in [103, 103, 103, 103, 103, 105] {
         run(&mut buffers, &[(advance(0), number(answer))]);

@@ -28,7 +28,8 @@ fn the_listing() {
     let mut fields = vec![cell(2, 3), cell(2, 5), call(1, 0, 0, 0), call(1, 1, 0, 0), call(2, 0, 0, 0), call(2, 1, 0, 0)];
     fields.extend([call(3, 0, 0, 4), call(3, 1, 0, 2), call(4, 0, 0, 0), call(4, 1, 0, 0)]);
     fields.extend([call(5, 0, 0, 0), call(5, 1, 0, 0), call(5, 0, 0, 0), call(5, 0, 0, 0), call(5, 0, 0, 0)]);
-    let expected = "1 100\n2 100\n3 101 3\n4 101 3\n5 100\n6 100\n7 102\n8 102\n9 104\n10 6\n11 103\n12 103\n13 105\nc 0 4\nc 1 5\n";
+    let expected =
+        "1 100\n2 100\n3 101 3\n4 101 3\n5 100\n6 100\n7 102\n8 102\n9 104\n10 6\n11 103\n12 103\n13 105\nc 0 4\nc 1 5\n";
     assert_eq!(text(&bytes(&fields)), expected);
 }
 
