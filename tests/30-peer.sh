@@ -124,6 +124,7 @@ check "a cell too large" refused 1 "line 1: cell '65536' is not a number from 0 
 check "a figure too large" refused 1 "line 1: figure '4294967296' is not a number" encode_text 'write 0 0 4294967296\n'
 check "a session too large" refused 1 "line 1: session '256' is not a number from 0 to 255" encode_text 'begin 256'
 check "a sign" refused 1 "line 1: figure '-4' is not a number" encode_text 'cell 0 -4'
+check "a zero byte" refused 1 "line 2: a zero byte" encode_text 'begin 0\nseal\000 0\n'
 check "a refused field" decode_refused
 
 echo "-- the time line"
@@ -139,7 +140,8 @@ check "a missing answer is refused" refused 1 "line 13 is not the answer of call
 
 echo "-- comparisons, seed $seed"
 check "replays, in batch" shown "$compare" replays --program "$plain_replay" --mode batch --seed "$seed" --count 40000
-check "replays, each in a process" shown "$compare" replays --program "$plain_replay" --against "$replay_peer" --mode spawn --seed "$((seed + 1))" --count 1500
+check "replays, each in a process" shown "$compare" replays --program "$plain_replay" --against "$replay_peer" --mode spawn \
+    --seed "$((seed + 1))" --count 1500
 check "calls on arbitrary buffers" shown "$compare" calls --seed "$seed" --count 1000000
 check "fields" shown "$compare" fields --seed "$seed" --count 1000000
 

@@ -74,7 +74,7 @@ static buffer read_all(FILE *file)
 
 static void write_all(const buffer *b)
 {
-    if (fwrite(b->bytes, 1, b->len, stdout) != b->len || fflush(stdout) != 0) {
+    if ((b->len > 0 && fwrite(b->bytes, 1, b->len, stdout) != b->len) || fflush(stdout) != 0) {
         fail("standard output cannot be written");
     }
 }
