@@ -1,0 +1,5 @@
+pub mod LittleEndian
+pub mod Table
+pub mod Answer
+pub mod Field
+pub mod Exported
