@@ -1,47 +1,42 @@
+-- `field::write_body` meets its contract: its four runs of stores are one.
+-- Assumes nothing.
+use Rattle.field.proofs.Writings.{body-stores}
 use borrow.Author.Needs.{needs}
 use Rattle.field.proofs.write_body.Statement.{statement}
 use Rattle.field.proofs.write_body.Tie as tie
-use Rattle.field.proofs.write_body.Reads as reads
-use Rattle.field.proofs.write_body.Lts as lts
-use Rattle.field.proofs.little_endian.put_byte.Reads as put-byte-reads
-use Rattle.field.proofs.little_endian.put_long.Reads as put-long-reads
-use Rattle.field.proofs.little_endian.put_word.Reads as put-word-reads
 
--- src/lib.rt:150:20
 add-class-at : tie.Need-add-class-at
 add-class-at c = search needs
 
--- src/lib.rt:151:19
 add-cell-at : tie.Need-add-cell-at
 add-cell-at c = search needs
 
--- src/lib.rt:152:20
 add-value-at : tie.Need-add-value-at
 add-value-at c = search needs
 
--- src/lib.rt:153:5
 put-byte-requires : tie.Need-put-byte-requires
 put-byte-requires c κs = search needs
 
--- src/lib.rt:154:5
 put-byte-requires-2 : tie.Need-put-byte-requires-2
 put-byte-requires-2 c κs = search needs
 
--- src/lib.rt:155:5
 put-word-requires : tie.Need-put-word-requires
 put-word-requires c κs = search needs
 
--- src/lib.rt:156:5
 put-long-requires : tie.Need-put-long-requires
 put-long-requires c κs = search needs
 
--- src/lib.rt:146:1
 same-length : tie.Need-same-length
 same-length c = search needs
 
--- src/lib.rt:146:1
 returns : tie.Need-returns
-returns c = ?
+returns c =
+    let value = c .before .before in
+    let cell = value .before .before .before .before in
+    let class = cell .before .before .before .before in
+    let session = class .before .before .before .before in
+    let entry = session .before .before .before .before .before .before in
+    body-stores (entry .args .own) (entry .args .call) _ _ _ _ _ (session .put-byte .ensures) (class .put-byte2 .ensures) (cell .put-word .ensures) (value .put-long .ensures)
 
 pub write-body-spec : {M : Type 1} → statement M
 write-body-spec =

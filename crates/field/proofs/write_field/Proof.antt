@@ -1,59 +1,54 @@
+-- `field::write_field` meets its contract: each way out is one of the definition's, and its stores make the field.
+-- Assumes nothing.
+use mathlib.Core.Path.{refl, sym, _∙_}
+use mathlib.Core.Logic.{inr}
+use native.Mathlib.Omega.{arith}
+use lib.ListN.{length-set}
+use Rattle.field.proofs.Rows.{proper}
+use Rattle.field.proofs.Writings.{small, unknown, short, field-stores}
 use borrow.Author.Needs.{needs}
 use Rattle.field.proofs.write_field.Statement.{statement}
 use Rattle.field.proofs.write_field.Tie as tie
-use Rattle.field.proofs.write_field.Reads as reads
-use Rattle.field.proofs.write_field.Lts as lts
-use Rattle.field.proofs.little_endian.put_word.Reads as put-word-reads
-use Rattle.field.proofs.tags.layout_of.Reads as layout-of-reads
-use Rattle.field.proofs.write_body.Reads as write-body-reads
 
--- src/lib.rt:164:33
 layout-of-requires : tie.Need-layout-of-requires
 layout-of-requires c κs = search needs
 
--- src/lib.rt:164:26
 enum-known-own : tie.Need-enum-known-own
 enum-known-own c = search needs
 
--- src/lib.rt:165:9
 enum-told : tie.Need-enum-told
 enum-told c = search needs
 
--- src/lib.rt:165:9
 returns : tie.Need-returns
-returns c = ?
+returns c = unknown _ _ (sym (c .before .before .layout-of .ensures) ∙ c .enum-told .given .1)
 
--- src/lib.rt:171:17
 add-whole : tie.Need-add-whole
-add-whole c = search needs
+add-whole c = omega (arith, small _ (proper _ _ (sym (c .before .before .before .layout-of .ensures) ∙ c .before .own .given .1)))
 
--- src/lib.rt:173:9
 returns-2 : tie.Need-returns-2
-returns-2 c = ?
+returns-2 c = short _ _ _ (sym (c .before .before .before .before .layout-of .ensures) ∙ c .before .before .own .given .1) (c .if1 .taken)
 
--- src/lib.rt:178:5
 slice-write-target : tie.Need-slice-write-target
 slice-write-target c = search needs
 
--- src/lib.rt:179:43
 cast-put-word : tie.Need-cast-put-word
-cast-put-word c = search needs
+cast-put-word c = omega (arith, small _ (proper _ _ (sym (c .before .before .before .before .before .layout-of .ensures) ∙ c .before .before .before .own .given .1)))
 
--- src/lib.rt:179:5
 put-word-requires : tie.Need-put-word-requires
-put-word-requires c κs = search needs
+put-word-requires c κs = (inr refl, simp length-set (omega (arith, c .before .if1 .left)))
 
--- src/lib.rt:180:5
 write-body-requires : tie.Need-write-body-requires
-write-body-requires c κs = search needs
+write-body-requires c κs =
+    let known = sym (c .before .before .before .before .before .before .before .before .before .layout-of .ensures) ∙ c .before .before .before .before .before .before .before .own .given .1 in
+    (proper _ _ known, omega (arith, simp length-set at (c .before .before .before .put-word .kept .0), c .before .before .before .before .before .if1 .left))
 
--- src/lib.rt:160:1
 same-length : tie.Need-same-length
-same-length c = search needs
+same-length c = c .before .before .write-body .kept .0 ∙ c .before .before .before .before .before .before .put-word .kept .0 ∙ simp length-set
 
--- src/lib.rt:160:1
 returns-3 : tie.Need-returns-3
-returns-3 c = ?
+returns-3 c =
+    let known = sym (c .before .before .before .before .before .before .before .before .before .before .before .before .layout-of .ensures) ∙ c .before .before .before .before .before .before .before .before .before .before .own .given .1 in
+    field-stores _ _ _ known _ _ (proper _ _ known) (c .before .before .before .before .before .before .before .before .if1 .left) (c .before .before .before .before .before .before .put-word .ensures) (c .before .before .write-body .ensures)
 
 pub write-field-spec : {M : Type 1} → statement M
 write-field-spec =
