@@ -2,3 +2,5 @@ pub mod Numbers
 pub mod Rows
 pub mod Readings
 pub mod Writings
+pub mod Inverse
+pub mod RoundTrip

@@ -3,3 +3,4 @@ pub mod Table
 pub mod Answer
 pub mod Field
 pub mod Exported
+pub mod RoundTrip
