@@ -4,3 +4,5 @@ pub mod Readings
 pub mod Writings
 pub mod Inverse
 pub mod RoundTrip
+pub mod Files
+pub mod Worked

@@ -20,12 +20,12 @@ use Rattle.field.specs.declared.Reading.{Reading}
 use Rattle.field.specs.declared.Reading.the-variants.{Field, End, Refused}
 use Rattle.field.specs.LittleEndian.{number, numberAt, bytesOf}
 use Rattle.field.specs.Table.{Whole, Proper, layoutOf}
-use Rattle.field.specs.Answer.{done, cutShort, unknownTag, wrongLength}
-use Rattle.field.specs.Field.{call, callAt, readingOf, readingAt, bodyOf, fieldOf, wrote, writing, writingOf}
+use Rattle.field.specs.Answer.{done, cutShort, unknownTag, wrongLength, shortTarget}
+use Rattle.field.specs.Field.{call, callAt, readingOf, readingAt, bodyOf, fieldOf, Wrote, wrote, writing}
 use Rattle.field.specs.RoundTrip.{Bytes, Fitting, kept, carried}
 use Rattle.field.proofs.Rows.{proper}
 use Rattle.field.proofs.Readings.{accepted}
-use Rattle.field.proofs.Writings.{length-bytesOf, small, length-field, written}
+use Rattle.field.proofs.Writings.{length-bytesOf, small, length-field, short, written}
 use Rattle.field.proofs.Numbers.{all-of}
 use Rattle.field.proofs.Inverse.{limit, back, there, runs}
 
@@ -93,3 +93,121 @@ read-anywhere c l before after fits known =
     let long = length-around c l before after p in
     sym (accepted file at l (omega (arith, long)) (omega (arith, long)) (ap layoutOf tag ∙ known) own (omega (arith, long)))
     ∙ rw (tag, s-at, k-at, e-at, v-at)
+
+-- A test, with what it came to.
+test {ℓ} : {P : Type ℓ} (b : Bool) → (b ≡ true → P) → (b ≡ false → P) → P
+test true f g = f refl
+test false f g = g refl
+
+-- What the writer put into a target is read from it as the same call, with the numbers that the tag does not carry as 0 and the length that
+-- the writer answered, whatever stands after it.
+pub reads-back : (target : List ℕ) (c : Call) (l : Layout) → Fitting c → layoutOf (c .tag) ≡ Known l → writing target c .number ≡ done
+    → readingAt (writing target c .target) 0 ≡ Field (l .kind) (carried l c) (writing target c .length)
+reads-back target c l fits known h =
+    test (leb (3 + l .length) (length target))
+    (λ yes. rw (← written target c l known (leb-true _ _ yes)) (read-anywhere c l [] (drop (3 + l .length) target) fits known))
+    (λ no. absurd (let e : shortTarget ≡ done = ap (λ (w : Wrote). w .number) (short target c l known (leb-false _ _ no)) ∙ h in omega arith))
+
+-- ---- what was read is written again
+
+-- What the reader found where it gave a field.
+pub record Found (bytes : List ℕ) (place : ℕ) (k : Kind) (c : Call) (n : ℕ) : Type 0 where
+  pub layout : Layout
+  pub known : layoutOf (getD bytes place 0) ≡ Known layout
+  pub own : numberAt bytes (place + 1) 2 ≡ layout .length
+  pub inside : place + (3 + layout .length) ≤ length bytes
+  pub kind : k ≡ layout .kind
+  pub read : c ≡ callAt bytes (place + 3) (getD bytes place 0) layout
+  pub long : n ≡ 3 + layout .length
+
+module _ (bytes : List ℕ) (place : ℕ) (k : Kind) (c : Call) (n : ℕ) where
+  end-is-none : End ≡ Field k c n → Found bytes place k c n
+  end-is-none e = absurd (let z : _≡_ {A = ℕ} 0 1 = cc in omega arith)
+
+  refused-is-none : (number : ℕ) → Refused number place ≡ Field k c n → Found bytes place k c n
+  refused-is-none number e = absurd (let z : _≡_ {A = ℕ} 0 1 = cc in omega arith)
+
+  in-body : (l : Layout) (b d : Bool) → layoutOf (getD bytes place 0) ≡ Known l → eqb (numberAt bytes (place + 1) 2) (l .length) ≡ b → leb (3 + l .length) (length bytes - place) ≡ d
+      → cond b (cond d (Field (l .kind) (callAt bytes (place + 3) (getD bytes place 0) l) (3 + l .length)) (Refused cutShort place)) (Refused wrongLength place) ≡ Field k c n
+      → Found bytes place k c n
+  in-body l true true known e f h =
+      record {
+        layout = l;
+        known = known;
+        own = eqb-true _ _ e;
+        inside = omega (arith, leb-true (3 + l .length) (length bytes - place) f);
+        kind = cc;
+        read = cc;
+        long = cc;
+      }
+  in-body l true false known e f h = refused-is-none cutShort h
+  in-body l false d known e f h = refused-is-none wrongLength h
+
+  in-field : (t : TagLayout) → layoutOf (getD bytes place 0) ≡ t → readingOf t bytes place ≡ Field k c n → Found bytes place k c n
+  unfolding readingOf
+  in-field Unknown known h = refused-is-none unknownTag h
+  in-field (Known l) known h = in-body l _ _ known refl refl h
+
+  in-head : (b d : Bool) → cond b End (cond d (readingOf (layoutOf (getD bytes place 0)) bytes place) (Refused cutShort place)) ≡ Field k c n → Found bytes place k c n
+  in-head true d h = end-is-none h
+  in-head false true h = in-field _ refl h
+  in-head false false h = refused-is-none cutShort h
+
+  pub found : readingAt bytes place ≡ Field k c n → Found bytes place k c n
+  unfolding readingAt
+  found h = in-head (leb (length bytes) place) (leb 3 (length bytes - place)) h
+
+-- The body, and the field, of what was read are the bytes that were read.
+same-body : (bytes : List ℕ) (i t : ℕ) (l : Layout) → Bytes bytes → Proper l → i + l .length ≤ length bytes
+    → bodyOf l (callAt bytes i t l) ≡ take (l .length) (drop i bytes)
+unfolding bodyOf callAt
+same-body bytes i t l ok p inside =
+    let sum = p .length in
+    let in-s : i + l .session ≤ length bytes = omega arith in
+    let in-k : i + l .session + l .class ≤ length bytes = omega arith in
+    let in-e : i + l .session + l .class + l .cell ≤ length bytes = omega arith in
+    let in-v : i + l .session + l .class + l .cell + l .value ≤ length bytes = omega arith in
+    let to-e : i + l .session + l .class ≡ i + (l .session + l .class) = omega arith in
+    let to-v : i + l .session + l .class + l .cell ≡ i + (l .session + l .class + l .cell) = omega arith in
+    rw (
+      back bytes i (l .session) ok in-s,
+      back bytes (i + l .session) (l .class) ok in-k,
+      back bytes (i + l .session + l .class) (l .cell) ok in-e,
+      back bytes (i + l .session + l .class + l .cell) (l .value) ok in-v,
+      runs bytes i (i + l .session) (l .session) (l .class) refl,
+      runs bytes i (i + l .session + l .class) (l .session + l .class) (l .cell) to-e,
+      runs bytes i (i + l .session + l .class + l .cell) (l .session + l .class + l .cell) (l .value) to-v,
+    )
+    (ap (λ (n : ℕ). take n (drop i bytes)) (sym sum))
+
+pub same-bytes : (bytes : List ℕ) (place : ℕ) (l : Layout) → Bytes bytes → Proper l → numberAt bytes (place + 1) 2 ≡ l .length → place + (3 + l .length) ≤ length bytes
+    → fieldOf l (callAt bytes (place + 3) (getD bytes place 0) l) ≡ take (3 + l .length) (drop place bytes)
+unfolding fieldOf callAt
+same-bytes bytes place l ok p own inside =
+    let t : ℕ = getD bytes place 0 in
+    let in-head : place < length bytes = omega arith in
+    let in-own : place + 1 + 2 ≤ length bytes = omega arith in
+    let in-body : place + 3 + l .length ≤ length bytes = omega arith in
+    let b-tag : t ∷ [] ≡ take 1 (drop place bytes) = rw (drop-cons bytes place 0 in-head) in
+    let b-own : bytesOf 2 (l .length) ≡ take 2 (drop (place + 1) bytes) = ap (bytesOf 2) (sym own) ∙ back bytes (place + 1) 2 ok in-own in
+    let b-head : t ∷ bytesOf 2 (l .length) ≡ take 3 (drop place bytes) =
+    ap (λ (r : List ℕ). t ∷ r) b-own ∙ ap (λ (r : List ℕ). r ++ take 2 (drop (place + 1) bytes)) b-tag ∙ runs bytes place (place + 1) 1 2 refl in
+    ap (λ (r : List ℕ). r ++ bodyOf l (callAt bytes (place + 3) t l)) b-head
+    ∙ ap (λ (r : List ℕ). take 3 (drop place bytes) ++ r) (same-body bytes (place + 3) t l ok p in-body)
+    ∙ runs bytes place (place + 3) 3 (l .length) refl
+
+-- Every field that is read is byte for byte what the writer gives for the call that was read: in any target that is long enough it writes
+-- the bytes from the place on, as many as the reader said.
+pub written-again : (bytes : List ℕ) (place : ℕ) (k : Kind) (c : Call) (n : ℕ) → Bytes bytes → readingAt bytes place ≡ Field k c n
+    → (target : List ℕ) → n ≤ length target → writing target c ≡ wrote done n (take n (drop place bytes) ++ drop n target)
+unfolding callAt
+written-again bytes place k c n ok h target room =
+    let f = found bytes place k c n h in
+    let l : Layout = f .layout in
+    let t : ℕ = getD bytes place 0 in
+    let p : Proper l = proper t l (f .known) in
+    let again = written target (callAt bytes (place + 3) t l) l (f .known) (omega (arith, f .long)) in
+    ap (writing target) (f .read)
+    ∙ sym again
+    ∙ ap (λ (b : List ℕ). wrote done (3 + l .length) (b ++ drop (3 + l .length) target)) (same-bytes bytes place l ok p (f .own) (f .inside))
+    ∙ ap (λ (m : ℕ). wrote done m (take m (drop place bytes) ++ drop m target)) (sym (f .long))
