@@ -38,7 +38,7 @@ pub extern "C" fn rukkanei_field_read(
             crate::DONE
         }
         Reading::End => crate::END_OF_FIELDS,
-        Reading::Refused { number, place: _ } => number,
+        Reading::Refused(number, _) => number,
     }
 }
 

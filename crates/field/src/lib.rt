@@ -48,7 +48,7 @@ pub struct Call {
     pub value: u32,
 }
 
-// What stands at a place: a field with its numbers and its length in bytes; the end, where no byte is left; or a refusal's number with the
+// What stands at a place: a field with its numbers and its length in bytes; the end, where no byte is left; or a refusal's number and the
 // place of the field's first byte.
 pub enum Reading {
     Field {
@@ -57,10 +57,7 @@ pub enum Reading {
         length: usize,
     },
     End,
-    Refused {
-        number: u8,
-        place: usize,
-    },
+    Refused(u8, usize),
 }
 
 // The writer's answer: the number, and the field's length or, with a refusal, 0.
@@ -108,30 +105,18 @@ pub fn read_field(bytes: &[u8], place: usize) -> Reading
     }
     let left = bytes.len() - place;
     if left < 3 {
-        return Reading::Refused {
-            number: CUT_SHORT,
-            place,
-        };
+        return Reading::Refused(CUT_SHORT, place);
     }
     let tag = bytes[place];
     let TagLayout::Known(own) = tags::layout_of(tag) else {
-        return Reading::Refused {
-            number: UNKNOWN_TAG,
-            place,
-        };
+        return Reading::Refused(UNKNOWN_TAG, place);
     };
     let length = own.length;
     if little_endian::wide(little_endian::word_at(bytes, place + 1, 2)) != length {
-        return Reading::Refused {
-            number: WRONG_LENGTH,
-            place,
-        };
+        return Reading::Refused(WRONG_LENGTH, place);
     }
     if left < 3 + length {
-        return Reading::Refused {
-            number: CUT_SHORT,
-            place,
-        };
+        return Reading::Refused(CUT_SHORT, place);
     }
     let kind = own.kind;
     let call = read_body(bytes, place + 3, tag, own);
