@@ -3,11 +3,11 @@
 use Prim.Native.Nat.{ℕ, zero, suc, _+_, _-_, _≤_, _<_}
 use native.Mathlib.Omega.{arith}
 use mathlib.Core.Path.{_≡_, refl, sym, _∙_, ap, subst}
-use mathlib.Core.Bool.{Bool, true, false, cond}
+use mathlib.Core.Bool.{Bool, true, false, cond, not}
 use mathlib.Core.List.{List, [], _∷_, _++_}
 use lib.ListN.{length, take, drop, getD, length-drop, length-take, take-append-drop, drop-of-length-le}
 use lib.Seq.{length-take-le, take-at, drop-at, drop-drop}
-use lib.Dec.{leb, eqb}
+use lib.Dec.{leb, ltb, eqb}
 use borrow.Author.Tests.{leb-true}
 use Rattle.field.specs.declared.Kind.{Kind}
 use Rattle.field.specs.declared.Call.{Call}
@@ -34,34 +34,35 @@ one-reading {file} {place} (goes {n = n} {c = c} {cs = cs} e r) (goes {n = m} {c
     cc
 
 -- The reader says the end only where no byte is left.
-field-or-refused : (b d : Bool) (k : Kind) (c : Call) (n p : ℕ) (x y : ℕ) → cond b (cond d (Field k c n) (Refused x p)) (Refused y p) ≡ End → ⊥
-field-or-refused true true k c n p x y e = let z : _≡_ {A = ℕ} 0 1 = cc in omega arith
-field-or-refused true false k c n p x y e = let z : _≡_ {A = ℕ} 0 1 = cc in omega arith
-field-or-refused false d k c n p x y e = let z : _≡_ {A = ℕ} 0 1 = cc in omega arith
+refused-or-field : (b d : Bool) (k : Kind) (c : Call) (n p x y : ℕ) → cond b (Refused x p) (cond d (Refused y p) (Field k c n)) ≡ End → ⊥
+refused-or-field true d k c n p x y e = let z : _≡_ {A = ℕ} 0 1 = cc in omega arith
+refused-or-field false true k c n p x y e = let z : _≡_ {A = ℕ} 0 1 = cc in omega arith
+refused-or-field false false k c n p x y e = let z : _≡_ {A = ℕ} 0 1 = cc in omega arith
 
 no-end : (t : TagLayout) (bytes : List ℕ) (place : ℕ) → readingOf t bytes place ≡ End → ⊥
 unfolding readingOf
 no-end Unknown bytes place e = let z : _≡_ {A = ℕ} 0 1 = cc in omega arith
 no-end (Known l) bytes place e =
-    field-or-refused
-    (eqb (numberAt bytes (place + 1) 2) (l .length))
-    (leb (3 + l .length) (length bytes - place))
+    refused-or-field
+    (not (eqb (numberAt bytes (place + 1) 2) (l .length)))
+    (ltb (length bytes - place) (3 + l .length))
     (l .kind)
     (callAt bytes (place + 3) (getD bytes place 0) l)
     (3 + l .length)
     place
-    cutShort
     wrongLength
+    cutShort
     e
 
-end-test : (b d : Bool) (t : TagLayout) (bytes : List ℕ) (place : ℕ) → cond b End (cond d (readingOf t bytes place) (Refused cutShort place)) ≡ End → b ≡ true
+end-test : (b d : Bool) (t : TagLayout) (bytes : List ℕ) (place : ℕ) → cond b End (cond d (Refused cutShort place) (readingOf t bytes place)) ≡ End → b ≡ true
 end-test true d t bytes place e = refl
-end-test false true t bytes place e = absurd (no-end t bytes place e)
-end-test false false t bytes place e = absurd (let z : _≡_ {A = ℕ} 0 1 = cc in omega arith)
+end-test false true t bytes place e = absurd (let z : _≡_ {A = ℕ} 0 1 = cc in omega arith)
+end-test false false t bytes place e = absurd (no-end t bytes place e)
 
 pub ended : (bytes : List ℕ) (place : ℕ) → readingAt bytes place ≡ End → length bytes ≤ place
 unfolding readingAt
-ended bytes place e = leb-true (length bytes) place (end-test (leb (length bytes) place) (leb 3 (length bytes - place)) (layoutOf (getD bytes place 0)) bytes place e)
+ended bytes place e =
+    leb-true (length bytes) place (end-test (leb (length bytes) place) (ltb (length bytes - place) 3) (layoutOf (getD bytes place 0)) bytes place e)
 
 none-left : (xs : List ℕ) → length xs ≡ 0 → xs ≡ []
 none-left [] e = refl

@@ -5,12 +5,12 @@ use Prim.Native.Nat.{ℕ, zero, suc, _+_, _-_, _≤_, _<_}
 use native.Mathlib.Omega.{arith}
 use mathlib.Core.Path.{_≡_, refl, sym, _∙_, ap, subst}
 use mathlib.Core.Logic.{_⊎_, ⊎-elim}
-use mathlib.Core.Bool.{Bool, true, false, cond}
+use mathlib.Core.Bool.{Bool, true, false, cond, not}
 use mathlib.Core.List.{List, [], _∷_, _++_, append-assoc}
 use lib.ListN.{length, take, drop, getD, length-append}
 use lib.Seq.{getD-append-seam, drop-cons}
-use lib.Dec.{leb, eqb}
-use borrow.Author.Tests.{leb-true, leb-false, eqb-true, eq-eqb, ne-eqb}
+use lib.Dec.{leb, ltb, eqb}
+use borrow.Author.Tests.{ltb-true, ltb-false, eqb-true, ne-eqb}
 use Rattle.field.specs.declared.Kind.{Kind}
 use Rattle.field.specs.declared.Layout.{Layout}
 use Rattle.field.specs.declared.TagLayout.{TagLayout}
@@ -104,9 +104,9 @@ test false f g = g refl
 pub reads-back : (target : List ℕ) (c : Call) (l : Layout) → Fitting c → layoutOf (c .tag) ≡ Known l → writing target c .number ≡ done
     → readingAt (writing target c .target) 0 ≡ Field (l .kind) (carried l c) (writing target c .length)
 reads-back target c l fits known h =
-    test (leb (3 + l .length) (length target))
-    (λ yes. rw (← written target c l known (leb-true _ _ yes)) (read-anywhere c l [] (drop (3 + l .length) target) fits known))
-    (λ no. absurd (let e : shortTarget ≡ done = ap (λ (w : Wrote). w .number) (short target c l known (leb-false _ _ no)) ∙ h in omega arith))
+    test (ltb (length target) (3 + l .length))
+    (λ over. absurd (let e : shortTarget ≡ done = ap (λ (w : Wrote). w .number) (short target c l known (ltb-true _ _ over)) ∙ h in omega arith))
+    (λ room. rw (← written target c l known (ltb-false _ _ room)) (read-anywhere c l [] (drop (3 + l .length) target) fits known))
 
 -- ---- what was read is written again
 
@@ -127,20 +127,20 @@ module _ (bytes : List ℕ) (place : ℕ) (k : Kind) (c : Call) (n : ℕ) where
   refused-is-none : (number : ℕ) → Refused number place ≡ Field k c n → Found bytes place k c n
   refused-is-none number e = absurd (let z : _≡_ {A = ℕ} 0 1 = cc in omega arith)
 
-  in-body : (l : Layout) (b d : Bool) → layoutOf (getD bytes place 0) ≡ Known l → eqb (numberAt bytes (place + 1) 2) (l .length) ≡ b → leb (3 + l .length) (length bytes - place) ≡ d
-      → cond b (cond d (Field (l .kind) (callAt bytes (place + 3) (getD bytes place 0) l) (3 + l .length)) (Refused cutShort place)) (Refused wrongLength place) ≡ Field k c n
+  in-body : (l : Layout) (b d : Bool) → layoutOf (getD bytes place 0) ≡ Known l → eqb (numberAt bytes (place + 1) 2) (l .length) ≡ b → ltb (length bytes - place) (3 + l .length) ≡ d
+      → cond (not b) (Refused wrongLength place) (cond d (Refused cutShort place) (Field (l .kind) (callAt bytes (place + 3) (getD bytes place 0) l) (3 + l .length))) ≡ Field k c n
       → Found bytes place k c n
-  in-body l true true known e f h =
+  in-body l true false known e f h =
       record {
         layout = l;
         known = known;
         own = eqb-true _ _ e;
-        inside = omega (arith, leb-true (3 + l .length) (length bytes - place) f);
+        inside = omega (arith, ltb-false (length bytes - place) (3 + l .length) f);
         kind = cc;
         read = cc;
         long = cc;
       }
-  in-body l true false known e f h = refused-is-none cutShort h
+  in-body l true true known e f h = refused-is-none cutShort h
   in-body l false d known e f h = refused-is-none wrongLength h
 
   in-field : (t : TagLayout) → layoutOf (getD bytes place 0) ≡ t → readingOf t bytes place ≡ Field k c n → Found bytes place k c n
@@ -148,14 +148,14 @@ module _ (bytes : List ℕ) (place : ℕ) (k : Kind) (c : Call) (n : ℕ) where
   in-field Unknown known h = refused-is-none unknownTag h
   in-field (Known l) known h = in-body l _ _ known refl refl h
 
-  in-head : (b d : Bool) → cond b End (cond d (readingOf (layoutOf (getD bytes place 0)) bytes place) (Refused cutShort place)) ≡ Field k c n → Found bytes place k c n
+  in-head : (b d : Bool) → cond b End (cond d (Refused cutShort place) (readingOf (layoutOf (getD bytes place 0)) bytes place)) ≡ Field k c n → Found bytes place k c n
   in-head true d h = end-is-none h
-  in-head false true h = in-field _ refl h
-  in-head false false h = refused-is-none cutShort h
+  in-head false true h = refused-is-none cutShort h
+  in-head false false h = in-field _ refl h
 
   pub found : readingAt bytes place ≡ Field k c n → Found bytes place k c n
   unfolding readingAt
-  found h = in-head (leb (length bytes) place) (leb 3 (length bytes - place)) h
+  found h = in-head (leb (length bytes) place) (ltb (length bytes - place) 3) h
 
 -- The body, and the field, of what was read are the bytes that were read.
 same-body : (bytes : List ℕ) (i t : ℕ) (l : Layout) → Bytes bytes → Proper l → i + l .length ≤ length bytes

@@ -8,7 +8,7 @@ use mathlib.Core.Logic.{_⊎_, ⊎-elim}
 use mathlib.Core.List.{List, [], _∷_, _++_}
 use lib.ListN.{length, take, drop, set, length-append}
 use lib.Seq.{sets, sets-eq}
-use borrow.Author.Tests.{le-leb, lt-leb}
+use borrow.Author.Tests.{lt-ltb, le-ltb}
 use Rattle.field.specs.declared.Layout.{Layout}
 use Rattle.field.specs.declared.TagLayout.the-variants.{Known, Unknown}
 use Rattle.field.specs.declared.Call.{Call}
@@ -82,11 +82,11 @@ module _ (target : List ℕ) (c : Call) where
   module _ (l : Layout) (known : layoutOf (c .tag) ≡ Known l) where
     pub short : length target < 3 + l .length → wrote shortTarget 0 target ≡ writing target c
     unfolding writing writingOf
-    short h = simp (known, lt-leb _ _ h)
+    short h = simp (known, lt-ltb _ _ h)
 
     pub written : 3 + l .length ≤ length target → wrote done (3 + l .length) (fieldOf l c ++ drop (3 + l .length) target) ≡ writing target c
     unfolding writing writingOf
-    written h = simp (known, le-leb _ _ h)
+    written h = simp (known, le-ltb _ _ h)
 
     -- The stores of tag, length and body leave the field at the front.
     pub field-stores : (t₁ t₂ : List ℕ) → Proper l → 3 + l .length ≤ length target

@@ -2,7 +2,7 @@
 -- Assumes nothing.
 use Prim.Native.Nat.{ℕ, _+_, _-_}
 use mathlib.Core.List.{List, _∷_, _++_}
-use mathlib.Core.Bool.{cond}
+use mathlib.Core.Bool.{cond, not}
 use lib.ListN.{getD, length, drop}
 use lib.Dec.{ltb, leb, eqb}
 use Rattle.field.specs.declared.Layout.{Layout}
@@ -31,18 +31,17 @@ callAt bytes i t l =
 unfoldable pub readingOf : TagLayout → List ℕ → ℕ → Reading
 readingOf Unknown bytes place = Refused unknownTag place
 readingOf (Known l) bytes place =
-    cond (eqb (numberAt bytes (place + 1) 2) (l .length))
-    (cond (leb (3 + l .length) (length bytes - place))
-    (Field (l .kind) (callAt bytes (place + 3) (getD bytes place 0) l) (3 + l .length))
-    (Refused cutShort place))
-    (Refused wrongLength place)
+    cond (not (eqb (numberAt bytes (place + 1) 2) (l .length))) (Refused wrongLength place)
+    (cond (ltb (length bytes - place) (3 + l .length)) (Refused cutShort place)
+    (Field (l .kind) (callAt bytes (place + 3) (getD bytes place 0) l) (3 + l .length)))
 
 -- The field at a place: a tag byte, a two-byte length and a body. Where no byte is left, as at every place past the end, it is the end;
 -- fewer than three bytes left are a field cut short. A refusal tells the place of the field's first byte.
 unfoldable pub readingAt : List ℕ → ℕ → Reading
 readingAt bytes place =
     cond (leb (length bytes) place) End
-    (cond (leb 3 (length bytes - place)) (readingOf (layoutOf (getD bytes place 0)) bytes place) (Refused cutShort place))
+    (cond (ltb (length bytes - place) 3) (Refused cutShort place)
+    (readingOf (layoutOf (getD bytes place 0)) bytes place))
 
 -- The body of a call: the numbers that the tag carries, one after the other. The others take no bytes, so nothing depends on them.
 unfoldable pub bodyOf : Layout → Call → List ℕ
@@ -67,9 +66,8 @@ wrote n k t = record { number = n; length = k; target = t }
 unfoldable pub writingOf : TagLayout → List ℕ → Call → Wrote
 writingOf Unknown target c = wrote unknownTag 0 target
 writingOf (Known l) target c =
-    cond (leb (3 + l .length) (length target))
+    cond (ltb (length target) (3 + l .length)) (wrote shortTarget 0 target)
     (wrote done (3 + l .length) (fieldOf l c ++ drop (3 + l .length) target))
-    (wrote shortTarget 0 target)
 
 unfoldable pub writing : List ℕ → Call → Wrote
 writing target c = writingOf (layoutOf (c .tag)) target c
