@@ -1,11 +1,11 @@
 -- A file of fields has exactly one reading, and written again it is the file: by induction on the reading, with `written-again` at each field.
 -- Assumes nothing.
-use Prim.Native.Nat.{ℕ, zero, suc, _+_, _-_, _≤_, _<_}
+use Prim.Native.Nat.{ℕ, _+_, _-_, _≤_}
 use native.Mathlib.Omega.{arith}
 use mathlib.Core.Path.{_≡_, refl, sym, _∙_, ap, subst}
 use mathlib.Core.Bool.{Bool, true, false, cond, not}
 use mathlib.Core.List.{List, [], _∷_, _++_}
-use lib.ListN.{length, take, drop, getD, length-drop, length-take, take-append-drop, drop-of-length-le}
+use lib.ListN.{length, take, drop, getD, length-drop, take-append-drop, drop-of-length-le}
 use lib.Seq.{length-take-le, take-at, drop-at, drop-drop}
 use lib.Dec.{leb, ltb, eqb}
 use borrow.Author.Tests.{leb-true}
@@ -13,14 +13,13 @@ use Rattle.field.specs.declared.Kind.{Kind}
 use Rattle.field.specs.declared.Call.{Call}
 use Rattle.field.specs.declared.TagLayout.{TagLayout}
 use Rattle.field.specs.declared.TagLayout.the-variants.{Known, Unknown}
-use Rattle.field.specs.declared.Reading.{Reading}
 use Rattle.field.specs.declared.Reading.the-variants.{Field, End, Refused}
 use Rattle.field.specs.LittleEndian.{numberAt}
 use Rattle.field.specs.Answer.{cutShort, wrongLength}
 use Rattle.field.specs.Table.{layoutOf}
 use Rattle.field.specs.Field.{callAt, readingOf, readingAt}
 use Rattle.field.specs.RoundTrip.{Bytes, Reads, ends, goes, writes}
-use Rattle.field.proofs.RoundTrip.{Found, found, written-again}
+use Rattle.field.proofs.RoundTrip.{found, written-again}
 
 -- Two readings from one place are the same.
 pub one-reading : {file : List ℕ} {place : ℕ} {cs ds : List Call} → Reads file place cs → Reads file place ds → cs ≡ ds

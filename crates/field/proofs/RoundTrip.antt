@@ -4,7 +4,6 @@
 use Prim.Native.Nat.{ℕ, zero, suc, _+_, _-_, _≤_, _<_}
 use native.Mathlib.Omega.{arith}
 use mathlib.Core.Path.{_≡_, refl, sym, _∙_, ap, subst}
-use mathlib.Core.Logic.{_⊎_, ⊎-elim}
 use mathlib.Core.Bool.{Bool, true, false, cond, not}
 use mathlib.Core.List.{List, [], _∷_, _++_, append-assoc}
 use lib.ListN.{length, take, drop, getD, length-append}
@@ -16,12 +15,11 @@ use Rattle.field.specs.declared.Layout.{Layout}
 use Rattle.field.specs.declared.TagLayout.{TagLayout}
 use Rattle.field.specs.declared.TagLayout.the-variants.{Known, Unknown}
 use Rattle.field.specs.declared.Call.{Call}
-use Rattle.field.specs.declared.Reading.{Reading}
 use Rattle.field.specs.declared.Reading.the-variants.{Field, End, Refused}
 use Rattle.field.specs.LittleEndian.{number, numberAt, bytesOf}
 use Rattle.field.specs.Table.{Whole, Proper, layoutOf}
 use Rattle.field.specs.Answer.{done, cutShort, unknownTag, wrongLength, shortTarget}
-use Rattle.field.specs.Field.{call, callAt, readingOf, readingAt, bodyOf, fieldOf, Wrote, wrote, writing}
+use Rattle.field.specs.Field.{callAt, readingOf, readingAt, bodyOf, fieldOf, Wrote, wrote, writing}
 use Rattle.field.specs.RoundTrip.{Bytes, Fitting, kept, carried}
 use Rattle.field.proofs.Rows.{proper}
 use Rattle.field.proofs.Readings.{accepted}

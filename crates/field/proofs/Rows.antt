@@ -1,11 +1,12 @@
--- Every layout of the table is as the code relies on it: a test that computes over the rows, and what it says of the row that a tag finds.
+-- Laws of the table: every layout is as the code relies on it, by a test that computes over the rows; and a tag that is no row's is unknown.
 -- Assumes nothing.
 use Prim.Native.Nat.{ℕ, _+_}
-use mathlib.Core.Path.{_≡_, refl, sym, subst, _∙_}
+use mathlib.Core.Path.{_≡_, refl, subst}
 use mathlib.Core.Logic.{_⊎_, inl, inr}
 use mathlib.Core.Bool.{Bool, true, false, cond, _&&_, _||_}
 use mathlib.Core.List.{List, [], _∷_}
 use native.Mathlib.Omega.{arith}
+use borrow.Author.Tests.{ne-eqb}
 use lib.Dec.{T, eqb, eqb→eq}
 use Rattle.field.specs.declared.Layout.{Layout}
 use Rattle.field.specs.declared.TagLayout.{TagLayout}
@@ -69,3 +70,19 @@ found t (r ∷ rows) l h e =
 pub proper : (t : ℕ) (l : Layout) → layoutOf t ≡ Known l → Proper l
 unfolding layoutOf table
 proper t l e = found t table l tt e
+
+-- Beside what else is known, the tag is that of none of the rows: what a `match` with an arm for each row, in their order, knows past them.
+abbrev pub Outside : ℕ → List Row → Type 0 → Type 0
+Outside t [] else = else
+Outside t (r ∷ rows) else = Outside t rows (else × (t ≡ r .tag → ⊥))
+
+outside : (t : ℕ) (rows : List Row) (else : Type 0) → Outside t rows else → (find t rows ≡ Unknown) × else
+unfolding find
+outside t [] else h = (refl, h)
+outside t (r ∷ rows) else h =
+    let rest = outside t rows (else × (t ≡ r .tag → ⊥)) h in
+    (rw (ne-eqb t (r .tag) (rest .1 .1)) (rest .0), rest .1 .0)
+
+pub unlisted : (t : ℕ) → Outside t table Unit → layoutOf t ≡ Unknown
+unfolding layoutOf
+unlisted t h = outside t table Unit h .0

@@ -1,12 +1,12 @@
 -- What the writer gives, by the way that its tests go, and how its stores make the field.
 -- Assumes nothing.
 use Prim.Native.Nat.{ℕ, zero, suc, _+_, _≤_, _<_}
-use native.Mathlib.Nat.{zero-add, add-zero, add-suc, suc-add}
+use native.Mathlib.Nat.{add-zero}
 use native.Mathlib.Omega.{arith}
 use mathlib.Core.Path.{_≡_, refl, sym, _∙_, ap}
 use mathlib.Core.Logic.{_⊎_, ⊎-elim}
 use mathlib.Core.List.{List, [], _∷_, _++_}
-use lib.ListN.{length, take, drop, set, length-append}
+use lib.ListN.{length, drop, set, length-append}
 use lib.Seq.{sets, sets-eq}
 use borrow.Author.Tests.{lt-ltb, le-ltb}
 use Rattle.field.specs.declared.Layout.{Layout}
@@ -15,7 +15,7 @@ use Rattle.field.specs.declared.Call.{Call}
 use Rattle.field.specs.LittleEndian.{bytesOf}
 use Rattle.field.specs.Table.{Whole, Proper, layoutOf}
 use Rattle.field.specs.Answer.{done, unknownTag, shortTarget}
-use Rattle.field.specs.Field.{bodyOf, fieldOf, Wrote, wrote, writingOf, writing}
+use Rattle.field.specs.Field.{bodyOf, fieldOf, wrote, writingOf, writing}
 
 -- ---- lengths
 

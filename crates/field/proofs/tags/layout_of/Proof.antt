@@ -2,7 +2,7 @@
 -- Assumes nothing.
 use mathlib.Core.Path.{sym, _∙_, ap}
 use mathlib.Core.Logic.{⊎-elim}
-use borrow.Author.Tests.{ne-eqb}
+use Rattle.field.proofs.Rows.{unlisted}
 use Rattle.field.specs.Table.{table, find, layoutOf}
 use borrow.Author.Needs.{needs}
 use Rattle.field.proofs.tags.layout_of.Statement.{statement}
@@ -62,24 +62,8 @@ unfolding layoutOf find table
 returns-8 c = ⊎-elim (λ e. rw e) (λ e. rw e) (c .match .keys8)
 
 returns-9 : tie.Need-returns-9
-unfolding layoutOf find table
-returns-9 c =
-    let not8 = c .match .rest .0 in
-    let not6 = not8 .0 in
-    let not5 = not6 .0 in
-    let not4 = not5 .0 in
-    let not3 = not4 .0 in
-    let not2 = not3 .0 in
-    let not1 = not2 .0 in
-    simp (
-      ne-eqb _ 1 (not1 .1),
-      ne-eqb _ 2 (not2 .1),
-      ne-eqb _ 3 (not3 .1),
-      ne-eqb _ 4 (not4 .1),
-      ne-eqb _ 5 (not5 .1),
-      ne-eqb _ 6 (not6 .1),
-      ne-eqb _ 8 (not8 .1),
-    )
+unfolding table
+returns-9 c = sym (unlisted _ (c .match .rest .0))
 
 pub layout-of-spec : {M : Type 1} → statement M
 layout-of-spec =
