@@ -1,5 +1,8 @@
 /* A start for a maker's firmware: it writes a begin, two reads, a write and a seal into one buffer, reads them back and prints them, and
- * shows what each refusal looks like. */
+ * shows what each refusal looks like. Build it with
+ *
+ *   rt staticlib field
+ *   gcc -Wall -Wextra -Werror -std=c99 -Iinclude -o firmware examples/firmware/firmware.c target/staticlib/libfield.a */
 #include <inttypes.h>
 #include <stdio.h>
 
