@@ -1,3 +1,4 @@
+-- Laws that the proofs of the functions cite (up to `Writings`), and the theorems on fields (`RoundTrip`, `Files`, `Worked`).
 pub mod Numbers
 pub mod Rows
 pub mod Readings

@@ -20,8 +20,10 @@ pub extern "C" fn rukkanei_field_read(
     value: &mut u32,
     length: &mut usize,
 ) -> u8
-    ensures { λ r. ⌜ handed r (lent (now (tag .exit)) (now (session .exit)) (now (class .exit)) (now (cell .exit)) (now (value .exit)) (now (length .exit)))
-        ≡ handing (readingAt (now (bytes .entry)) place) (lent (now (tag .entry)) (now (session .entry)) (now (class .entry)) (now (cell .entry)) (now (value .entry)) (now (length .entry))) ⌝ }
+    ensures { λ r. ⌜ handed r
+        (lent (now (tag .exit)) (now (session .exit)) (now (class .exit)) (now (cell .exit)) (now (value .exit)) (now (length .exit)))
+        ≡ handing (readingAt (now (bytes .entry)) place)
+        (lent (now (tag .entry)) (now (session .entry)) (now (class .entry)) (now (cell .entry)) (now (value .entry)) (now (length .entry))) ⌝ }
 {
     match read_field(bytes, place) {
         Reading::Field {
@@ -54,7 +56,8 @@ pub extern "C" fn rukkanei_field_write(
     value: u32,
     length: &mut usize,
 ) -> u8
-    ensures { λ r. ⌜ wrote r (now (length .exit)) (now (target .exit)) ≡ writing (now (target .entry)) (call tag session class cell value) ⌝ }
+    ensures { λ r. ⌜ wrote r (now (length .exit)) (now (target .exit))
+        ≡ writing (now (target .entry)) (call tag session class cell value) ⌝ }
 {
     let written = write_field(
         target,
