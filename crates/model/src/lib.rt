@@ -67,3 +67,56 @@ pub struct Reply {
     pub answer: Answer,
     pub sessions: Sessions,
 }
+
+impl Session {
+    // Begin: running, with no entry.
+    pub fn begun(self) -> Session
+    {
+        Session { phase: 1, count: 0, next: 0 }
+    }
+
+    // Going idle.
+    pub fn rested(self) -> Session
+    {
+        Session { phase: 0, count: 0, next: 0 }
+    }
+
+    // One entry more.
+    pub fn with_entry(self) -> Session
+    {
+        Session { phase: self.phase, count: self.count + 1, next: self.next }
+    }
+
+    // Sealed with something written: promotion begins.
+    pub fn sealed(self) -> Session
+    {
+        Session { phase: 2, count: self.count, next: 0 }
+    }
+
+    // A cell is handled and another is left: next is past it.
+    pub fn moved(self, next: u16) -> Session
+    {
+        Session { phase: self.phase, count: self.count, next }
+    }
+
+    // The last cell is handled: the phase rises.
+    pub fn raised(self) -> Session
+    {
+        Session { phase: self.phase + 1, count: self.count, next: 0 }
+    }
+}
+
+impl Sessions {
+    // One session's record.
+    pub fn at(self, s: usize) -> Session
+    {
+        self.records[s]
+    }
+
+    // The records with one session's anew.
+    pub fn with(mut self, s: usize, x: Session) -> Sessions
+    {
+        self.records[s] = x;
+        self
+    }
+}
