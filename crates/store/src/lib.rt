@@ -81,7 +81,7 @@ pub fn begin(sessions: Sessions, values: &[u32], classes: &[u8], readers: &[u16]
     let i = session as usize;
     let a = 128 * i;
     let e = a + 128;
-    let x = sessions.at(i);
+    let x = sessions.records[i];
     let turned = decide::tests(&logs[a..e], n, x, 0, 0);
     if turned != 0 {
         return Reply { answer: Answer::Refused(turned), sessions };
@@ -100,7 +100,7 @@ pub fn read(sessions: Sessions, values: &[u32], classes: &[u8], readers: &mut [u
     let i = session as usize;
     let a = 128 * i;
     let e = a + 128;
-    let x = sessions.at(i);
+    let x = sessions.records[i];
     let l = locks::at(&readers[..], &claimants[..], &exclusives[..], cell);
     let p = decide::read(&logs[a..e], n, x, l, cell);
     if let Plan::Tell(value) = p {
@@ -132,7 +132,7 @@ pub fn write(sessions: Sessions, values: &[u32], classes: &[u8], readers: &mut [
     let i = session as usize;
     let a = 128 * i;
     let e = a + 128;
-    let x = sessions.at(i);
+    let x = sessions.records[i];
     let l = locks::at(&readers[..], &claimants[..], &exclusives[..], cell);
     let p = decide::write(&logs[a..e], classes, x, l, cell, value);
     if let Plan::Update(k, _) = p {
@@ -166,7 +166,7 @@ pub fn seal(sessions: Sessions, values: &[u32], classes: &[u8], readers: &mut [u
     let i = session as usize;
     let a = 128 * i;
     let e = a + 128;
-    let x = sessions.at(i);
+    let x = sessions.records[i];
     let p = decide::seal(&logs[a..e], n, x);
     if let Plan::Refuse(number) = p {
         return Reply { answer: Answer::Refused(number), sessions };
@@ -186,7 +186,7 @@ fn advance_at(sessions: Sessions, values: &mut [u32], readers: &mut [u16], claim
     let i = session as usize;
     let a = 128 * i;
     let e = a + 128;
-    let x = sessions.at(i);
+    let x = sessions.records[i];
     let log = &logs[a..e];
     let cell = log[4 * k];
     let l = locks::at(&readers[..], &claimants[..], &exclusives[..], cell);
@@ -226,7 +226,7 @@ pub fn advance(sessions: Sessions, values: &mut [u32], classes: &[u8], readers: 
     let i = session as usize;
     let a = 128 * i;
     let e = a + 128;
-    let d = decide::due(&logs[a..e], n, sessions.at(i));
+    let d = decide::due(&logs[a..e], n, sessions.records[i]);
     match d {
         decide::Due::Refused(number) => Reply { answer: Answer::Refused(number), sessions },
         decide::Due::Slot(k) => advance_at(sessions, values, readers, claimants, exclusives, logs, session, k as usize),
@@ -243,7 +243,7 @@ pub fn abandon(sessions: Sessions, values: &[u32], classes: &[u8], readers: &mut
     let i = session as usize;
     let a = 128 * i;
     let e = a + 128;
-    let x = sessions.at(i);
+    let x = sessions.records[i];
     let turned = decide::tests(&logs[a..e], n, x, 1, 2);
     if turned != 0 {
         return Reply { answer: Answer::Refused(turned), sessions };
@@ -263,7 +263,7 @@ fn peek_plan(sessions: Sessions, values: &[u32], classes: &[u8], readers: &[u16]
     let i = session as usize;
     let a = 128 * i;
     let e = a + 128;
-    decide::peek(&logs[a..e], n, sessions.at(i), cell)
+    decide::peek(&logs[a..e], n, sessions.records[i], cell)
 }
 
 pub fn peek<'a>(sessions: Sessions, values: &'a [u32], classes: &[u8], readers: &[u16], claimants: &[u8], exclusives: &[u8], logs: &'a [u32], session: u8, cell: u32) -> &'a [u32]
