@@ -1,20 +1,45 @@
+// The store: set-up and the calls, on number slices that the caller lends (document 01, "The steps").
+// Each call takes the records of all sixteen sessions and hands them back with its answer. It decides, then carries the plan out.
+ghost use mathlib.Core.Path.{_≡_};
+ghost use mathlib.Core.Bool.{Bool, true, false};
+ghost use Prim.Native.Nat.{ℕ, _+_, _*_, _<_, _≤_};
+ghost use lib.ListN.{length, replicate};
+ghost use Rattle.model.specs.Buffers.{idle, sessionAt, cellAt, lockAt, fits, allFit};
+ghost use Rattle.model.specs.Step.{outcome, taken, setUpTaken, planOf, shown};
+ghost use Rattle.model.specs.declared.Call.the-variants.{Begin, Read, Write, Seal, Advance, Abandon, Peek};
+ghost use Rattle.log.specs.Slots.{part};
+ghost use Rattle.locks.specs.Sweeps.{locksOf};
+ghost use Rattle.decide.specs.Own.{advanceOn};
+ghost use Rattle.store.specs.Lent.{storeOf, carried, Admitted, Handed};
+
+use decide::Due;
+use model::Answer;
+use model::Call;
+use model::Plan;
+use model::Reply;
 use model::Session;
 use model::Sessions;
-use model::Lock;
-use model::Plan;
-use model::Answer;
-use model::Reply;
-use model::Call;
 
+// ---- set-up
+
+// A class byte of at most 15, and a value within its cap.
+fn fits_cap(class: u8, value: u32) -> bool
+    ensures { λ r. ⌜ r ≡ fits class value ⌝ }
+{
+    if 15 < class {
+        return false;
+    }
+    value <= decide::cap(class)
+}
+
+// Each value within the cap of its class.
 fn all_fit(values: &[u32], classes: &[u8]) -> bool
+    requires { ⌜ length (now classes) ≡ length (now values) ⌝ }
+    ensures { λ r. ⌜ r ≡ allFit (now (values .entry)) (now (classes .entry)) ⌝ }
 {
     let mut i = 0;
     while i < values.len() {
-        let class = classes[i];
-        if 15 < class {
-            return false;
-        }
-        if decide::cap(class) < values[i] {
+        if !fits_cap(classes[i], values[i]) {
             return false;
         }
         i += 1;
@@ -22,7 +47,9 @@ fn all_fit(values: &[u32], classes: &[u8]) -> bool
     true
 }
 
+// Every reader set empty.
 fn clear_sets(s: &mut [u16])
+    ensures { λ _. ⌜ now (s .exit) ≡ replicate (length (now (s .entry))) 0 ⌝ }
 {
     let mut i = 0;
     while i < s.len() {
@@ -31,7 +58,9 @@ fn clear_sets(s: &mut [u16])
     }
 }
 
+// Every byte b.
 fn fill_bytes(s: &mut [u8], b: u8)
+    ensures { λ _. ⌜ now (s .exit) ≡ replicate (length (now (s .entry))) b ⌝ }
 {
     let mut i = 0;
     while i < s.len() {
@@ -40,7 +69,9 @@ fn fill_bytes(s: &mut [u8], b: u8)
     }
 }
 
+// Every word 0.
 fn clear_words(s: &mut [u32])
+    ensures { λ _. ⌜ now (s .exit) ≡ replicate (length (now (s .entry))) 0 ⌝ }
 {
     let mut i = 0;
     while i < s.len() {
@@ -49,13 +80,17 @@ fn clear_words(s: &mut [u32])
     }
 }
 
-fn fresh() -> Sessions
+// All sessions idle.
+fn all_idle() -> Sessions
+    ensures { λ r. ⌜ r ≡ record { records = replicate 16 idle } ⌝ }
 {
     let records = [Session { phase: 0, count: 0, next: 0 }; 16];
     Sessions { records }
 }
 
+// Set-up: all sessions idle, all locks empty, all log words 0. 100, 7 or 8.
 pub fn set_up(sessions: Sessions, values: &[u32], classes: &[u8], readers: &mut [u16], claimants: &mut [u8], exclusives: &mut [u8], logs: &mut [u32]) -> Reply
+    ensures { λ r. ⌜ outcome (r .answer) (storeOf (now (values .entry)) (now (classes .entry)) (now (readers .exit)) (now (claimants .exit)) (now (exclusives .exit)) (now (logs .exit)) (r .sessions)) ≡ setUpTaken (storeOf (now (values .entry)) (now (classes .entry)) (now (readers .entry)) (now (claimants .entry)) (now (exclusives .entry)) (now (logs .entry)) sessions) ⌝ }
 {
     if !decide::lengths_fit(values.len(), classes.len(), readers.len(), claimants.len(), exclusives.len(), logs.len()) {
         return Reply { answer: Answer::Refused(7), sessions };
@@ -67,11 +102,15 @@ pub fn set_up(sessions: Sessions, values: &[u32], classes: &[u8], readers: &mut 
     fill_bytes(claimants, 16);
     fill_bytes(exclusives, 0);
     clear_words(logs);
-    let left = fresh();
-    Reply { answer: Answer::Done, sessions: left }
+    let idle = all_idle();
+    Reply { answer: Answer::Done, sessions: idle }
 }
 
+// ---- the calls
+
+// Begin: idle only. The session runs with no entry. 100.
 pub fn begin(sessions: Sessions, values: &[u32], classes: &[u8], readers: &[u16], claimants: &[u8], exclusives: &[u8], logs: &[u32], session: u8) -> Reply
+    ensures { λ r. ⌜ outcome (r .answer) (storeOf (now (values .entry)) (now (classes .entry)) (now (readers .entry)) (now (claimants .entry)) (now (exclusives .entry)) (now (logs .entry)) (r .sessions)) ≡ taken (Begin session) (storeOf (now (values .entry)) (now (classes .entry)) (now (readers .entry)) (now (claimants .entry)) (now (exclusives .entry)) (now (logs .entry)) sessions) ⌝ }
 {
     let n = values.len();
     let refusal = decide::admit(n, classes.len(), readers.len(), claimants.len(), exclusives.len(), logs.len(), session);
@@ -82,7 +121,8 @@ pub fn begin(sessions: Sessions, values: &[u32], classes: &[u8], readers: &[u16]
     let a = 128 * i;
     let e = a + 128;
     let x = sessions.records[i];
-    let turned = decide::tests(&logs[a..e], n, x, 0, 0);
+    let phase = x.phase;
+    let turned = decide::tests(&logs[a..e], n, x, phase == 0);
     if turned != 0 {
         return Reply { answer: Answer::Refused(turned), sessions };
     }
@@ -90,7 +130,9 @@ pub fn begin(sessions: Sessions, values: &[u32], classes: &[u8], readers: &[u16]
     Reply { answer: Answer::Done, sessions: left }
 }
 
+// Read: running only. 101 with a known cell's present value; a new cell is locked and entered, or the session is rolled back, 6.
 pub fn read(sessions: Sessions, values: &[u32], classes: &[u8], readers: &mut [u16], claimants: &mut [u8], exclusives: &mut [u8], logs: &mut [u32], session: u8, cell: u32) -> Reply
+    ensures { λ r. ⌜ outcome (r .answer) (storeOf (now (values .entry)) (now (classes .entry)) (now (readers .exit)) (now (claimants .exit)) (now (exclusives .exit)) (now (logs .exit)) (r .sessions)) ≡ taken (Read session cell) (storeOf (now (values .entry)) (now (classes .entry)) (now (readers .entry)) (now (claimants .entry)) (now (exclusives .entry)) (now (logs .entry)) sessions) ⌝ }
 {
     let n = values.len();
     let refusal = decide::admit(n, classes.len(), readers.len(), claimants.len(), exclusives.len(), logs.len(), session);
@@ -112,7 +154,7 @@ pub fn read(sessions: Sessions, values: &[u32], classes: &[u8], readers: &mut [u
     let count = x.count as usize;
     if let Plan::Enter(_) = p {
         let value = values[cell as usize];
-        locks::put(readers, claimants, exclusives, cell, locks::join(l, session));
+        locks::put(readers, claimants, exclusives, cell, locks::joined(l, session));
         log::append(&mut logs[a..e], count, cell, value);
         let left = sessions.with(i, x.with_entry());
         return Reply { answer: Answer::Value(value), sessions: left };
@@ -122,10 +164,11 @@ pub fn read(sessions: Sessions, values: &[u32], classes: &[u8], readers: &mut [u
     Reply { answer: Answer::Refused(6), sessions: left }
 }
 
+// Write: running only. A new cell is locked and entered as by read; then the entry is updated. 100.
 pub fn write(sessions: Sessions, values: &[u32], classes: &[u8], readers: &mut [u16], claimants: &mut [u8], exclusives: &mut [u8], logs: &mut [u32], session: u8, cell: u32, value: u32) -> Reply
+    ensures { λ r. ⌜ outcome (r .answer) (storeOf (now (values .entry)) (now (classes .entry)) (now (readers .exit)) (now (claimants .exit)) (now (exclusives .exit)) (now (logs .exit)) (r .sessions)) ≡ taken (Write session cell value) (storeOf (now (values .entry)) (now (classes .entry)) (now (readers .entry)) (now (claimants .entry)) (now (exclusives .entry)) (now (logs .entry)) sessions) ⌝ }
 {
-    let n = values.len();
-    let refusal = decide::admit(n, classes.len(), readers.len(), claimants.len(), exclusives.len(), logs.len(), session);
+    let refusal = decide::admit(values.len(), classes.len(), readers.len(), claimants.len(), exclusives.len(), logs.len(), session);
     if refusal != 0 {
         return Reply { answer: Answer::Refused(refusal), sessions };
     }
@@ -135,19 +178,19 @@ pub fn write(sessions: Sessions, values: &[u32], classes: &[u8], readers: &mut [
     let x = sessions.records[i];
     let l = locks::at(&readers[..], &claimants[..], &exclusives[..], cell);
     let p = decide::write(&logs[a..e], classes, x, l, cell, value);
-    if let Plan::Update(k, _) = p {
-        log::update(&mut logs[a..e], k as usize, value);
+    if let Plan::Update(k, v) = p {
+        log::update(&mut logs[a..e], k as usize, v);
         return Reply { answer: Answer::Done, sessions };
     }
     if let Plan::Refuse(number) = p {
         return Reply { answer: Answer::Refused(number), sessions };
     }
     let count = x.count as usize;
-    if let Plan::EnterUpdate(_, _) = p {
+    if let Plan::EnterUpdate(_, v) = p {
         let found = values[cell as usize];
-        locks::put(readers, claimants, exclusives, cell, locks::join(l, session));
+        locks::put(readers, claimants, exclusives, cell, locks::joined(l, session));
         log::append(&mut logs[a..e], count, cell, found);
-        log::update(&mut logs[a..e], count, value);
+        log::update(&mut logs[a..e], count, v);
         let left = sessions.with(i, x.with_entry());
         return Reply { answer: Answer::Done, sessions: left };
     }
@@ -156,7 +199,9 @@ pub fn write(sessions: Sessions, values: &[u32], classes: &[u8], readers: &mut [
     Reply { answer: Answer::Refused(6), sessions: left }
 }
 
+// Seal: running only. The session leaves the readers of each cell entered but not written. 105 with nothing written, else 102.
 pub fn seal(sessions: Sessions, values: &[u32], classes: &[u8], readers: &mut [u16], claimants: &[u8], exclusives: &[u8], logs: &[u32], session: u8) -> Reply
+    ensures { λ r. ⌜ outcome (r .answer) (storeOf (now (values .entry)) (now (classes .entry)) (now (readers .exit)) (now (claimants .entry)) (now (exclusives .entry)) (now (logs .entry)) (r .sessions)) ≡ taken (Seal session) (storeOf (now (values .entry)) (now (classes .entry)) (now (readers .entry)) (now (claimants .entry)) (now (exclusives .entry)) (now (logs .entry)) sessions) ⌝ }
 {
     let n = values.len();
     let refusal = decide::admit(n, classes.len(), readers.len(), claimants.len(), exclusives.len(), logs.len(), session);
@@ -171,7 +216,8 @@ pub fn seal(sessions: Sessions, values: &[u32], classes: &[u8], readers: &mut [u
     if let Plan::Refuse(number) = p {
         return Reply { answer: Answer::Refused(number), sessions };
     }
-    locks::drop_reads(&logs[a..e], x.count as usize, readers, session);
+    let count = x.count as usize;
+    locks::drop_reads(&logs[a..e], count, readers, session);
     if let Plan::CommitReads = p {
         let left = sessions.with(i, x.rested());
         return Reply { answer: Answer::Committed, sessions: left };
@@ -180,23 +226,26 @@ pub fn seal(sessions: Sessions, values: &[u32], classes: &[u8], readers: &mut [u
     Reply { answer: Answer::Sealed, sessions: left }
 }
 
-// A sealed session's step at its cell.
-fn advance_at(sessions: Sessions, values: &mut [u32], readers: &mut [u16], claimants: &mut [u8], exclusives: &mut [u8], logs: &[u32], session: u8, k: usize) -> Reply
+// A sealed session's step at entry k.
+fn advance_at(sessions: Sessions, values: &mut [u32], classes: &[u8], readers: &mut [u16], claimants: &mut [u8], exclusives: &mut [u8], logs: &[u32], session: u8, k: usize) -> Reply
+    requires { ⌜ (Admitted (storeOf (now values) (now classes) (now readers) (now claimants) (now exclusives) (now logs) sessions) session) × (k < sessionAt sessions session .count) × (sessionAt sessions session .phase ≤ 4) ⌝ }
+    ensures { λ r. ⌜ outcome (r .answer) (storeOf (now (values .exit)) (now (classes .entry)) (now (readers .exit)) (now (claimants .exit)) (now (exclusives .exit)) (now (logs .entry)) (r .sessions)) ≡ carried session (advanceOn (part (now (logs .entry)) session) (sessionAt sessions session) (lockAt (locksOf (now (readers .entry)) (now (claimants .entry)) (now (exclusives .entry))) (cellAt (part (now (logs .entry)) session) 0 k)) session k) (storeOf (now (values .entry)) (now (classes .entry)) (now (readers .entry)) (now (claimants .entry)) (now (exclusives .entry)) (now (logs .entry)) sessions) ⌝ }
 {
     let i = session as usize;
     let a = 128 * i;
     let e = a + 128;
     let x = sessions.records[i];
     let log = &logs[a..e];
-    let cell = log[4 * k];
+    let cell = log::cell_at(log, k);
     let l = locks::at(&readers[..], &claimants[..], &exclusives[..], cell);
     let p = decide::advance(log, x, l, session, k);
     if let Plan::Wait(_) = p {
-        locks::put(readers, claimants, exclusives, cell, locks::claim(l, session));
+        locks::put(readers, claimants, exclusives, cell, locks::claimed(l, session));
         return Reply { answer: Answer::Waiting, sessions };
     }
     if let Plan::RollBack = p {
-        locks::roll_back(log, x.count as usize, readers, claimants, exclusives, session);
+        let count = x.count as usize;
+        locks::roll_back(log, count, readers, claimants, exclusives, session);
         let left = sessions.with(i, x.rested());
         return Reply { answer: Answer::Refused(6), sessions: left };
     }
@@ -205,35 +254,20 @@ fn advance_at(sessions: Sessions, values: &mut [u32], readers: &mut [u16], claim
     let answer = h.answer;
     let left = sessions.with(i, y);
     if let Plan::Own(_) = p {
-        locks::put(readers, claimants, exclusives, cell, locks::own(l, session));
+        locks::put(readers, claimants, exclusives, cell, locks::owned(l, session));
         return Reply { answer, sessions: left };
     }
     if let Plan::Publish(_, value) = p {
         values[cell as usize] = value;
         return Reply { answer, sessions: left };
     }
-    locks::put(readers, claimants, exclusives, cell, locks::vacate(l, session));
+    locks::put(readers, claimants, exclusives, cell, locks::vacated(l, session));
     Reply { answer, sessions: left }
 }
 
+// Advance: phases 2 to 4. One written cell is promoted, published or released. 103, 104, 105, or 6.
 pub fn advance(sessions: Sessions, values: &mut [u32], classes: &[u8], readers: &mut [u16], claimants: &mut [u8], exclusives: &mut [u8], logs: &[u32], session: u8) -> Reply
-{
-    let n = values.len();
-    let refusal = decide::admit(n, classes.len(), readers.len(), claimants.len(), exclusives.len(), logs.len(), session);
-    if refusal != 0 {
-        return Reply { answer: Answer::Refused(refusal), sessions };
-    }
-    let i = session as usize;
-    let a = 128 * i;
-    let e = a + 128;
-    let d = decide::due(&logs[a..e], n, sessions.records[i]);
-    match d {
-        decide::Due::Refused(number) => Reply { answer: Answer::Refused(number), sessions },
-        decide::Due::Slot(k) => advance_at(sessions, values, readers, claimants, exclusives, logs, session, k as usize),
-    }
-}
-
-pub fn abandon(sessions: Sessions, values: &[u32], classes: &[u8], readers: &mut [u16], claimants: &mut [u8], exclusives: &mut [u8], logs: &[u32], session: u8) -> Reply
+    ensures { λ r. ⌜ outcome (r .answer) (storeOf (now (values .exit)) (now (classes .entry)) (now (readers .exit)) (now (claimants .exit)) (now (exclusives .exit)) (now (logs .entry)) (r .sessions)) ≡ taken (Advance session) (storeOf (now (values .entry)) (now (classes .entry)) (now (readers .entry)) (now (claimants .entry)) (now (exclusives .entry)) (now (logs .entry)) sessions) ⌝ }
 {
     let n = values.len();
     let refusal = decide::admit(n, classes.len(), readers.len(), claimants.len(), exclusives.len(), logs.len(), session);
@@ -244,16 +278,42 @@ pub fn abandon(sessions: Sessions, values: &[u32], classes: &[u8], readers: &mut
     let a = 128 * i;
     let e = a + 128;
     let x = sessions.records[i];
-    let turned = decide::tests(&logs[a..e], n, x, 1, 2);
+    let due = decide::due_slot(&logs[a..e], n, x);
+    match due {
+        Due::Refused(number) => Reply { answer: Answer::Refused(number), sessions },
+        Due::Slot(k) => advance_at(sessions, values, classes, readers, claimants, exclusives, logs, session, k as usize),
+    }
+}
+
+// Abandon: phases 1 and 2. The session is rolled back. 100.
+pub fn abandon(sessions: Sessions, values: &[u32], classes: &[u8], readers: &mut [u16], claimants: &mut [u8], exclusives: &mut [u8], logs: &[u32], session: u8) -> Reply
+    ensures { λ r. ⌜ outcome (r .answer) (storeOf (now (values .entry)) (now (classes .entry)) (now (readers .exit)) (now (claimants .exit)) (now (exclusives .exit)) (now (logs .entry)) (r .sessions)) ≡ taken (Abandon session) (storeOf (now (values .entry)) (now (classes .entry)) (now (readers .entry)) (now (claimants .entry)) (now (exclusives .entry)) (now (logs .entry)) sessions) ⌝ }
+{
+    let n = values.len();
+    let refusal = decide::admit(n, classes.len(), readers.len(), claimants.len(), exclusives.len(), logs.len(), session);
+    if refusal != 0 {
+        return Reply { answer: Answer::Refused(refusal), sessions };
+    }
+    let i = session as usize;
+    let a = 128 * i;
+    let e = a + 128;
+    let x = sessions.records[i];
+    let phase = x.phase;
+    let turned = decide::tests(&logs[a..e], n, x, (phase == 1) | (phase == 2));
     if turned != 0 {
         return Reply { answer: Answer::Refused(turned), sessions };
     }
-    locks::roll_back(&logs[a..e], x.count as usize, readers, claimants, exclusives, session);
+    let count = x.count as usize;
+    locks::roll_back(&logs[a..e], count, readers, claimants, exclusives, session);
     let left = sessions.with(i, x.rested());
     Reply { answer: Answer::Done, sessions: left }
 }
 
+// ---- peek
+
+// What a peek decides.
 fn peek_plan(sessions: Sessions, values: &[u32], classes: &[u8], readers: &[u16], claimants: &[u8], exclusives: &[u8], logs: &[u32], session: u8, cell: u32) -> Plan
+    ensures { λ r. ⌜ r ≡ planOf (Peek session cell) (storeOf (now (values .entry)) (now (classes .entry)) (now (readers .entry)) (now (claimants .entry)) (now (exclusives .entry)) (now (logs .entry)) sessions) ⌝ }
 {
     let n = values.len();
     let refusal = decide::admit(n, classes.len(), readers.len(), claimants.len(), exclusives.len(), logs.len(), session);
@@ -263,10 +323,13 @@ fn peek_plan(sessions: Sessions, values: &[u32], classes: &[u8], readers: &[u16]
     let i = session as usize;
     let a = 128 * i;
     let e = a + 128;
-    decide::peek(&logs[a..e], n, sessions.records[i], cell)
+    let x = sessions.records[i];
+    decide::peek(&logs[a..e], n, x, cell)
 }
 
+// Peek: running only. One word, the store's own or the log's own; no word where the peek is refused.
 pub fn peek<'a>(sessions: Sessions, values: &'a [u32], classes: &[u8], readers: &[u16], claimants: &[u8], exclusives: &[u8], logs: &'a [u32], session: u8, cell: u32) -> &'a [u32]
+    ensures { λ r. ⌜ Handed (values .entry) (logs .entry) (shown session (planOf (Peek session cell) (storeOf (now (values .entry)) (now (classes .entry)) (now (readers .entry)) (now (claimants .entry)) (now (exclusives .entry)) (now (logs .entry)) sessions))) r ⌝ }
 {
     let p = peek_plan(sessions, values, classes, readers, claimants, exclusives, logs, session, cell);
     if let Plan::ShowStore(_) = p {
@@ -282,7 +345,9 @@ pub fn peek<'a>(sessions: Sessions, values: &'a [u32], classes: &[u8], readers: 
     &values[0..0]
 }
 
+// Peek's twin: 100 or a refusal.
 pub fn peek_number(sessions: Sessions, values: &[u32], classes: &[u8], readers: &[u16], claimants: &[u8], exclusives: &[u8], logs: &[u32], session: u8, cell: u32) -> Reply
+    ensures { λ r. ⌜ outcome (r .answer) (storeOf (now (values .entry)) (now (classes .entry)) (now (readers .entry)) (now (claimants .entry)) (now (exclusives .entry)) (now (logs .entry)) (r .sessions)) ≡ taken (Peek session cell) (storeOf (now (values .entry)) (now (classes .entry)) (now (readers .entry)) (now (claimants .entry)) (now (exclusives .entry)) (now (logs .entry)) sessions) ⌝ }
 {
     let p = peek_plan(sessions, values, classes, readers, claimants, exclusives, logs, session, cell);
     if let Plan::Refuse(number) = p {
@@ -291,7 +356,11 @@ pub fn peek_number(sessions: Sessions, values: &[u32], classes: &[u8], readers: 
     Reply { answer: Answer::Done, sessions }
 }
 
+// ---- any call
+
+// One call of a list.
 pub fn step(call: Call, sessions: Sessions, values: &mut [u32], classes: &[u8], readers: &mut [u16], claimants: &mut [u8], exclusives: &mut [u8], logs: &mut [u32]) -> Reply
+    ensures { λ r. ⌜ outcome (r .answer) (storeOf (now (values .exit)) (now (classes .entry)) (now (readers .exit)) (now (claimants .exit)) (now (exclusives .exit)) (now (logs .exit)) (r .sessions)) ≡ taken call (storeOf (now (values .entry)) (now (classes .entry)) (now (readers .entry)) (now (claimants .entry)) (now (exclusives .entry)) (now (logs .entry)) sessions) ⌝ }
 {
     match call {
         Call::Begin(s) => begin(sessions, &values[..], classes, &readers[..], &claimants[..], &exclusives[..], &logs[..], s),
