@@ -120,8 +120,12 @@ fn withdraw_at(readers: &mut [u16], claimants: &mut [u8], exclusives: &mut [u8],
     requires { ⌜ (session < 16) × (cell < length (now readers)) × (length (now claimants) ≡ length (now readers)) × (length (now exclusives) ≡ length (now readers)) ⌝ }
     ensures { λ _. ⌜ locksOf (now (readers .exit)) (now (claimants .exit)) (now (exclusives .exit)) ≡ lockOn cell (withdraw session) (locksOf (now (readers .entry)) (now (claimants .entry)) (now (exclusives .entry))) ⌝ }
 {
-    let l = at(&readers[..], &claimants[..], &exclusives[..], cell);
-    put(readers, claimants, exclusives, cell, withdrawn(l, session));
+    leave_at(readers, cell, session);
+    let c = cell as usize;
+    if claimants[c] == session {
+        claimants[c] = 16;
+        exclusives[c] = 0;
+    }
 }
 
 // Rolling back: the session withdraws from the cell of each entry.

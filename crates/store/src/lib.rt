@@ -109,13 +109,15 @@ pub fn set_up(sessions: Sessions, values: &[u32], classes: &[u8], readers: &mut 
 // ---- the calls
 
 // Begin: idle only. The session runs with no entry. 100.
-pub fn begin(sessions: Sessions, values: &[u32], classes: &[u8], readers: &[u16], claimants: &[u8], exclusives: &[u8], logs: &[u32], session: u8) -> Reply
+pub fn begin(mut sessions: Sessions, values: &[u32], classes: &[u8], readers: &[u16], claimants: &[u8], exclusives: &[u8], logs: &[u32], session: u8) -> Reply
     ensures { λ r. ⌜ outcome (r .answer) (storeOf (now (values .entry)) (now (classes .entry)) (now (readers .entry)) (now (claimants .entry)) (now (exclusives .entry)) (now (logs .entry)) (r .sessions)) ≡ taken (Begin session) (storeOf (now (values .entry)) (now (classes .entry)) (now (readers .entry)) (now (claimants .entry)) (now (exclusives .entry)) (now (logs .entry)) sessions) ⌝ }
 {
     let n = values.len();
-    let refusal = decide::admit(n, classes.len(), readers.len(), claimants.len(), exclusives.len(), logs.len(), session);
-    if refusal != 0 {
-        return Reply { answer: Answer::Refused(refusal), sessions };
+    if !decide::lengths_fit(n, classes.len(), readers.len(), claimants.len(), exclusives.len(), logs.len()) {
+        return Reply { answer: Answer::Refused(7), sessions };
+    }
+    if 15 < session {
+        return Reply { answer: Answer::Refused(1), sessions };
     }
     let i = session as usize;
     let a = 128 * i;
@@ -126,18 +128,20 @@ pub fn begin(sessions: Sessions, values: &[u32], classes: &[u8], readers: &[u16]
     if turned != 0 {
         return Reply { answer: Answer::Refused(turned), sessions };
     }
-    let left = sessions.with(i, x.begun());
-    Reply { answer: Answer::Done, sessions: left }
+    sessions.records[i] = x.begun();
+    Reply { answer: Answer::Done, sessions }
 }
 
 // Read: running only. 101 with a known cell's present value; a new cell is locked and entered, or the session is rolled back, 6.
-pub fn read(sessions: Sessions, values: &[u32], classes: &[u8], readers: &mut [u16], claimants: &mut [u8], exclusives: &mut [u8], logs: &mut [u32], session: u8, cell: u32) -> Reply
+pub fn read(mut sessions: Sessions, values: &[u32], classes: &[u8], readers: &mut [u16], claimants: &mut [u8], exclusives: &mut [u8], logs: &mut [u32], session: u8, cell: u32) -> Reply
     ensures { λ r. ⌜ outcome (r .answer) (storeOf (now (values .entry)) (now (classes .entry)) (now (readers .exit)) (now (claimants .exit)) (now (exclusives .exit)) (now (logs .exit)) (r .sessions)) ≡ taken (Read session cell) (storeOf (now (values .entry)) (now (classes .entry)) (now (readers .entry)) (now (claimants .entry)) (now (exclusives .entry)) (now (logs .entry)) sessions) ⌝ }
 {
     let n = values.len();
-    let refusal = decide::admit(n, classes.len(), readers.len(), claimants.len(), exclusives.len(), logs.len(), session);
-    if refusal != 0 {
-        return Reply { answer: Answer::Refused(refusal), sessions };
+    if !decide::lengths_fit(n, classes.len(), readers.len(), claimants.len(), exclusives.len(), logs.len()) {
+        return Reply { answer: Answer::Refused(7), sessions };
+    }
+    if 15 < session {
+        return Reply { answer: Answer::Refused(1), sessions };
     }
     let i = session as usize;
     let a = 128 * i;
@@ -156,21 +160,23 @@ pub fn read(sessions: Sessions, values: &[u32], classes: &[u8], readers: &mut [u
         let value = values[cell as usize];
         locks::put(readers, claimants, exclusives, cell, locks::joined(l, session));
         log::append(&mut logs[a..e], count, cell, value);
-        let left = sessions.with(i, x.with_entry());
-        return Reply { answer: Answer::Value(value), sessions: left };
+        sessions.records[i] = x.with_entry();
+        return Reply { answer: Answer::Value(value), sessions };
     }
     locks::roll_back(&logs[a..e], count, readers, claimants, exclusives, session);
-    let left = sessions.with(i, x.rested());
-    Reply { answer: Answer::Refused(6), sessions: left }
+    sessions.records[i] = x.rested();
+    Reply { answer: Answer::Refused(6), sessions }
 }
 
 // Write: running only. A new cell is locked and entered as by read; then the entry is updated. 100.
-pub fn write(sessions: Sessions, values: &[u32], classes: &[u8], readers: &mut [u16], claimants: &mut [u8], exclusives: &mut [u8], logs: &mut [u32], session: u8, cell: u32, value: u32) -> Reply
+pub fn write(mut sessions: Sessions, values: &[u32], classes: &[u8], readers: &mut [u16], claimants: &mut [u8], exclusives: &mut [u8], logs: &mut [u32], session: u8, cell: u32, value: u32) -> Reply
     ensures { λ r. ⌜ outcome (r .answer) (storeOf (now (values .entry)) (now (classes .entry)) (now (readers .exit)) (now (claimants .exit)) (now (exclusives .exit)) (now (logs .exit)) (r .sessions)) ≡ taken (Write session cell value) (storeOf (now (values .entry)) (now (classes .entry)) (now (readers .entry)) (now (claimants .entry)) (now (exclusives .entry)) (now (logs .entry)) sessions) ⌝ }
 {
-    let refusal = decide::admit(values.len(), classes.len(), readers.len(), claimants.len(), exclusives.len(), logs.len(), session);
-    if refusal != 0 {
-        return Reply { answer: Answer::Refused(refusal), sessions };
+    if !decide::lengths_fit(values.len(), classes.len(), readers.len(), claimants.len(), exclusives.len(), logs.len()) {
+        return Reply { answer: Answer::Refused(7), sessions };
+    }
+    if 15 < session {
+        return Reply { answer: Answer::Refused(1), sessions };
     }
     let i = session as usize;
     let a = 128 * i;
@@ -191,22 +197,24 @@ pub fn write(sessions: Sessions, values: &[u32], classes: &[u8], readers: &mut [
         locks::put(readers, claimants, exclusives, cell, locks::joined(l, session));
         log::append(&mut logs[a..e], count, cell, found);
         log::update(&mut logs[a..e], count, v);
-        let left = sessions.with(i, x.with_entry());
-        return Reply { answer: Answer::Done, sessions: left };
+        sessions.records[i] = x.with_entry();
+        return Reply { answer: Answer::Done, sessions };
     }
     locks::roll_back(&logs[a..e], count, readers, claimants, exclusives, session);
-    let left = sessions.with(i, x.rested());
-    Reply { answer: Answer::Refused(6), sessions: left }
+    sessions.records[i] = x.rested();
+    Reply { answer: Answer::Refused(6), sessions }
 }
 
 // Seal: running only. The session leaves the readers of each cell entered but not written. 105 with nothing written, else 102.
-pub fn seal(sessions: Sessions, values: &[u32], classes: &[u8], readers: &mut [u16], claimants: &[u8], exclusives: &[u8], logs: &[u32], session: u8) -> Reply
+pub fn seal(mut sessions: Sessions, values: &[u32], classes: &[u8], readers: &mut [u16], claimants: &[u8], exclusives: &[u8], logs: &[u32], session: u8) -> Reply
     ensures { λ r. ⌜ outcome (r .answer) (storeOf (now (values .entry)) (now (classes .entry)) (now (readers .exit)) (now (claimants .entry)) (now (exclusives .entry)) (now (logs .entry)) (r .sessions)) ≡ taken (Seal session) (storeOf (now (values .entry)) (now (classes .entry)) (now (readers .entry)) (now (claimants .entry)) (now (exclusives .entry)) (now (logs .entry)) sessions) ⌝ }
 {
     let n = values.len();
-    let refusal = decide::admit(n, classes.len(), readers.len(), claimants.len(), exclusives.len(), logs.len(), session);
-    if refusal != 0 {
-        return Reply { answer: Answer::Refused(refusal), sessions };
+    if !decide::lengths_fit(n, classes.len(), readers.len(), claimants.len(), exclusives.len(), logs.len()) {
+        return Reply { answer: Answer::Refused(7), sessions };
+    }
+    if 15 < session {
+        return Reply { answer: Answer::Refused(1), sessions };
     }
     let i = session as usize;
     let a = 128 * i;
@@ -219,15 +227,15 @@ pub fn seal(sessions: Sessions, values: &[u32], classes: &[u8], readers: &mut [u
     let count = x.count as usize;
     locks::drop_reads(&logs[a..e], count, readers, session);
     if let Plan::CommitReads = p {
-        let left = sessions.with(i, x.rested());
-        return Reply { answer: Answer::Committed, sessions: left };
+        sessions.records[i] = x.rested();
+        return Reply { answer: Answer::Committed, sessions };
     }
-    let left = sessions.with(i, x.sealed());
-    Reply { answer: Answer::Sealed, sessions: left }
+    sessions.records[i] = x.sealed();
+    Reply { answer: Answer::Sealed, sessions }
 }
 
 // A sealed session's step at entry k.
-fn advance_at(sessions: Sessions, values: &mut [u32], classes: &[u8], readers: &mut [u16], claimants: &mut [u8], exclusives: &mut [u8], logs: &[u32], session: u8, k: usize) -> Reply
+fn advance_at(mut sessions: Sessions, values: &mut [u32], classes: &[u8], readers: &mut [u16], claimants: &mut [u8], exclusives: &mut [u8], logs: &[u32], session: u8, k: usize) -> Reply
     requires { ⌜ (Admitted (storeOf (now values) (now classes) (now readers) (now claimants) (now exclusives) (now logs) sessions) session) × (k < sessionAt sessions session .count) × (sessionAt sessions session .phase ≤ 4) ⌝ }
     ensures { λ r. ⌜ outcome (r .answer) (storeOf (now (values .exit)) (now (classes .entry)) (now (readers .exit)) (now (claimants .exit)) (now (exclusives .exit)) (now (logs .entry)) (r .sessions)) ≡ carried session (advanceOn (part (now (logs .entry)) session) (sessionAt sessions session) (lockAt (locksOf (now (readers .entry)) (now (claimants .entry)) (now (exclusives .entry))) (cellAt (part (now (logs .entry)) session) 0 k)) session k) (storeOf (now (values .entry)) (now (classes .entry)) (now (readers .entry)) (now (claimants .entry)) (now (exclusives .entry)) (now (logs .entry)) sessions) ⌝ }
 {
@@ -246,23 +254,23 @@ fn advance_at(sessions: Sessions, values: &mut [u32], classes: &[u8], readers: &
     if let Plan::RollBack = p {
         let count = x.count as usize;
         locks::roll_back(log, count, readers, claimants, exclusives, session);
-        let left = sessions.with(i, x.rested());
-        return Reply { answer: Answer::Refused(6), sessions: left };
+        sessions.records[i] = x.rested();
+        return Reply { answer: Answer::Refused(6), sessions };
     }
     let h = decide::handle(log, values.len(), x, cell);
     let y = h.session;
     let answer = h.answer;
-    let left = sessions.with(i, y);
+    sessions.records[i] = y;
     if let Plan::Own(_) = p {
         locks::put(readers, claimants, exclusives, cell, locks::owned(l, session));
-        return Reply { answer, sessions: left };
+        return Reply { answer, sessions };
     }
     if let Plan::Publish(_, value) = p {
         values[cell as usize] = value;
-        return Reply { answer, sessions: left };
+        return Reply { answer, sessions };
     }
     locks::put(readers, claimants, exclusives, cell, locks::vacated(l, session));
-    Reply { answer, sessions: left }
+    Reply { answer, sessions }
 }
 
 // Advance: phases 2 to 4. One written cell is promoted, published or released. 103, 104, 105, or 6.
@@ -270,9 +278,11 @@ pub fn advance(sessions: Sessions, values: &mut [u32], classes: &[u8], readers: 
     ensures { λ r. ⌜ outcome (r .answer) (storeOf (now (values .exit)) (now (classes .entry)) (now (readers .exit)) (now (claimants .exit)) (now (exclusives .exit)) (now (logs .entry)) (r .sessions)) ≡ taken (Advance session) (storeOf (now (values .entry)) (now (classes .entry)) (now (readers .entry)) (now (claimants .entry)) (now (exclusives .entry)) (now (logs .entry)) sessions) ⌝ }
 {
     let n = values.len();
-    let refusal = decide::admit(n, classes.len(), readers.len(), claimants.len(), exclusives.len(), logs.len(), session);
-    if refusal != 0 {
-        return Reply { answer: Answer::Refused(refusal), sessions };
+    if !decide::lengths_fit(n, classes.len(), readers.len(), claimants.len(), exclusives.len(), logs.len()) {
+        return Reply { answer: Answer::Refused(7), sessions };
+    }
+    if 15 < session {
+        return Reply { answer: Answer::Refused(1), sessions };
     }
     let i = session as usize;
     let a = 128 * i;
@@ -286,13 +296,15 @@ pub fn advance(sessions: Sessions, values: &mut [u32], classes: &[u8], readers: 
 }
 
 // Abandon: phases 1 and 2. The session is rolled back. 100.
-pub fn abandon(sessions: Sessions, values: &[u32], classes: &[u8], readers: &mut [u16], claimants: &mut [u8], exclusives: &mut [u8], logs: &[u32], session: u8) -> Reply
+pub fn abandon(mut sessions: Sessions, values: &[u32], classes: &[u8], readers: &mut [u16], claimants: &mut [u8], exclusives: &mut [u8], logs: &[u32], session: u8) -> Reply
     ensures { λ r. ⌜ outcome (r .answer) (storeOf (now (values .entry)) (now (classes .entry)) (now (readers .exit)) (now (claimants .exit)) (now (exclusives .exit)) (now (logs .entry)) (r .sessions)) ≡ taken (Abandon session) (storeOf (now (values .entry)) (now (classes .entry)) (now (readers .entry)) (now (claimants .entry)) (now (exclusives .entry)) (now (logs .entry)) sessions) ⌝ }
 {
     let n = values.len();
-    let refusal = decide::admit(n, classes.len(), readers.len(), claimants.len(), exclusives.len(), logs.len(), session);
-    if refusal != 0 {
-        return Reply { answer: Answer::Refused(refusal), sessions };
+    if !decide::lengths_fit(n, classes.len(), readers.len(), claimants.len(), exclusives.len(), logs.len()) {
+        return Reply { answer: Answer::Refused(7), sessions };
+    }
+    if 15 < session {
+        return Reply { answer: Answer::Refused(1), sessions };
     }
     let i = session as usize;
     let a = 128 * i;
@@ -305,8 +317,8 @@ pub fn abandon(sessions: Sessions, values: &[u32], classes: &[u8], readers: &mut
     }
     let count = x.count as usize;
     locks::roll_back(&logs[a..e], count, readers, claimants, exclusives, session);
-    let left = sessions.with(i, x.rested());
-    Reply { answer: Answer::Done, sessions: left }
+    sessions.records[i] = x.rested();
+    Reply { answer: Answer::Done, sessions }
 }
 
 // ---- peek
@@ -316,9 +328,11 @@ fn peek_plan(sessions: Sessions, values: &[u32], classes: &[u8], readers: &[u16]
     ensures { λ r. ⌜ r ≡ planOf (Peek session cell) (storeOf (now (values .entry)) (now (classes .entry)) (now (readers .entry)) (now (claimants .entry)) (now (exclusives .entry)) (now (logs .entry)) sessions) ⌝ }
 {
     let n = values.len();
-    let refusal = decide::admit(n, classes.len(), readers.len(), claimants.len(), exclusives.len(), logs.len(), session);
-    if refusal != 0 {
-        return Plan::Refuse(refusal);
+    if !decide::lengths_fit(n, classes.len(), readers.len(), claimants.len(), exclusives.len(), logs.len()) {
+        return Plan::Refuse(7);
+    }
+    if 15 < session {
+        return Plan::Refuse(1);
     }
     let i = session as usize;
     let a = 128 * i;
