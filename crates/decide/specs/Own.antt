@@ -27,10 +27,6 @@ unfoldable pub lengthsOn : ℕ → ℕ → ℕ → ℕ → ℕ → ℕ → Bool
 lengthsOn n classes readers claimants exclusives logs =
     leb 1 n && leb n 1024 && eqb classes n && eqb readers n && eqb claimants n && eqb exclusives n && eqb logs 2048
 
--- 7 where the lengths do not fit, 1 where the session is above 15, else 0
-unfoldable pub admitted : Bool → ℕ → ℕ
-admitted fit s = cond fit (cond (ltb s 16) 0 1) 7
-
 -- refusal 9 but for the written cell that phases 2 to 4 ask for, and with it
 unfoldable pub entriesOn : ℕ → List ℕ → Session → Bool
 entriesOn n log x = leb (x .phase) 4 && (eqb (x .phase) 0 || (leb (x .count) 32 && below n (cellAt log 0) (x .count)))

@@ -8,7 +8,7 @@ ghost use lib.ListN.{length};
 ghost use Rattle.model.specs.Search.{below};
 ghost use Rattle.model.specs.Buffers.{cellAt, cap};
 ghost use Rattle.model.specs.Step.{newCell, promotePlan};
-ghost use Rattle.decide.specs.Own.{lengthsOn, admitted, entriesOn, recordOn, tested, readOn, writeCapped, writeOn, sealOn, dueOn, advanceOn, handledOn, peekOn};
+ghost use Rattle.decide.specs.Own.{lengthsOn, entriesOn, recordOn, tested, readOn, writeCapped, writeOn, sealOn, dueOn, advanceOn, handledOn, peekOn};
 
 use model::Answer;
 use model::Lock;
@@ -52,19 +52,6 @@ pub fn lengths_fit(n: usize, classes: usize, readers: usize, claimants: usize, e
         return false;
     }
     logs == 2048
-}
-
-// 7, 1 or 0.
-pub fn admit(n: usize, classes: usize, readers: usize, claimants: usize, exclusives: usize, logs: usize, session: u8) -> u8
-    ensures { λ r. ⌜ r ≡ admitted (lengthsOn n classes readers claimants exclusives logs) session ⌝ }
-{
-    if !lengths_fit(n, classes, readers, claimants, exclusives, logs) {
-        return 7;
-    }
-    if 15 < session {
-        return 1;
-    }
-    0
 }
 
 // Phase at most 4; in phases 1 to 4 at most 32 entries, each of a cell below n.

@@ -2,7 +2,7 @@
 // The definitions over them, document 01's steps and demand 3, are in specs/.
 ghost use mathlib.Core.Path.{_≡_};
 ghost use Prim.Native.Nat.{suc, _<_};
-ghost use Rattle.model.specs.Buffers.{idle, running, withSession, withEntry, moveTo};
+ghost use Rattle.model.specs.Buffers.{idle, running, withEntry, moveTo};
 
 // A session's record: phase (0 idle, 1 running, 2 promoting, 3 publishing, 4 releasing), entry count, next cell.
 pub struct Session {
@@ -114,16 +114,5 @@ impl Session {
         ensures { λ r. ⌜ r ≡ moveTo (suc (self .phase)) 0 self ⌝ }
     {
         Session { phase: self.phase + 1, count: self.count, next: 0 }
-    }
-}
-
-impl Sessions {
-    // The records with one session's anew.
-    pub fn with(mut self, s: usize, x: Session) -> Sessions
-        requires { ⌜ s < 16 ⌝ }
-        ensures { λ r. ⌜ r ≡ withSession self s x ⌝ }
-    {
-        self.records[s] = x;
-        self
     }
 }
