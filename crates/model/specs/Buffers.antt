@@ -7,7 +7,7 @@ use lib.Dec.{leb, ltb, eqb}
 use lib.ListN.{length, getD, set, replicate}
 use lib.Seq.{sets}
 use Rattle.model.specs.Search.{find, lowest, below}
-use Rattle.model.specs.Readers.{odd, joined, left}
+use Rattle.model.specs.Readers.{odd, withReader, withoutReader}
 use Rattle.model.specs.declared.Session.{Session}
 use Rattle.model.specs.declared.Sessions.{Sessions}
 use Rattle.model.specs.declared.Lock.{Lock}
@@ -142,13 +142,13 @@ sweep at f cell (suc k) L = let r = sweep at f cell k L in cond (at (cell k)) (l
 
 -- a session joins and leaves the readers; it leaves with claim and mark gone; the same only where the claim is its own
 unfoldable pub join : ℕ → Lock → Lock
-join s l = record { readers = joined s (l .readers); claimant = l .claimant; exclusive = l .exclusive }
+join s l = record { readers = withReader s (l .readers); claimant = l .claimant; exclusive = l .exclusive }
 
 unfoldable pub leave : ℕ → Lock → Lock
-leave s l = record { readers = left s (l .readers); claimant = l .claimant; exclusive = l .exclusive }
+leave s l = record { readers = withoutReader s (l .readers); claimant = l .claimant; exclusive = l .exclusive }
 
 unfoldable pub vacate : ℕ → Lock → Lock
-vacate s l = record { readers = left s (l .readers); claimant = 16; exclusive = 0 }
+vacate s l = record { readers = withoutReader s (l .readers); claimant = 16; exclusive = 0 }
 
 unfoldable pub withdraw : ℕ → Lock → Lock
 withdraw s l = cond (eqb (l .claimant) s) (vacate s l) (leave s l)

@@ -1,0 +1,300 @@
+-- Each effect of a call keeps the invariant.
+use Prim.Native.Nat.{ℕ, suc, _+_, _*_, _≤_, _<_}
+use native.Mathlib.Omega.{arith}
+use mathlib.Core.Path.{_≡_, refl, sym, _∙_, ap, fun-ext}
+use mathlib.Core.Bool.{true, false}
+use mathlib.Core.Option.{Option, none, some}
+use mathlib.Core.List.{List, [], _∷_}
+use lib.ListN.{length, getD}
+use lib.Seq.{length-sets}
+use Rattle.model.specs.declared.Session.{Session}
+use Rattle.model.specs.declared.Lock.{Lock}
+use Rattle.model.specs.Buffers.{Locks, Store, idle, running, withEntry, Entry, cellAt, entryAt, slotIn, entryOf, lookIn, isDirty, appended, updated, lockAt, lockOn, join, withdraw}
+use Rattle.model.specs.History.{run}
+use Rattle.model.specs.Isolation.{at}
+use Rattle.model.specs.Search.{find}
+use Rattle.model.specs.Step.{rolledBack, change, changeLogs, recordOf}
+use Rattle.model.proofs.Invariant.{roleIn, roleOf, role, Running, Link, Shape, just-map, Inv, Frame, role-other, assemble, quiet}
+use Rattle.model.proofs.Laws.{Long, lock-same, lock-other, long-set, long-sweep, lock-sweep, withdraw-withdraw, grown-other, grown-find, grown-new, grown-old, changed-other, changed-old, changed-new, session-same, session-other, length-records}
+use Rattle.model.proofs.Ledger.{Txn, opened, saw, wroteTo, Commit, Ledger, blank}
+use Rattle.model.proofs.Roles.{Role, out, reading, holds, owns, pends, claims?, Locked, Valued, unowned, kept, joins, withdraws, stays, sees}
+use Rattle.model.proofs.Running.{run-enter, run-note, run-saw}
+use Rattle.model.proofs.Tools.{same, which, nothing, clash, upd}
+use Rattle.model.proofs.View.{slot, look}
+
+-- ---- a session's record
+
+-- τ is σ with the record of session s set to x; the other sessions' words stay
+pub record Acts (n : ℕ) (σ : Store) (s : ℕ) (x : Session) (τ : Store) : Type 0 where
+  pub mine : recordOf τ s ≡ x
+  pub others : (t : ℕ) → (t ≡ s → ⊥) → recordOf τ t ≡ recordOf σ t
+  pub records : length (τ .sessions .records) ≡ 16
+  pub logs : length (τ .lent .logs) ≡ 2048
+  pub notes : (t : ℕ) → (t ≡ s → ⊥) → (m d : ℕ) → m ≤ 32 → lookIn (τ .lent .logs) t m d ≡ lookIn (σ .lent .logs) t m d
+  pub shape : Shape n σ
+  pub lt : s < 16
+
+module _ {n : ℕ} {σ τ : Store} {s : ℕ} {x : Session} (a : Acts n σ s x τ) where
+  pub ses-same : recordOf τ s ≡ x
+  ses-same = a .mine
+
+  pub ses-other : (t : ℕ) → (t ≡ s → ⊥) → recordOf τ t ≡ recordOf σ t
+  ses-other = a .others
+
+  pub frame : Frame s σ τ
+  unfolding look
+  frame = record { ses = ses-other; notes = λ t n. fun-ext (λ c. rw (ses-other t n) (a .notes t n (recordOf σ t .count) c (a .shape .counts t))) }
+
+  pub look-mine : (c : ℕ) → look τ s c ≡ lookIn (τ .lent .logs) s (x .count) c
+  unfolding look
+  look-mine c = rw ses-same
+
+  pub role-mine : (c : ℕ) → role τ c s ≡ roleOf x c (lookIn (τ .lent .logs) s (x .count) c)
+  unfolding role
+  role-mine c = rw (ses-same, look-mine c)
+
+  pub role-gone : x .count ≡ 0 → (c : ℕ) → role τ c s ≡ out
+  unfolding roleOf lookIn slotIn entryOf find
+  role-gone h c = role-mine c ∙ rw h
+
+  pub shaped : length (τ .lent .values) ≡ n → Long n (τ .lent .locks) → x .count ≤ 32 → Shape n τ
+  shaped f l q =
+      record {
+        values = f;
+        records = a .records;
+        long = l;
+        logs = a .logs;
+        counts = λ t. same t s (λ p. rw (p, ses-same) q) (λ n. rw (ses-other t n) (a .shape .counts t));
+      }
+
+  pub link-mine : (start : List ℕ) (ks : List Commit) (place : ℕ) (u : Txn) {ph : ℕ} → x .phase ≡ ph
+      → Link start ks place (x .next) (look τ s) u ph → Link start ks place (recordOf τ s .next) (look τ s) u (recordOf τ s .phase)
+  link-mine start ks place u h l = rw ses-same (rw h l)
+
+  -- a cell at which nothing changed
+  module _ (c : ℕ) (b : role τ c s ≡ role σ c s) where
+    pub locked-still : {l : Lock} → Locked (role σ c) l → Locked (role τ c) l
+    locked-still g = kept s (role-other frame c) b g refl refl (λ h. h)
+
+    pub valued-still : {fig lat : ℕ} → Valued (role σ c) fig lat → Valued (role τ c) fig lat
+    valued-still v = stays s (role-other frame c) b v (λ f e. e) (λ f e. e) refl
+
+-- ---- roll-back
+
+pub unknown : (σ : Store) (s c : ℕ) → find (cellAt (σ .lent .logs) s) (recordOf σ s .count) c ≡ none → role σ c s ≡ out
+unfolding role roleOf look lookIn slotIn entryOf
+unknown σ s c h = rw h
+
+pub idle-out : (σ : Store) (s c : ℕ) → recordOf σ s .phase ≡ 0 → role σ c s ≡ out
+unfolding role roleOf roleIn
+idle-out σ s c h = which (look σ s c) (λ p. rw p) (λ e p. rw (p, h))
+
+pub role-same : (x y : Session) (c : ℕ) (o : Option Entry) → x .phase ≡ y .phase → x .next ≡ y .next → roleOf x c o ≡ roleOf y c o
+unfolding roleOf
+role-same x y c none p q = refl
+role-same x y c (some e) p q = rw (p, q)
+
+pub running-role : (σ : Store) (s c : ℕ) (e : Entry) → recordOf σ s .phase ≡ 1 → look σ s c ≡ some e → role σ c s ≡ reading (e .snapshot)
+unfolding role roleOf roleIn
+running-role σ s c e h p = rw (p, h)
+
+pub look-is : (σ : Store) (s c : ℕ) → look σ s c ≡ lookIn (σ .lent .logs) s (recordOf σ s .count) c
+unfolding look
+look-is σ s c = refl
+
+pub slot-none : (σ : Store) (s c : ℕ) → slot σ s c ≡ none → look σ s c ≡ none
+unfolding look lookIn entryOf slot slotIn
+slot-none σ s c h = rw h
+
+pub slot-some : (σ : Store) (s c : ℕ) {k : ℕ} → slot σ s c ≡ some k → look σ s c ≡ some (entryAt (σ .lent .logs) s k)
+unfolding look lookIn entryOf slot slotIn
+slot-some σ s c h = rw h
+
+-- a role that is out is nothing else
+pub not-in : {X : Role} {P : Type 0} → X ≡ out → holds X ≡ true → P
+not-in {X} e h = absurd (clash (holds X) h (ap holds e))
+
+-- the logs stay
+pub acts : {n : ℕ} {σ : Store} → Shape n σ → (s : ℕ) → s < 16 → (L : Locks) (F : List ℕ) (x : Session)
+    → Acts n σ s x (change σ s L F (σ .lent .logs) x)
+acts {n} {σ} h s lt L F x =
+    record {
+      mine = session-same (σ .sessions) s x (h .records) lt;
+      others = session-other (σ .sessions) s x;
+      records = length-records (σ .sessions) s x ∙ h .records;
+      logs = h .logs;
+      notes = λ t n m d l. refl;
+      shape = h;
+      lt = lt;
+    }
+
+-- the ledger with session s's transaction replaced
+abbrev pub heard : ℕ → Txn → List Commit → Ledger → Ledger
+heard s u ks T = record { place = suc (T .place); mine = upd (T .mine) s u; commits = ks }
+
+module _ {start : List ℕ} {σ : Store} {T : Ledger} (s : ℕ) (lt : s < 16) (I : Inv start σ T) where
+  abbrev x : Session
+  x = recordOf σ s
+
+  -- ---- roll-back
+
+  pub rolls : ((c : ℕ) → pends (role σ c s) ≡ false) → (u : Txn) → u .live ≡ false
+      → Inv start (change σ s (rolledBack (σ .lent) s (recordOf σ s)) (σ .lent .values) (σ .lent .logs) idle) (heard s u (T .commits) T)
+  unfolding rolledBack
+  rolls np u dead =
+      let a = acts (I .shape) s lt (rolledBack (σ .lent) s x) (σ .lent .values) idle in
+      quiet s I (frame a)
+      (shaped a (I .shape .values)
+      (long-sweep (λ c. true) (withdraw s) (cellAt (σ .lent .logs) s) (σ .lent .locks) (length start) (I .shape .long) (x .count)) (omega arith))
+      u
+      (λ c lc.
+      rw (lock-sweep (λ c. true) (withdraw s) (cellAt (σ .lent .logs) s) (σ .lent .locks) (length start) (I .shape .long) (withdraw-withdraw s (λ e. omega arith)) c lc (x .count))
+      (which (find (cellAt (σ .lent .logs) s) (x .count) c)
+      (λ p. rw p (kept s (role-other (frame a) c) (role-gone a refl c) (I .locked c lc) (sym (ap holds (unknown σ s c p))) (sym (ap owns (unknown σ s c p))) (λ h. sym (ap claims? (unknown σ s c p)) ∙ h)))
+      (λ k p. rw p (withdraws s (role-other (frame a) c) (role-gone a refl c) (I .locked c lc) refl))))
+      (λ c lc. stays s (role-other (frame a) c) (role-gone a refl c) (I .valued c lc) (λ f e. not-in (sym e) refl) (λ f e. not-in (sym e) refl) (sym (np c)))
+      (link-mine a start (T .commits) (suc (T .place)) u refl dead)
+
+  -- ---- begin
+
+  pub started : recordOf σ s .phase ≡ 0
+      → Inv start (change σ s (σ .lent .locks) (σ .lent .values) (σ .lent .logs) running) (heard s (opened s (T .place)) (T .commits) T)
+  started h =
+      let a = acts (I .shape) s lt (σ .lent .locks) (σ .lent .values) running in
+      let same-role : (c : ℕ) → role (change σ s (σ .lent .locks) (σ .lent .values) (σ .lent .logs) running) c s ≡ role σ c s = λ c. role-gone a refl c ∙ sym (idle-out σ s c h) in
+      let blank : (c : ℕ) → look (change σ s (σ .lent .locks) (σ .lent .values) (σ .lent .logs) running) s c ≡ none = λ c. look-mine a c ∙ unfold lookIn slotIn entryOf find in refl in
+      quiet s I (frame a) (shaped a (I .shape .values) (I .shape .long) (omega arith)) (opened s (T .place))
+      (λ c lc. locked-still a c (same-role c) (I .locked c lc))
+      (λ c lc. valued-still a c (same-role c) (I .valued c lc))
+      (link-mine a start (T .commits) (suc (T .place)) (opened s (T .place)) refl
+      (record {
+        live = refl;
+        open′ = refl;
+        moved = refl;
+        unsealed = refl;
+        reads = tt;
+        wrote = λ c. rw (blank c);
+        value = λ c e. absurd (clash (isDirty (look (change σ s (σ .lent .locks) (σ .lent .values) (σ .lent .logs) running) s c)) e (rw (blank c)));
+        clean = λ c e p q. nothing (sym (blank c) ∙ p);
+      }))
+
+  -- ---- a figure recorded
+
+  pub tells : (c : ℕ) (e : Entry) → recordOf σ s .phase ≡ 1 → look σ s c ≡ some e → Inv start σ (heard s (saw c (e .current) (T .mine s)) (T .commits) T)
+  tells c e ph h =
+      let run : Running (look σ s) (T .mine s) = rw ph at (I .link s) in
+      quiet s I (record { ses = λ t n. refl; notes = λ t n. refl }) (I .shape) (saw c (e .current) (T .mine s)) (I .locked) (I .valued)
+      (rw ph (run-saw c e run h))
+
+  -- ---- a new entry: no call by itself, but the first half of one
+
+  module _ (c : ℕ) (ph : recordOf σ s .phase ≡ 1) (new : slot σ s c ≡ none) (room : recordOf σ s .count < 32) where
+    abbrev v : ℕ
+    v = getD (σ .lent .values) c 0
+
+    abbrev pub ε : Store
+    ε = change σ s (lockOn c (join s) (σ .lent .locks)) (σ .lent .values) (appended (σ .lent .logs) s (recordOf σ s .count) c (getD (σ .lent .values) c 0)) (withEntry (recordOf σ s))
+
+    enter-acts : Acts (length start) σ s (withEntry x) ε
+    unfolding appended
+    enter-acts =
+        record {
+          mine = session-same (σ .sessions) s (withEntry x) (I .shape .records) lt;
+          others = session-other (σ .sessions) s (withEntry x);
+          records = length-records (σ .sessions) s (withEntry x) ∙ I .shape .records;
+          logs = length-sets (σ .lent .logs) (128 * s + 4 * x .count) (c ∷ v ∷ v ∷ 0 ∷ []) ∙ I .shape .logs;
+          notes = λ t n m d l. grown-other (σ .lent .logs) s (x .count) c v lt room (I .shape .logs) t m d n l;
+          shape = I .shape;
+          lt = lt;
+        }
+
+    pub enter-phase : recordOf ε s .phase ≡ 1
+    enter-phase = ap (λ (z : Session). z .phase) (ses-same enter-acts) ∙ ph
+
+    pub enter-count : recordOf ε s .count ≡ suc (recordOf σ s .count)
+    enter-count = ap (λ (z : Session). z .count) (ses-same enter-acts) ∙ refl
+
+    pub enter-look : look ε s c ≡ some (record { snapshot = getD (σ .lent .values) c 0; current = getD (σ .lent .values) c 0; dirty = false })
+    unfolding appended
+    enter-look = look-mine enter-acts c ∙ grown-new (σ .lent .logs) s (x .count) c v lt room (I .shape .logs) (sym (look-is σ s c) ∙ slot-none σ s c new)
+
+    pub enter-slot : slot ε s c ≡ some (recordOf σ s .count)
+    unfolding appended slot slotIn
+    enter-slot = rw (ses-same enter-acts) (grown-find (σ .lent .logs) s (x .count) c v lt room (I .shape .logs) new)
+
+    old-look : (d : ℕ) → (d ≡ c → ⊥) → look ε s d ≡ look σ s d
+    unfolding appended
+    old-look d n = look-mine enter-acts d ∙ grown-old (σ .lent .logs) s (x .count) c v lt room (I .shape .logs) d n ∙ sym (look-is σ s d)
+
+    there : (d : ℕ) → (d ≡ c → ⊥) → role ε d s ≡ role σ d s
+    unfolding role
+    there d n = rw (ses-same enter-acts, old-look d n) (role-same (withEntry x) x d (look σ s d) refl refl)
+
+    here : role ε c s ≡ reading v
+    here = running-role ε s c (record { snapshot = v; current = v; dirty = false }) enter-phase enter-look
+
+    pub enters : c < length start → lockAt (σ .lent .locks) c .claimant ≡ 16 → Inv start ε T
+    unfolding lockOn
+    enters lc cl =
+        let a = enter-acts in
+        let w = I .shape .long in
+        let l = join s (lockAt (σ .lent .locks) c) in
+        assemble s I (frame a) (shaped a (I .shape .values) (long-set (length start) c l (σ .lent .locks) w) (room))
+        T (λ t n. refl) (λ t n e p. p)
+        (λ d ld.
+        same d c
+        (λ e. rw e (rw (lock-same (length start) c l (σ .lent .locks) w lc) (joins s (role-other (frame a) c) here (I .locked c lc) refl refl cl)))
+        (λ n. rw (lock-other c d l (σ .lent .locks) n) (locked-still a d (there d n) (I .locked d ld))))
+        (λ d ld.
+        same d c
+        (λ e. rw e (sees s (role-other (frame a) c) here (I .valued c lc) refl (unowned (I .locked c lc) cl)))
+        (λ n. valued-still a d (there d n) (I .valued d ld)))
+        (link-mine a start (T .commits) (T .place) (T .mine s) (ph) (run-enter c v (rw ph at (I .link s)) old-look (slot-none σ s c new) enter-look))
+        (I .lawful) (omega arith) (I .old)
+        (just-map σ ε (T .place) (T .commits)
+        (λ t d h.
+        same d c
+        (λ e. rw e (rw (lock-same (length start) c l (σ .lent .locks) w lc) (unfold join in rw e at h)))
+        (λ n. rw (lock-other c d l (σ .lent .locks) n) h))
+        (I .just))
+
+  -- ---- a figure written into an entry
+
+  pub notes : (c k v : ℕ) → recordOf σ s .phase ≡ 1 → slot σ s c ≡ some k
+      → Inv start (changeLogs σ (updated (σ .lent .logs) s k v)) (heard s (wroteTo c v (T .mine s)) (T .commits) T)
+  unfolding updated
+  notes c k v ph h =
+      quiet s I (frame a) (shaped a (I .shape .values) (I .shape .long) (I .shape .counts s)) (wroteTo c v (T .mine s))
+      (λ d ld. locked-still a d (same-role d) (I .locked d ld))
+      (λ d ld. valued-still a d (same-role d) (I .valued d ld))
+      (link-mine a start (T .commits) (suc (T .place)) (wroteTo c v (T .mine s)) ph (run-note c v (rw ph at (I .link s)) old (entryAt (σ .lent .logs) s k) (slot-some σ s c h) newl))
+    where
+      τ : Store
+      τ = changeLogs σ (updated (σ .lent .logs) s k v)
+
+      f : find (cellAt (σ .lent .logs) s) (x .count) c ≡ some k
+      f = unfold slot slotIn in h
+
+      a : Acts (length start) σ s x τ
+      a =
+          record {
+            mine = refl;
+            others = λ t n. refl;
+            records = I .shape .records;
+            logs = length-sets (σ .lent .logs) (128 * s + (4 * k + 2)) (v ∷ 1 ∷ []) ∙ I .shape .logs;
+            notes = λ t n m d l. changed-other (σ .lent .logs) s (x .count) k c v lt (I .shape .counts s) (I .shape .logs) f t m d n l;
+            shape = I .shape;
+            lt = lt;
+          }
+
+      newl : look τ s c ≡ some (record { snapshot = entryAt (σ .lent .logs) s k .snapshot; current = v; dirty = true })
+      newl = look-mine a c ∙ changed-new (σ .lent .logs) s (x .count) k c v lt (I .shape .counts s) (I .shape .logs) f ∙ unfold entryAt in refl
+
+      old : (d : ℕ) → (d ≡ c → ⊥) → look τ s d ≡ look σ s d
+      old d n = look-mine a d ∙ (changed-old (σ .lent .logs) s (x .count) k c v lt (I .shape .counts s) (I .shape .logs) f d n) ∙ sym (look-is σ s d)
+
+      same-role : (d : ℕ) → role τ d s ≡ role σ d s
+      same-role d =
+          same d c
+          (λ e. rw e (running-role τ s c _ (ap (λ (z : Session). z .phase) (ses-same a) ∙ ph) newl ∙ sym (running-role σ s c (entryAt (σ .lent .logs) s k) ph (slot-some σ s c h))))
+          (λ n. unfold role in rw (ses-same a, old d n))

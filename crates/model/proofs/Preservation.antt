@@ -1,0 +1,343 @@
+-- Every call keeps the invariant, so every run does.
+use Prim.Native.Nat.{ℕ, suc, _≤_, _<_}
+use native.Mathlib.Omega.{arith}
+use mathlib.Core.Path.{_≡_, refl, sym, _∙_, ap}
+use mathlib.Core.Bool.{Bool, true, false, cond, not, _&&_, _||_}
+use mathlib.Core.Option.{Option, none, some}
+use mathlib.Core.List.{List, _∷_}
+use lib.Dec.{leb, ltb, eqb}
+use lib.ListN.{length, getD}
+use borrow.Author.Tests.{eqb-true, eqb-false, eq-eqb, ne-eqb, ltb-true, leb-true, not-false}
+use Rattle.model.specs.declared.Session.{Session}
+use Rattle.model.specs.declared.Lock.{Lock}
+use Rattle.model.specs.declared.Call.{Call}
+use Rattle.model.specs.declared.Call.the-variants.{Begin, Read, Write, Seal, Advance, Abandon, Peek}
+use Rattle.model.specs.declared.Plan.{Plan}
+use Rattle.model.specs.declared.Plan.the-variants.{Refuse, Start, Enter, EnterUpdate, RollBack, Cancel, Own, Publish, Release}
+use Rattle.model.specs.Buffers.{Buffers, Store, size, idle, moveTo, Entry, cellAt, entryAt, slotIn, isPublished, targetIn, currentOf, lockAt, cap, fits, lengthsFit}
+use Rattle.model.specs.Isolation.{at}
+use Rattle.model.specs.Readers.{otherReaders}
+use Rattle.model.specs.Search.{some?, find, below, tally}
+use Rattle.model.specs.Step.{rolledBack, handled, change, recordOf, after, releasing, answer, recordFits, guard, known, claimed, newCell, readPlan, writeSlot, writePlan, sealPlan, promotePlan, advancePlan, peekPlan, plan, sessionOf, planOf, step, reply}
+use Rattle.model.proofs.Advancing.{target-some, target-none, late, role-late, more-open, holds-more, last-done, holds-last, waits, publishes-more, publishes-last, releases-more, releases-last}
+use Rattle.model.proofs.Effects.{running-role, slot-none, slot-some, heard, rolls, started, tells, enter-phase, enter-look, enter-slot, enters, notes}
+use Rattle.model.proofs.Invariant.{roleIn, roleOf, role, Running, Promoting, Finishing, Inv, ticks}
+use Rattle.model.proofs.Laws.{find-some, below-is, tally-flat, tally-more}
+use Rattle.model.proofs.Ledger.{Txn, ended, saw, wroteTo, sealedAt, advanced, over, news, Commit, Ledger, asCommit, amend, amendBy, starts, observe}
+use Rattle.model.proofs.Roles.{pends, flip}
+use Rattle.model.proofs.Sealing.{wrote-is, promotes, rests}
+use Rattle.model.proofs.Tools.{split, test, which, nothing, clash, both-l, both-r}
+use Rattle.model.proofs.View.{slot, look, written, target}
+
+and-not : (b : Bool) → (b && not b) ≡ false
+and-not true = refl
+and-not false = refl
+
+now-done : (a b : Bool) → a ≡ true → b ≡ false → (a && not b) ≡ true
+now-done a b p q = rw (p, q)
+
+not-now : (a b : Bool) → a ≡ false → (a && not b) ≡ false
+not-now a b p = rw p
+
+long-done : (a b : Bool) → b ≡ true → (a && not b) ≡ false
+long-done true b q = rw q
+long-done false b q = refl
+
+-- an option, with what it came to, under a function that matches on it
+pub choose {ℓ κ μ} : {A : Type ℓ} {B : Type κ} (P : B → Type μ) (F : Option A → B) (o : Option A) → (o ≡ none → P (F none)) → ((a : A) → o ≡ some a → P (F (some a))) → P (F o)
+choose P F none f g = f refl
+choose P F (some a) f g = g a refl
+
+cond-true {ℓ} : {A : Type ℓ} (b : Bool) (x y : A) → b ≡ true → cond b x y ≡ x
+cond-true true x y h = refl
+cond-true false x y h = absurd (clash false h refl)
+
+cond-false {ℓ} : {A : Type ℓ} (b : Bool) (x y : A) → b ≡ false → cond b x y ≡ y
+cond-false true x y h = absurd (clash true refl h)
+cond-false false x y h = refl
+
+either-r : (a b : Bool) → (a || b) ≡ true → a ≡ false → b ≡ true
+either-r true b h k = absurd (clash true refl k)
+either-r false b h k = h
+
+neither-other : (a b : Bool) → (not a && not b) ≡ false → (a || b) ≡ true
+neither-other true b h = refl
+neither-other false true h = refl
+neither-other false false h = absurd (clash true refl h)
+
+-- ---- the ledger
+
+module _ (s : ℕ) (f : Txn → Txn) (T : Ledger) (l : T .mine s .live ≡ true) where
+  amend-same : (f (T .mine s) .done && not (T .mine s .done)) ≡ false
+      → amend s f T ≡ heard s (f (T .mine s)) (T .commits) T
+  unfolding amend
+  amend-same d = cond-true (T .mine s .live) _ _ l ∙ ap (λ (ks : List Commit). heard s (f (T .mine s)) ks T) (cond-false (f (T .mine s) .done && not (T .mine s .done)) _ _ d)
+
+  amend-commit : (f (T .mine s) .done && not (T .mine s .done)) ≡ true
+      → amend s f T ≡ heard s (f (T .mine s)) (asCommit s (T .place) (f (T .mine s)) ∷ T .commits) T
+  unfolding amend
+  amend-commit d = cond-true (T .mine s .live) _ _ l ∙ ap (λ (ks : List Commit). heard s (f (T .mine s)) ks T) (cond-true (f (T .mine s) .done && not (T .mine s .done)) _ _ d)
+
+-- ---- what a call that is not turned down has passed
+
+pub guarded {ℓ} : (P : Plan → Type ℓ) (B : Buffers) (s : ℕ) (x : Session) (fits : Bool) (p : Plan) → P (Refuse 7) → P (Refuse 1) → P (Refuse 9) → P (Refuse 2)
+    → (s < 16 → recordFits B s x ≡ true → fits ≡ true → P p) → P (guard B s x fits p)
+unfolding guard
+guarded P B s x fits p a b c d f =
+    split P (lengthsFit B)
+    (λ _. split P (ltb s 16) (λ l. split P (recordFits B s x) (λ k. split P fits (λ h. f (ltb-true s 16 l) k h) (λ _. d)) (λ _. c)) (λ _. b))
+    (λ _. a)
+
+-- a call on a cell below n, and a new cell with room in the log and no claimant
+pub cell-known {ℓ} : (P : Plan → Type ℓ) (B : Buffers) (c : ℕ) (p : Plan) → P (Refuse 3) → (c < size B → P p) → P (known B c p)
+unfolding known
+cell-known P B c p r3 f = split P (ltb c (size B)) (λ l. f (ltb-true c (size B) l)) (λ _. r3)
+
+pub cell-new {ℓ} : (P : Plan → Type ℓ) (x : Session) (l : Lock) (p : Plan) → P (Refuse 5) → P RollBack → (x .count < 32 → l .claimant ≡ 16 → P p) → P (newCell x l p)
+unfolding newCell claimed
+cell-new P x l p r5 r6 f =
+    split P (ltb (x .count) 32)
+    (λ n. split P (not (eqb (l .claimant) 16)) (λ _. r6)
+    (λ q. f (ltb-true (x .count) 32 n) (eqb-true (l .claimant) 16 (not-false (eqb (l .claimant) 16) q))))
+    (λ _. r5)
+
+module _ {start : List ℕ} {σ : Store} {T : Ledger} (I : Inv start σ T) (s : ℕ) (k : recordFits (σ .lent) s (recordOf σ s) ≡ true) where
+  inside : (recordOf σ s .phase ≡ 0 → ⊥) → (c : ℕ) (e : Entry) → look σ s c ≡ some e → c < length start
+  unfolding recordFits size
+  inside n c e h =
+      let x = recordOf σ s in
+      let a = leb (x .phase) 4 in
+      let m = leb (x .count) 32 in
+      let w = below (length (σ .lent .values)) (cellAt (σ .lent .logs) s) (x .count) in
+      let b = eqb (x .phase) 0 || (m && w) in
+      let u = both-r m w (either-r (eqb (x .phase) 0) (m && w) (both-r a b (both-l (a && b) (leb (x .phase) 1 || some? (targetIn (σ .lent .logs) s (x .count) (x .next))) k)) (ne-eqb (x .phase) 0 n)) in
+      which (find (cellAt (σ .lent .logs) s) (x .count) c)
+      (λ p. nothing (sym (slot-none σ s c (unfold slot slotIn in p)) ∙ h))
+      (λ j p.
+      let f = find-some (cellAt (σ .lent .logs) s) c (x .count) p in
+      let l = below-is (length (σ .lent .values)) (cellAt (σ .lent .logs) s) (x .count) u j (f .0) in
+      omega (arith, f .1, I .shape .values))
+
+  inside-wrote : (recordOf σ s .phase ≡ 0 → ⊥) → (c : ℕ) → written σ s c ≡ true → c < length start
+  unfolding written
+  inside-wrote n c w = which (look σ s c) (λ p. absurd (clash (isPublished (look σ s c)) w (rw p))) (λ e p. inside n c e p)
+
+  phase-le : recordOf σ s .phase ≤ 4
+  unfolding recordFits
+  phase-le =
+      let x = recordOf σ s in
+      let a = leb (x .phase) 4 in
+      let b = eqb (x .phase) 0 || (leb (x .count) 32 && below (size (σ .lent)) (cellAt (σ .lent .logs) s) (x .count)) in
+      leb-true (x .phase) 4 (both-l a b (both-l (a && b) (leb (x .phase) 1 || some? (targetIn (σ .lent .logs) s (x .count) (x .next))) k))
+
+-- ---- a handled cell
+
+module _ (σ : Store) (s c : ℕ) where
+  handled-more : {d p : ℕ} → target σ s (suc c) ≡ some d → recordOf σ s .phase ≡ p → handled (σ .lent) s c (recordOf σ s) ≡ moveTo p (suc c) (recordOf σ s)
+  unfolding handled target
+  handled-more h ph = rw h (ap (λ (p : ℕ). moveTo p (suc c) (recordOf σ s)) ph)
+
+  handled-rise : {p : ℕ} → target σ s (suc c) ≡ none → recordOf σ s .phase ≡ p → (p ≡ 4 → ⊥) → handled (σ .lent) s c (recordOf σ s) ≡ moveTo (suc p) 0 (recordOf σ s)
+  unfolding handled target
+  handled-rise {p} h ph n =
+      rw h (cond-false (eqb (recordOf σ s .phase) 4) _ _ (ne-eqb (recordOf σ s .phase) 4 (λ e. n (sym ph ∙ e))) ∙ ap (λ (p : ℕ). moveTo (suc p) 0 (recordOf σ s)) ph)
+
+  handled-idle : target σ s (suc c) ≡ none → recordOf σ s .phase ≡ 4 → handled (σ .lent) s c (recordOf σ s) ≡ idle
+  unfolding handled target
+  handled-idle h ph = rw h (cond-true (eqb (recordOf σ s .phase) 4) _ _ (eq-eqb (recordOf σ s .phase) 4 ph))
+
+-- ---- the calls
+
+module _ {first : List ℕ} {σ : Store} {T : Ledger} (I : Inv first σ T) where
+  abbrev Kept : Call → Plan → Type 0
+  Kept k p = Inv first (after (sessionOf k) p σ) (observe (length first) k (answer (sessionOf k) p σ) T)
+
+  roll-back : (s : ℕ) → s < 16 → T .mine s .live ≡ true → ((c : ℕ) → pends (role σ c s) ≡ false)
+      → Inv first (change σ s (rolledBack (σ .lent) s (recordOf σ s)) (σ .lent .values) (σ .lent .logs) idle) (amend s ended T)
+  roll-back s lt l np = rw (amend-same s ended T l (and-not (T .mine s .done))) (rolls s lt I np (ended (T .mine s)) refl)
+
+  calm₁ : (s : ℕ) → recordOf σ s .phase ≡ 1 → (c : ℕ) → pends (role σ c s) ≡ false
+  calm₁ s ph c = which (look σ s c) (λ p. unfold role roleOf in rw p) (λ e p. rw (running-role σ s c e ph p))
+
+  calm₂ : (s : ℕ) → recordOf σ s .phase ≡ 2 → (c : ℕ) → pends (role σ c s) ≡ false
+  unfolding late roleIn
+  calm₂ s ph c = rw (role-late σ s c 0 ph) (test (written σ s c) (λ w. rw w (test (leb (recordOf σ s .next) c) (λ b. rw b) (λ b. rw b))) (λ w. rw w))
+
+  keep-begin : (s : ℕ) → Kept (Begin s) (plan (Begin s) (σ .lent) (recordOf σ s))
+  unfolding plan observe news over amendBy after answer starts
+  keep-begin s =
+      guarded (Kept (Begin s)) (σ .lent) s (recordOf σ s) (eqb (recordOf σ s .phase) 0) Start (ticks I) (ticks I) (ticks I) (ticks I)
+      (λ lt k h. started s lt I (eqb-true (recordOf σ s .phase) 0 h))
+
+  keep-abandon : (s : ℕ) → Kept (Abandon s) (plan (Abandon s) (σ .lent) (recordOf σ s))
+  unfolding plan observe news over amendBy after answer
+  keep-abandon s =
+      guarded (Kept (Abandon s)) (σ .lent) s (recordOf σ s) (eqb (recordOf σ s .phase) 1 || eqb (recordOf σ s .phase) 2) Cancel (ticks I) (ticks I) (ticks I) (ticks I)
+      (λ lt k h.
+      test (eqb (recordOf σ s .phase) 1)
+      (λ q. let ph = eqb-true (recordOf σ s .phase) 1 q in let r : Running (look σ s) (T .mine s) = rw ph at (I .link s) in roll-back s lt (r .live) (calm₁ s ph))
+      (λ q.
+      let ph = eqb-true (recordOf σ s .phase) 2 (either-r (eqb (recordOf σ s .phase) 1) (eqb (recordOf σ s .phase) 2) h q) in
+      let r : Promoting first (T .commits) (T .place) (recordOf σ s .next) (look σ s) (T .mine s) = rw ph at (I .link s) in
+      roll-back s lt (r .live) (calm₂ s ph)))
+
+  -- a call of a running session on a cell: 7, 1, 9, 2 and 3 leave all as before
+  on-cell : (k : Call) (c : ℕ) (p : Plan) → let s = sessionOf k in
+      Kept k (Refuse 7) → Kept k (Refuse 1) → Kept k (Refuse 9) → Kept k (Refuse 2) → Kept k (Refuse 3)
+      → (s < 16 → recordOf σ s .phase ≡ 1 → c < length first → Kept k p)
+      → Kept k (guard (σ .lent) s (recordOf σ s) (eqb (recordOf σ s .phase) 1) (known (σ .lent) c p))
+  unfolding size
+  on-cell k c p r7 r1 r9 r2 r3 f =
+      let s = sessionOf k in
+      guarded (Kept k) (σ .lent) s (recordOf σ s) (eqb (recordOf σ s .phase) 1) (known (σ .lent) c p) r7 r1 r9 r2
+      (λ lt _ h. cell-known (Kept k) (σ .lent) c p r3 (λ l. f lt (eqb-true (recordOf σ s .phase) 1 h) (omega (arith, I .shape .values))))
+
+  keep-peek : (s c : ℕ) → Kept (Peek s c) (plan (Peek s c) (σ .lent) (recordOf σ s))
+  unfolding plan observe news over amendBy after answer peekPlan
+  keep-peek s c =
+      on-cell (Peek s c) c (peekPlan (σ .lent) s c (slotIn (σ .lent .logs) s (recordOf σ s .count) c)) (ticks I) (ticks I) (ticks I) (ticks I) (ticks I)
+      (λ _ _ _.
+      choose (Kept (Peek s c)) (peekPlan (σ .lent) s c) (slotIn (σ .lent .logs) s (recordOf σ s .count) c) (λ _. ticks I)
+      (λ k _. split (Kept (Peek s c)) (entryAt (σ .lent .logs) s k .dirty) (λ _. ticks I) (λ _. ticks I)))
+
+  runs : (s : ℕ) → recordOf σ s .phase ≡ 1 → Running (look σ s) (T .mine s)
+  runs s ph = rw ph at (I .link s)
+
+  -- a cell that is not in the log
+  new-cell : (k : Call) (c : ℕ) (p : Plan) → let s = sessionOf k in
+      Kept k (Refuse 5) → Kept k RollBack
+      → (recordOf σ s .count < 32 → lockAt (σ .lent .locks) c .claimant ≡ 16 → Kept k p)
+      → Kept k (newCell (recordOf σ s) (lockAt (σ .lent .locks) c) p)
+  new-cell k c p r5 r6 f = cell-new (Kept k) (recordOf σ (sessionOf k)) (lockAt (σ .lent .locks) c) p r5 r6 f
+
+  keep-read : (s c : ℕ) → Kept (Read s c) (plan (Read s c) (σ .lent) (recordOf σ s))
+  unfolding plan observe news over amendBy after answer readPlan slot
+  keep-read s c =
+      on-cell (Read s c) c (readPlan (σ .lent) s (recordOf σ s) c (slotIn (σ .lent .logs) s (recordOf σ s .count) c)) (ticks I) (ticks I) (ticks I) (ticks I) (ticks I)
+      (λ lt ph lc.
+      let r = runs s ph in
+      choose (Kept (Read s c)) (readPlan (σ .lent) s (recordOf σ s) c) (slot σ s c)
+      (λ p. new-cell (Read s c) c (Enter c) (ticks I) (roll-back s lt (r .live) (calm₁ s ph))
+      (λ room cl.
+      rw (amend-same s (saw c (getD (σ .lent .values) c 0)) T (r .live) (and-not (T .mine s .done)))
+      (tells s lt (enters s lt I c ph p room lc cl) c _ (enter-phase s lt I c ph p room) (enter-look s lt I c ph p room))))
+      (λ j p.
+      rw (amend-same s (saw c (entryAt (σ .lent .logs) s j .current)) T (r .live) (and-not (T .mine s .done)))
+      (tells s lt I c (entryAt (σ .lent .logs) s j) ph (slot-some σ s c p))))
+
+  keep-write : (s c v : ℕ) → Kept (Write s c v) (plan (Write s c v) (σ .lent) (recordOf σ s))
+  unfolding plan observe news over amendBy after answer writePlan writeSlot slot
+  keep-write s c v =
+      let k = getD (σ .lent .classes) c 0 in
+      on-cell (Write s c v) c (cond (ltb k 16) (writePlan (σ .lent) s (recordOf σ s) c v (cap k)) (Refuse 8)) (ticks I) (ticks I) (ticks I) (ticks I) (ticks I)
+      (λ lt ph lc.
+      let r = runs s ph in
+      split (Kept (Write s c v)) (ltb k 16)
+      (λ _. split (Kept (Write s c v)) (leb v (cap k))
+      (λ _. choose (Kept (Write s c v)) (writeSlot (σ .lent) (recordOf σ s) c v) (slot σ s c)
+      (λ p. new-cell (Write s c v) c (EnterUpdate c v) (ticks I) (roll-back s lt (r .live) (calm₁ s ph))
+      (λ room cl.
+      rw (amend-same s (wroteTo c v) T (r .live) (and-not (T .mine s .done)))
+      (notes s lt (enters s lt I c ph p room lc cl) c (recordOf σ s .count) v (enter-phase s lt I c ph p room) (enter-slot s lt I c ph p room))))
+      (λ j p. rw (amend-same s (wroteTo c v) T (r .live) (and-not (T .mine s .done))) (notes s lt I c j v ph p)))
+      (λ _. ticks I))
+      (λ _. ticks I))
+
+  keep-seal : (s : ℕ) → Kept (Seal s) (plan (Seal s) (σ .lent) (recordOf σ s))
+  unfolding plan observe news over amendBy after answer target sealPlan
+  keep-seal s =
+      guarded (Kept (Seal s)) (σ .lent) s (recordOf σ s) (eqb (recordOf σ s .phase) 1) (sealPlan (targetIn (σ .lent .logs) s (recordOf σ s .count) 0)) (ticks I) (ticks I) (ticks I) (ticks I)
+      (λ lt k h.
+      let ph = eqb-true (recordOf σ s .phase) 1 h in
+      let r = runs s ph in
+      let non : recordOf σ s .phase ≡ 0 → ⊥ = λ e. omega arith in
+      let ins = inside I s k non in
+      choose (Kept (Seal s)) sealPlan (target σ s 0)
+      (λ p.
+      let dry : (c : ℕ) → written σ s c ≡ false = λ c. flip (written σ s c) (λ w. omega (arith, target-none σ s 0 p c w)) in
+      let e : tally (T .mine s .wrote) (length first) ≡ 0 =
+      tally-flat (T .mine s .wrote) 0 (length first) (omega arith) (λ c _ _. wrote-is s lt I ph ins c ∙ dry c) ∙ unfold tally in refl in
+      rw (amend-commit s (λ t. ended (sealedAt (length first) (T .place) t)) T (r .live) (rw (eq-eqb (tally (T .mine s .wrote) (length first)) 0 e, r .open′)))
+      (rests s lt I ph ins dry))
+      (λ c p.
+      let w = target-some σ s 0 p .1 in
+      let lc = inside-wrote I s k non c w in
+      rw (amend-same s (sealedAt (length first) (T .place)) T (r .live)
+      (rw (ne-eqb (tally (T .mine s .wrote) (length first)) 0
+      (λ e. omega (arith, tally-more (T .mine s .wrote) 0 (length first) c (omega arith) lc (wrote-is s lt I ph ins c ∙ w))))))
+      (promotes s lt I ph ins c lc w)))
+
+  module _ (s : ℕ) (lt : s < 16) (k : recordFits (σ .lent) s (recordOf σ s) ≡ true) (late′ : 2 ≤ recordOf σ s .phase) (c : ℕ) (tgt : target σ s (recordOf σ s .next) ≡ some c) where
+    ins : (c : ℕ) → written σ s c ≡ true → c < length first
+    ins = inside-wrote I s k (λ e. omega arith)
+
+    abbrev D : Bool
+    D = advanced (length first) (T .place) (T .mine s) .done
+
+    keep-own : recordOf σ s .phase ≡ 2 → otherReaders s (lockAt (σ .lent .locks) c .readers) ≡ 0 → Kept (Advance s) (Own c)
+    unfolding observe news over amendBy after answer
+    keep-own ph al =
+        let r : Promoting first (T .commits) (T .place) (recordOf σ s .next) (look σ s) (T .mine s) = rw ph at (I .link s) in
+        which (target σ s (suc c))
+        (λ p.
+        rw (handled-rise σ s c p ph (λ e. omega arith))
+        (rw (amend-commit s (advanced (length first) (T .place)) T (r .live) (now-done D (T .mine s .done) (last-done s lt I ins c tgt ph al p) (r .open′)))
+        (holds-last s lt I ins c tgt ph al p)))
+        (λ d p.
+        rw (handled-more σ s c p ph)
+        (rw (amend-same s (advanced (length first) (T .place)) T (r .live) (not-now D (T .mine s .done) (more-open s lt I ins c tgt ph al p)))
+        (holds-more s lt I ins c tgt ph al p)))
+
+    module _ (r : Finishing (T .mine s)) where
+      on-103 : amend s (advanced (length first) (T .place)) T ≡ heard s (advanced (length first) (T .place) (T .mine s)) (T .commits) T
+      on-103 = amend-same s (advanced (length first) (T .place)) T (r .live) (long-done D (T .mine s .done) (r .done))
+
+      keep-publish : recordOf σ s .phase ≡ 3 → Kept (Advance s) (Publish c (currentOf (look σ s c)))
+      unfolding observe news over amendBy after answer
+      keep-publish ph =
+          which (target σ s (suc c))
+          (λ p. rw (handled-rise σ s c p ph (λ e. omega arith)) (rw on-103 (publishes-last s lt I ins c tgt r ph p)))
+          (λ d p. rw (handled-more σ s c p ph) (rw on-103 (publishes-more s lt I ins c tgt r ph)))
+
+      keep-release : recordOf σ s .phase ≡ 4 → Kept (Advance s) (Release c)
+      unfolding observe news over amendBy after answer releasing target
+      keep-release ph =
+          which (target σ s (suc c))
+          (λ p. rw (handled-idle σ s c p ph) (rw p (rw (amend-same s ended T (r .live) (and-not (T .mine s .done))) (releases-last s lt I ins c tgt r ph p))))
+          (λ d p. rw (handled-more σ s c p ph) (rw p (rw on-103 (releases-more s lt I ins c tgt r ph))))
+
+  keep-advance : (s : ℕ) → Kept (Advance s) (plan (Advance s) (σ .lent) (recordOf σ s))
+  unfolding plan observe news over amendBy after answer advancePlan promotePlan claimed target
+  keep-advance s =
+      guarded (Kept (Advance s)) (σ .lent) s (recordOf σ s) (leb 2 (recordOf σ s .phase)) (advancePlan (σ .lent) s (recordOf σ s) (targetIn (σ .lent .logs) s (recordOf σ s .count) (recordOf σ s .next))) (ticks I) (ticks I) (ticks I) (ticks I)
+      (λ lt k h.
+      let two = leb-true 2 (recordOf σ s .phase) h in
+      choose (Kept (Advance s)) (advancePlan (σ .lent) s (recordOf σ s)) (target σ s (recordOf σ s .next)) (λ _. ticks I)
+      (λ c tgt.
+      split (Kept (Advance s)) (eqb (recordOf σ s .phase) 2)
+      (λ q.
+      let ph = eqb-true (recordOf σ s .phase) 2 q in
+      let r : Promoting first (T .commits) (T .place) (recordOf σ s .next) (look σ s) (T .mine s) = rw ph at (I .link s) in
+      let l = lockAt (σ .lent .locks) c in
+      split (Kept (Advance s)) (not (eqb (l .claimant) 16) && not (eqb (l .claimant) s))
+      (λ _. roll-back s lt (r .live) (calm₂ s ph))
+      (λ cl. split (Kept (Advance s)) (eqb (otherReaders s (l .readers)) 0)
+      (λ z. keep-own s lt k two c tgt ph (eqb-true (otherReaders s (l .readers)) 0 z))
+      (λ _. waits s lt I (ins s lt k two c tgt) c tgt ph (neither-other (eqb (l .claimant) 16) (eqb (l .claimant) s) cl))))
+      (λ q. split (Kept (Advance s)) (eqb (recordOf σ s .phase) 3)
+      (λ q′. let ph = eqb-true (recordOf σ s .phase) 3 q′ in unfold look in keep-publish s lt k two c tgt (rw ph at (I .link s)) ph)
+      (λ q′.
+      let a = eqb-false (recordOf σ s .phase) 2 q in
+      let b = eqb-false (recordOf σ s .phase) 3 q′ in
+      let ph : recordOf σ s .phase ≡ 4 = omega (arith, phase-le I s k) in
+      keep-release s lt k two c tgt (rw ph at (I .link s)) ph))))
+
+  pub keep : (k : Call) → Inv first (step k σ) (observe (length first) k (reply k σ) T)
+  unfolding step reply planOf
+  keep (Begin s) = keep-begin s
+  keep (Read s c) = keep-read s c
+  keep (Write s c v) = keep-write s c v
+  keep (Seal s) = keep-seal s
+  keep (Advance s) = keep-advance s
+  keep (Abandon s) = keep-abandon s
+  keep (Peek s c) = keep-peek s c

@@ -1,0 +1,55 @@
+-- A running session's notes and its transaction, as the calls change both.
+use Prim.Native.Nat.{ℕ}
+use mathlib.Core.Path.{_≡_, refl, sym, _∙_, ap}
+use mathlib.Core.Bool.{true, false}
+use mathlib.Core.Option.{Option, none, some}
+use Rattle.model.specs.Buffers.{Entry, isDirty}
+use Rattle.model.specs.History.{ReadOf}
+use Rattle.model.specs.Isolation.{All, at}
+use Rattle.model.proofs.Invariant.{all-map, Running}
+use Rattle.model.proofs.Ledger.{Txn, saw, wroteTo}
+use Rattle.model.proofs.Tools.{same, split, nothing, clash, upd-same, upd-other}
+
+module _ {f g : ℕ → Option Entry} {t : Txn} (c v : ℕ) (R : Running f t) (o : (d : ℕ) → (d ≡ c → ⊥) → g d ≡ f d) where
+  pub run-enter : f c ≡ none → g c ≡ some (record { snapshot = v; current = v; dirty = false }) → Running g t
+  run-enter h k =
+      record {
+        live = R .live;
+        open′ = R .open′;
+        moved = R .moved;
+        unsealed = R .unsealed;
+        wrote = λ d. same d c (λ e. rw (e, k) (R .wrote c ∙ rw h)) (λ n. rw (o d n) (R .wrote d));
+        value = λ d. same d c (λ e. rw (e, k) (λ q. absurd (clash false q refl))) (λ n. rw (o d n) (R .value d));
+        reads = all-map (λ r x. same (r .cell) c (λ e. nothing (sym h ∙ rw e at (x .1))) (λ n. (x .0, o (r .cell) n ∙ x .1, x .2))) (t .reads) (R .reads);
+        clean = λ d. same d c (λ e. rw (e, k) (λ y p q. cc)) (λ n. rw (o d n) (R .clean d));
+      }
+
+  pub run-note : (e : Entry) → f c ≡ some e → g c ≡ some (record { snapshot = e .snapshot; current = v; dirty = true }) → Running g (wroteTo c v t)
+  run-note e h k =
+      record {
+        live = R .live;
+        open′ = R .open′;
+        moved = R .moved;
+        unsealed = R .unsealed;
+        wrote = λ d. same d c (λ w. rw (w, k, upd-same (t .wrote) c true)) (λ n. rw (o d n, upd-other (t .wrote) c true d n) (R .wrote d));
+        value = λ d. same d c (λ w. rw (w, k, upd-same (t .value) c v) (λ q. refl)) (λ n. rw (o d n, upd-other (t .value) c v d n) (R .value d));
+        reads = all-map (λ r x. same (r .cell) c
+            (λ w. (record { snapshot = e .snapshot; current = v; dirty = true }, rw w k, cc (x .1, x .2)))
+            (λ n. (x .0, o (r .cell) n ∙ x .1, x .2))) (t .reads) (R .reads);
+        clean = λ d. same d c (λ e. rw (e, k) (λ y p q. cc)) (λ n. rw (o d n) (R .clean d));
+      }
+
+pub run-saw : {f : ℕ → Option Entry} {t : Txn} (c : ℕ) (e : Entry) → Running f t → f c ≡ some e → Running f (saw c (e .current) t)
+run-saw {f} {t} c e R h =
+    record {
+      live = R .live;
+      open′ = R .open′;
+      moved = R .moved;
+      unsealed = R .unsealed;
+      wrote = R .wrote;
+      value = R .value;
+      clean = R .clean;
+      reads = split (All (λ (r : ReadOf). (y : Entry) × (f (r .cell) ≡ some y) × (y .snapshot ≡ r .value))) (t .wrote c)
+          (λ w. R .reads)
+          (λ w. ((e, h, sym (R .clean c e h (sym (ap isDirty h) ∙ sym (R .wrote c) ∙ w))), R .reads));
+    }
