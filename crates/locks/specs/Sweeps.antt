@@ -5,7 +5,7 @@ use mathlib.Core.Bool.{Bool, true, false, cond, not}
 use mathlib.Core.List.{List}
 use lib.ListN.{length, getD, set}
 use Rattle.model.specs.Search.{below}
-use Rattle.model.specs.Readers.{member, joined, left}
+use Rattle.model.specs.Readers.{member, withReader, withoutReader}
 use Rattle.model.specs.Buffers.{Locks, cellAt, entryAt, publishes, publishesIn, sweep, leave, withdraw}
 
 abbrev pub locksOf : List ℕ → List ℕ → List ℕ → Locks
@@ -34,7 +34,7 @@ unfoldable pub marked : List ℕ → ℕ → Bool
 marked seen c = member (getD seen (c / 64) 0) (c % 64)
 
 unfoldable pub mark : List ℕ → ℕ → List ℕ
-mark seen c = set seen (c / 64) (joined (c % 64) (getD seen (c / 64) 0))
+mark seen c = set seen (c / 64) (withReader (c % 64) (getD seen (c / 64) 0))
 
 -- one entry of the sweep at sealing: a cell seen before is passed over; of the others those that publish keep their readers
 unfoldable pub droppedSeen : List ℕ → ℕ → List ℕ → List ℕ
@@ -43,4 +43,4 @@ droppedSeen log k seen = cond (marked seen (cellAt log 0 k)) seen (mark seen (ce
 unfoldable pub droppedAt : List ℕ → ℕ → ℕ → List ℕ → List ℕ → List ℕ
 droppedAt log k s seen R =
     cond (marked seen (cellAt log 0 k)) R
-    (cond (publishes (entryAt log 0 k)) R (set R (cellAt log 0 k) (left s (getD R (cellAt log 0 k) 0))))
+    (cond (publishes (entryAt log 0 k)) R (set R (cellAt log 0 k) (withoutReader s (getD R (cellAt log 0 k) 0))))

@@ -5,7 +5,7 @@ ghost use mathlib.Core.Bool.{Bool, true, false, cond};
 ghost use Prim.Native.Nat.{ℕ, _+_, _*_, _<_, _≤_};
 ghost use lib.Dec.{eqb};
 ghost use lib.ListN.{length, getD, set};
-ghost use Rattle.model.specs.Readers.{joined, left, otherReaders};
+ghost use Rattle.model.specs.Readers.{withReader, withoutReader, otherReaders};
 ghost use Rattle.model.specs.Buffers.{cellAt, entryAt, publishes, lockAt, setLock, lockOn, join, leave, vacate, withdraw, claim, own};
 ghost use Rattle.locks.specs.Sweeps.{locksOf, Swept, rolledBackIn, DropsReads, marked, mark, droppedSeen, droppedAt};
 
@@ -16,7 +16,7 @@ use model::Lock;
 // A session joins the readers.
 pub fn with_reader(readers: u16, session: u8) -> u16
     requires { ⌜ session < 16 ⌝ }
-    ensures { λ r. ⌜ r ≡ joined session readers ⌝ }
+    ensures { λ r. ⌜ r ≡ withReader session readers ⌝ }
 {
     readers | (1u16 << session)
 }
@@ -24,7 +24,7 @@ pub fn with_reader(readers: u16, session: u8) -> u16
 // A session leaves the readers.
 pub fn without_reader(readers: u16, session: u8) -> u16
     requires { ⌜ session < 16 ⌝ }
-    ensures { λ r. ⌜ r ≡ left session readers ⌝ }
+    ensures { λ r. ⌜ r ≡ withoutReader session readers ⌝ }
 {
     readers & !(1u16 << session)
 }
@@ -166,7 +166,7 @@ fn put_mark(seen: &mut [u64; 16], cell: u32)
 // The session leaves the readers of one cell.
 fn leave_at(readers: &mut [u16], cell: u32, session: u8)
     requires { ⌜ (session < 16) × (cell < length (now readers)) ⌝ }
-    ensures { λ _. ⌜ now (readers .exit) ≡ set (now (readers .entry)) cell (left session (getD (now (readers .entry)) cell 0)) ⌝ }
+    ensures { λ _. ⌜ now (readers .exit) ≡ set (now (readers .entry)) cell (withoutReader session (getD (now (readers .entry)) cell 0)) ⌝ }
 {
     let c = cell as usize;
     let set = readers[c];

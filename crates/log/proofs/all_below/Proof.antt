@@ -1,3 +1,13 @@
+-- The loop keeps that the cells so far are below n; it ends at one that is not, or past the last.
+use Prim.Native.Nat.{_≤_, _-_}
+use mathlib.Core.Path.{_≡_, refl, sym}
+use mathlib.Core.Bool.{true}
+use native.Mathlib.Omega.{arith}
+use native.Mathlib.Numerals.{add-one}
+use borrow.Author.Needs.{needs}
+use Rattle.model.specs.Search.{below}
+use Rattle.model.specs.Buffers.{cellAt}
+use Rattle.log.proofs.Searches.{below-stop, below-more}
 use Rattle.log.proofs.all_below.Statement.{statement}
 use Rattle.log.proofs.all_below.Tie as tie
 use Rattle.log.proofs.all_below.Reads as reads
@@ -5,38 +15,34 @@ use Rattle.log.proofs.all_below.Lts as lts
 use Rattle.log.proofs.cell_at.Reads as cell-at-reads
 
 abbrev Inv-loop : tie.InvT-loop
-Inv-loop log count n i₀ i = ?
+Inv-loop log count n i₀ i = (i ≤ count) × (below n (cellAt log 0) i ≡ true)
 
 abbrev μ-loop : tie.MeasureT-loop
-μ-loop log count n i₀ i = ?
+μ-loop log count n i₀ i = count - i
 
--- src/lib.rt:64:5
 loop-holds : tie.Need-loop-holds Inv-loop μ-loop
-loop-holds c = ?
+unfolding below
+loop-holds c = (omega arith, refl)
 
--- src/lib.rt:65:17
 cell-at-requires : tie.Need-cell-at-requires Inv-loop μ-loop
-cell-at-requires c κs = ?
+cell-at-requires c κs = omega arith
 
--- src/lib.rt:66:13
 returns : tie.Need-returns Inv-loop μ-loop
-returns c = ?
+returns c = sym (below-stop _ (cellAt _ 0) (c .before .before .before .loop .i) _ (rw (← c .before .cell-at .ensures) (c .if1 .taken)) (c .before .before .loop-test .taken))
 
--- src/lib.rt:68:9
 add-i : tie.Need-add-i Inv-loop μ-loop
-add-i c = ?
+add-i c = omega arith
 
--- src/lib.rt:64:5
 loop-less : tie.Need-loop-less Inv-loop μ-loop
-loop-less c = ?
+loop-less c = omega arith
 
--- src/lib.rt:64:5
 loop-again : tie.Need-loop-again Inv-loop μ-loop
-loop-again c = ?
+loop-again c = (omega arith, rw add-one (below-more _ (cellAt _ 0) _ (c .before .before .before .loop .inv .1) (rw (← c .before .cell-at .ensures) (c .if1 .left))))
 
--- src/lib.rt:59:1
 returns-2 : tie.Need-returns-2 Inv-loop μ-loop
-returns-2 c = ?
+returns-2 c =
+    let e : c .before .loop .i ≡ c .before .before .before .args .count = omega arith in
+    sym (rw e at (c .before .loop .inv .1))
 
 pub all-below-spec : {M : Type 1} → statement M
 all-below-spec =

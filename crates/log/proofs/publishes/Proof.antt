@@ -1,3 +1,5 @@
+-- In the base an entry publishes where it is written.
+use Rattle.model.specs.Buffers.{publishes}
 use borrow.Author.Needs.{needs}
 use Rattle.log.proofs.publishes.Statement.{statement}
 use Rattle.log.proofs.publishes.Tie as tie
@@ -5,13 +7,12 @@ use Rattle.log.proofs.publishes.Reads as reads
 use Rattle.log.proofs.publishes.Lts as lts
 use Rattle.log.proofs.dirty.Reads as dirty-reads
 
--- src/lib.rt:40:5
 dirty-requires : tie.Need-dirty-requires
 dirty-requires c κs = search needs
 
--- src/lib.rt:36:1
 returns : tie.Need-returns
-returns c = ?
+unfolding publishes
+returns c = c .dirty .ensures
 
 pub publishes-spec : {M : Type 1} → statement M
 publishes-spec = tie.close (tie.spec dirty-requires returns)
