@@ -1,3 +1,6 @@
+use Prim.Native.Nat.{_≤_, _-_}
+use mathlib.Core.Path.{_≡_}
+use Rattle.log.specs.Slots.{lowestOwn}
 use Rattle.log.proofs.lowest_own.Statement.{statement}
 use Rattle.log.proofs.lowest_own.Tie as tie
 use Rattle.log.proofs.lowest_own.Reads as reads
@@ -5,10 +8,10 @@ use Rattle.log.proofs.lowest_own.Lts as lts
 use Rattle.log.proofs.lower.Reads as lower-reads
 
 abbrev Inv-loop : tie.InvT-loop
-Inv-loop log count n from i₀ held₀ i held = ?
+Inv-loop log count n from i₀ held₀ i held = (i ≤ count) × (held ≡ lowestOwn log n from i)
 
 abbrev μ-loop : tie.MeasureT-loop
-μ-loop log count n from i₀ held₀ i held = ?
+μ-loop log count n from i₀ held₀ i held = count - i
 
 -- src/lib.rt:98:9
 loop-holds : tie.Need-loop-holds Inv-loop μ-loop
