@@ -4,17 +4,18 @@ ghost use mathlib.Core.Path.{_≡_};
 ghost use mathlib.Core.Bool.{Bool, true, false};
 ghost use Prim.Native.Nat.{ℕ, _+_, _*_, _<_, _≤_};
 ghost use lib.ListN.{length, replicate};
-ghost use Rattle.model.specs.Buffers.{idle, sessionAt, cellAt, lockAt, fits, allFit};
+ghost use Rattle.model.specs.Buffers.{idle, sessionAt, cellAt, lockAt, lockOn, join, appended, fits, allFit};
 ghost use Rattle.model.specs.Step.{outcome, taken, setUpTaken, planOf, shown};
 ghost use Rattle.model.specs.declared.Call.the-variants.{Begin, Read, Write, Seal, Advance, Abandon, Peek};
 ghost use Rattle.log.specs.Slots.{part};
 ghost use Rattle.locks.specs.Sweeps.{locksOf};
 ghost use Rattle.decide.specs.Own.{advanceOn};
-ghost use Rattle.store.specs.Lent.{storeOf, carried, Admitted, Handed};
+ghost use Rattle.store.specs.Lent.{storeOf, carried, Sized, Admitted, Handed};
 
 use decide::Due;
 use model::Answer;
 use model::Call;
+use model::Lock;
 use model::Plan;
 use model::Reply;
 use model::Session;
@@ -132,17 +133,21 @@ pub fn begin(mut sessions: Sessions, values: &[u32], classes: &[u8], readers: &[
     Reply { answer: Answer::Done, sessions }
 }
 
-// Read: running only. 101 with a known cell's present value; a new cell is locked and entered, or the session is rolled back, 6.
-pub fn read(mut sessions: Sessions, values: &[u32], classes: &[u8], readers: &mut [u16], claimants: &mut [u8], exclusives: &mut [u8], logs: &mut [u32], session: u8, cell: u32) -> Reply
+// A new cell is locked and entered: the session joins its readers, and entry count holds the value.
+fn enter(readers: &mut [u16], claimants: &mut [u8], exclusives: &mut [u8], log: &mut [u32], count: usize, l: Lock, session: u8, cell: u32, value: u32)
+    requires { ⌜ (session < 16) × (cell < length (now readers)) × (length (now claimants) ≡ length (now readers)) × (length (now exclusives) ≡ length (now readers)) × (4 * count + 3 < length (now log)) × (l ≡ lockAt (locksOf (now readers) (now claimants) (now exclusives)) cell) ⌝ }
+    ensures { λ _. ⌜ (locksOf (now (readers .exit)) (now (claimants .exit)) (now (exclusives .exit)) ≡ lockOn cell (join session) (locksOf (now (readers .entry)) (now (claimants .entry)) (now (exclusives .entry)))) × (now (log .exit) ≡ appended (now (log .entry)) 0 count cell value) ⌝ }
+{
+    locks::put(readers, claimants, exclusives, cell, locks::joined(l, session));
+    log::append(log, count, cell, value);
+}
+
+// Read, once the lengths and the session fit.
+fn read_as(mut sessions: Sessions, values: &[u32], classes: &[u8], readers: &mut [u16], claimants: &mut [u8], exclusives: &mut [u8], logs: &mut [u32], session: u8, cell: u32) -> Reply
+    requires { ⌜ Sized (storeOf (now values) (now classes) (now readers) (now claimants) (now exclusives) (now logs) sessions) session ⌝ }
     ensures { λ r. ⌜ outcome (r .answer) (storeOf (now (values .entry)) (now (classes .entry)) (now (readers .exit)) (now (claimants .exit)) (now (exclusives .exit)) (now (logs .exit)) (r .sessions)) ≡ taken (Read session cell) (storeOf (now (values .entry)) (now (classes .entry)) (now (readers .entry)) (now (claimants .entry)) (now (exclusives .entry)) (now (logs .entry)) sessions) ⌝ }
 {
     let n = values.len();
-    if !decide::lengths_fit(n, classes.len(), readers.len(), claimants.len(), exclusives.len(), logs.len()) {
-        return Reply { answer: Answer::Refused(7), sessions };
-    }
-    if 15 < session {
-        return Reply { answer: Answer::Refused(1), sessions };
-    }
     let i = session as usize;
     let a = 128 * i;
     let e = a + 128;
@@ -158,8 +163,7 @@ pub fn read(mut sessions: Sessions, values: &[u32], classes: &[u8], readers: &mu
     let count = x.count as usize;
     if let Plan::Enter(_) = p {
         let value = values[cell as usize];
-        locks::put(readers, claimants, exclusives, cell, locks::joined(l, session));
-        log::append(&mut logs[a..e], count, cell, value);
+        enter(readers, claimants, exclusives, &mut logs[a..e], count, l, session, cell, value);
         sessions.records[i] = x.with_entry();
         return Reply { answer: Answer::Value(value), sessions };
     }
@@ -168,9 +172,9 @@ pub fn read(mut sessions: Sessions, values: &[u32], classes: &[u8], readers: &mu
     Reply { answer: Answer::Refused(6), sessions }
 }
 
-// Write: running only. A new cell is locked and entered as by read; then the entry is updated. 100.
-pub fn write(mut sessions: Sessions, values: &[u32], classes: &[u8], readers: &mut [u16], claimants: &mut [u8], exclusives: &mut [u8], logs: &mut [u32], session: u8, cell: u32, value: u32) -> Reply
-    ensures { λ r. ⌜ outcome (r .answer) (storeOf (now (values .entry)) (now (classes .entry)) (now (readers .exit)) (now (claimants .exit)) (now (exclusives .exit)) (now (logs .exit)) (r .sessions)) ≡ taken (Write session cell value) (storeOf (now (values .entry)) (now (classes .entry)) (now (readers .entry)) (now (claimants .entry)) (now (exclusives .entry)) (now (logs .entry)) sessions) ⌝ }
+// Read: running only. 101 with a known cell's present value; a new cell is locked and entered, or the session is rolled back, 6.
+pub fn read(sessions: Sessions, values: &[u32], classes: &[u8], readers: &mut [u16], claimants: &mut [u8], exclusives: &mut [u8], logs: &mut [u32], session: u8, cell: u32) -> Reply
+    ensures { λ r. ⌜ outcome (r .answer) (storeOf (now (values .entry)) (now (classes .entry)) (now (readers .exit)) (now (claimants .exit)) (now (exclusives .exit)) (now (logs .exit)) (r .sessions)) ≡ taken (Read session cell) (storeOf (now (values .entry)) (now (classes .entry)) (now (readers .entry)) (now (claimants .entry)) (now (exclusives .entry)) (now (logs .entry)) sessions) ⌝ }
 {
     if !decide::lengths_fit(values.len(), classes.len(), readers.len(), claimants.len(), exclusives.len(), logs.len()) {
         return Reply { answer: Answer::Refused(7), sessions };
@@ -178,6 +182,14 @@ pub fn write(mut sessions: Sessions, values: &[u32], classes: &[u8], readers: &m
     if 15 < session {
         return Reply { answer: Answer::Refused(1), sessions };
     }
+    read_as(sessions, values, classes, readers, claimants, exclusives, logs, session, cell)
+}
+
+// Write, once the lengths and the session fit.
+fn write_as(mut sessions: Sessions, values: &[u32], classes: &[u8], readers: &mut [u16], claimants: &mut [u8], exclusives: &mut [u8], logs: &mut [u32], session: u8, cell: u32, value: u32) -> Reply
+    requires { ⌜ Sized (storeOf (now values) (now classes) (now readers) (now claimants) (now exclusives) (now logs) sessions) session ⌝ }
+    ensures { λ r. ⌜ outcome (r .answer) (storeOf (now (values .entry)) (now (classes .entry)) (now (readers .exit)) (now (claimants .exit)) (now (exclusives .exit)) (now (logs .exit)) (r .sessions)) ≡ taken (Write session cell value) (storeOf (now (values .entry)) (now (classes .entry)) (now (readers .entry)) (now (claimants .entry)) (now (exclusives .entry)) (now (logs .entry)) sessions) ⌝ }
+{
     let i = session as usize;
     let a = 128 * i;
     let e = a + 128;
@@ -194,8 +206,7 @@ pub fn write(mut sessions: Sessions, values: &[u32], classes: &[u8], readers: &m
     let count = x.count as usize;
     if let Plan::EnterUpdate(_, v) = p {
         let found = values[cell as usize];
-        locks::put(readers, claimants, exclusives, cell, locks::joined(l, session));
-        log::append(&mut logs[a..e], count, cell, found);
+        enter(readers, claimants, exclusives, &mut logs[a..e], count, l, session, cell, found);
         log::update(&mut logs[a..e], count, v);
         sessions.records[i] = x.with_entry();
         return Reply { answer: Answer::Done, sessions };
@@ -203,6 +214,19 @@ pub fn write(mut sessions: Sessions, values: &[u32], classes: &[u8], readers: &m
     locks::roll_back(&logs[a..e], count, readers, claimants, exclusives, session);
     sessions.records[i] = x.rested();
     Reply { answer: Answer::Refused(6), sessions }
+}
+
+// Write: running only. A new cell is locked and entered as by read; then the entry is updated. 100.
+pub fn write(sessions: Sessions, values: &[u32], classes: &[u8], readers: &mut [u16], claimants: &mut [u8], exclusives: &mut [u8], logs: &mut [u32], session: u8, cell: u32, value: u32) -> Reply
+    ensures { λ r. ⌜ outcome (r .answer) (storeOf (now (values .entry)) (now (classes .entry)) (now (readers .exit)) (now (claimants .exit)) (now (exclusives .exit)) (now (logs .exit)) (r .sessions)) ≡ taken (Write session cell value) (storeOf (now (values .entry)) (now (classes .entry)) (now (readers .entry)) (now (claimants .entry)) (now (exclusives .entry)) (now (logs .entry)) sessions) ⌝ }
+{
+    if !decide::lengths_fit(values.len(), classes.len(), readers.len(), claimants.len(), exclusives.len(), logs.len()) {
+        return Reply { answer: Answer::Refused(7), sessions };
+    }
+    if 15 < session {
+        return Reply { answer: Answer::Refused(1), sessions };
+    }
+    write_as(sessions, values, classes, readers, claimants, exclusives, logs, session, cell, value)
 }
 
 // Seal: running only. The session leaves the readers of each cell entered but not written. 105 with nothing written, else 102.

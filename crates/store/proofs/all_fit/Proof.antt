@@ -1,3 +1,7 @@
+use Prim.Native.Nat.{_≤_, _-_}
+use mathlib.Core.Path.{_≡_}
+use lib.ListN.{length, drop}
+use Rattle.model.specs.Buffers.{allFit}
 use Rattle.store.proofs.all_fit.Statement.{statement}
 use Rattle.store.proofs.all_fit.Tie as tie
 use Rattle.store.proofs.all_fit.Reads as reads
@@ -5,10 +9,10 @@ use Rattle.store.proofs.all_fit.Lts as lts
 use Rattle.store.proofs.fits_cap.Reads as fits-cap-reads
 
 abbrev Inv-loop : tie.InvT-loop
-Inv-loop values classes i₀ i = ?
+Inv-loop values classes i₀ i = (i ≤ length values) × (allFit (drop i values) (drop i classes) ≡ allFit values classes)
 
 abbrev μ-loop : tie.MeasureT-loop
-μ-loop values classes i₀ i = ?
+μ-loop values classes i₀ i = length values - i
 
 -- src/lib.rt:41:5
 loop-holds : tie.Need-loop-holds Inv-loop μ-loop

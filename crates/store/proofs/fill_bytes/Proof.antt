@@ -1,13 +1,17 @@
+use Prim.Native.Nat.{_≤_, _-_}
+use mathlib.Core.Path.{_≡_}
+use mathlib.Core.List.{_++_}
+use lib.ListN.{length, drop, replicate}
 use Rattle.store.proofs.fill_bytes.Statement.{statement}
 use Rattle.store.proofs.fill_bytes.Tie as tie
 use Rattle.store.proofs.fill_bytes.Reads as reads
 use Rattle.store.proofs.fill_bytes.Lts as lts
 
 abbrev Inv-loop : tie.InvT-loop
-Inv-loop s₀ b i₀ s i = ?
+Inv-loop s₀ b i₀ s i = (i ≤ length s₀) × (length s ≡ length s₀) × (s ≡ replicate i b ++ drop i s₀)
 
 abbrev μ-loop : tie.MeasureT-loop
-μ-loop s₀ b i₀ s i = ?
+μ-loop s₀ b i₀ s i = length s₀ - i
 
 -- src/lib.rt:66:5
 loop-holds : tie.Need-loop-holds Inv-loop μ-loop

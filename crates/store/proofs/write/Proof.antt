@@ -4,287 +4,43 @@ use Rattle.store.proofs.write.Tie as tie
 use Rattle.store.proofs.write.Reads as reads
 use Rattle.store.proofs.write.Lts as lts
 use Rattle.decide.proofs.lengths_fit.Reads as lengths-fit-reads
-use Rattle.decide.proofs.write.Reads as write-reads
-use Rattle.locks.proofs.at.Reads as at-reads
-use Rattle.locks.proofs.joined.Reads as joined-reads
-use Rattle.locks.proofs.put.Reads as put-reads
-use Rattle.locks.proofs.roll_back.Reads as roll-back-reads
-use Rattle.log.proofs.append.Reads as append-reads
-use Rattle.log.proofs.update.Reads as update-reads
-use Rattle.model.proofs.Session.rested.Reads as rested-reads
-use Rattle.model.proofs.Session.with_entry.Reads as with-entry-reads
+use Rattle.store.proofs.write_as.Reads as write-as-reads
 
--- src/lib.rt:175:9
+-- src/lib.rt:223:9
 lengths-fit-requires : tie.Need-lengths-fit-requires
 lengths-fit-requires c κs = search needs
 
--- src/lib.rt:176:9
+-- src/lib.rt:224:9
 returns : tie.Need-returns
 returns c = ?
 
--- src/lib.rt:179:9
+-- src/lib.rt:227:9
 returns-2 : tie.Need-returns-2
 returns-2 c = ?
 
--- src/lib.rt:182:13
-mul-a : tie.Need-mul-a
-mul-a c = search needs
+-- src/lib.rt:229:5
+write-as-requires : tie.Need-write-as-requires
+write-as-requires c κs = ?
 
--- src/lib.rt:183:13
-add-e : tie.Need-add-e
-add-e c = search needs
-
--- src/lib.rt:184:13
-mul-x : tie.Need-mul-x
-mul-x c = search needs
-
--- src/lib.rt:184:13
-element-copy-out-x : tie.Need-element-copy-out-x
-element-copy-out-x c = search needs
-
--- src/lib.rt:185:9
-at-requires : tie.Need-at-requires
-at-requires c κs = ?
-
--- src/lib.rt:186:27
-mul-write : tie.Need-mul-write
-mul-write c = search needs
-
--- src/lib.rt:186:27
-sub-write : tie.Need-sub-write
-sub-write c = search needs
-
--- src/lib.rt:186:27
-part-write-start : tie.Need-part-write-start
-part-write-start c = search needs
-
--- src/lib.rt:186:27
-part-write-end : tie.Need-part-write-end
-part-write-end c = ?
-
--- src/lib.rt:186:9
-write-requires : tie.Need-write-requires
-write-requires c κs = ?
-
--- src/lib.rt:187:25
-enum-known-p : tie.Need-enum-known-p
-enum-known-p c = search needs
-
--- src/lib.rt:188:21
-mul-update : tie.Need-mul-update
-mul-update c = search needs
-
--- src/lib.rt:188:21
-sub-update : tie.Need-sub-update
-sub-update c = search needs
-
--- src/lib.rt:188:21
-part-update-start : tie.Need-part-update-start
-part-update-start c = search needs
-
--- src/lib.rt:188:21
-part-update-end : tie.Need-part-update-end
-part-update-end c = ?
-
--- src/lib.rt:188:38
-cast-update : tie.Need-cast-update
-cast-update c = search needs
-
--- src/lib.rt:188:9
-update-requires : tie.Need-update-requires
-update-requires c κs = ?
-
--- src/lib.rt:189:9
+-- src/lib.rt:220:1
 same-length : tie.Need-same-length
 same-length c = search needs
 
--- src/lib.rt:189:9
+-- src/lib.rt:220:1
 same-length-2 : tie.Need-same-length-2
 same-length-2 c = search needs
 
--- src/lib.rt:189:9
+-- src/lib.rt:220:1
 same-length-3 : tie.Need-same-length-3
 same-length-3 c = search needs
 
--- src/lib.rt:189:9
+-- src/lib.rt:220:1
 same-length-4 : tie.Need-same-length-4
 same-length-4 c = search needs
 
--- src/lib.rt:189:9
+-- src/lib.rt:220:1
 returns-3 : tie.Need-returns-3
-returns-3 c = ?
-
--- src/lib.rt:191:25
-enum-known-p-2 : tie.Need-enum-known-p-2
-enum-known-p-2 c = search needs
-
--- src/lib.rt:192:9
-same-length-5 : tie.Need-same-length-5
-same-length-5 c = search needs
-
--- src/lib.rt:192:9
-same-length-6 : tie.Need-same-length-6
-same-length-6 c = search needs
-
--- src/lib.rt:192:9
-same-length-7 : tie.Need-same-length-7
-same-length-7 c = search needs
-
--- src/lib.rt:192:9
-same-length-8 : tie.Need-same-length-8
-same-length-8 c = search needs
-
--- src/lib.rt:192:9
-returns-4 : tie.Need-returns-4
-returns-4 c = ?
-
--- src/lib.rt:194:17
-cast-count : tie.Need-cast-count
-cast-count c = search needs
-
--- src/lib.rt:195:33
-enum-known-p-3 : tie.Need-enum-known-p-3
-enum-known-p-3 c = search needs
-
--- src/lib.rt:196:21
-mul-found : tie.Need-mul-found
-mul-found c = search needs
-
--- src/lib.rt:196:21
-shared-slice-read-found : tie.Need-shared-slice-read-found
-shared-slice-read-found c = ?
-
--- src/lib.rt:197:58
-joined-requires : tie.Need-joined-requires
-joined-requires c κs = search needs
-
--- src/lib.rt:197:9
-put-requires : tie.Need-put-requires
-put-requires c κs = ?
-
--- src/lib.rt:198:21
-mul-append : tie.Need-mul-append
-mul-append c = ?
-
--- src/lib.rt:198:21
-sub-append : tie.Need-sub-append
-sub-append c = search needs
-
--- src/lib.rt:198:21
-part-append-start : tie.Need-part-append-start
-part-append-start c = search needs
-
--- src/lib.rt:198:21
-part-append-end : tie.Need-part-append-end
-part-append-end c = ?
-
--- src/lib.rt:198:9
-append-requires : tie.Need-append-requires
-append-requires c κs = ?
-
--- src/lib.rt:199:21
-mul-update-2 : tie.Need-mul-update-2
-mul-update-2 c = ?
-
--- src/lib.rt:199:21
-sub-update-2 : tie.Need-sub-update-2
-sub-update-2 c = search needs
-
--- src/lib.rt:199:21
-part-update-start-2 : tie.Need-part-update-start-2
-part-update-start-2 c = search needs
-
--- src/lib.rt:199:21
-part-update-end-2 : tie.Need-part-update-end-2
-part-update-end-2 c = ?
-
--- src/lib.rt:199:9
-update-requires-2 : tie.Need-update-requires-2
-update-requires-2 c κs = ?
-
--- src/lib.rt:200:31
-with-entry-requires : tie.Need-with-entry-requires
-with-entry-requires c κs = ?
-
--- src/lib.rt:200:9
-mul-t60 : tie.Need-mul-t60
-mul-t60 c = ?
-
--- src/lib.rt:200:9
-element-set-from-sessions : tie.Need-element-set-from-sessions
-element-set-from-sessions c = ?
-
--- src/lib.rt:201:9
-same-length-9 : tie.Need-same-length-9
-same-length-9 c = search needs
-
--- src/lib.rt:201:9
-same-length-10 : tie.Need-same-length-10
-same-length-10 c = search needs
-
--- src/lib.rt:201:9
-same-length-11 : tie.Need-same-length-11
-same-length-11 c = search needs
-
--- src/lib.rt:201:9
-same-length-12 : tie.Need-same-length-12
-same-length-12 c = ?
-
--- src/lib.rt:201:9
-returns-5 : tie.Need-returns-5
-returns-5 c = ?
-
--- src/lib.rt:203:22
-mul-roll-back : tie.Need-mul-roll-back
-mul-roll-back c = search needs
-
--- src/lib.rt:203:22
-sub-roll-back : tie.Need-sub-roll-back
-sub-roll-back c = search needs
-
--- src/lib.rt:203:22
-part-roll-back-start : tie.Need-part-roll-back-start
-part-roll-back-start c = search needs
-
--- src/lib.rt:203:22
-part-roll-back-end : tie.Need-part-roll-back-end
-part-roll-back-end c = ?
-
--- src/lib.rt:203:5
-roll-back-requires : tie.Need-roll-back-requires
-roll-back-requires c κs = ?
-
--- src/lib.rt:204:27
-rested-requires : tie.Need-rested-requires
-rested-requires c κs = search needs
-
--- src/lib.rt:204:5
-mul-t28 : tie.Need-mul-t28
-mul-t28 c = search needs
-
--- src/lib.rt:204:5
-element-set-from-sessions-2 : tie.Need-element-set-from-sessions-2
-element-set-from-sessions-2 c = search needs
-
--- src/lib.rt:172:1
-same-length-13 : tie.Need-same-length-13
-same-length-13 c = search needs
-
--- src/lib.rt:172:1
-same-length-14 : tie.Need-same-length-14
-same-length-14 c = search needs
-
--- src/lib.rt:172:1
-same-length-15 : tie.Need-same-length-15
-same-length-15 c = search needs
-
--- src/lib.rt:172:1
-same-length-16 : tie.Need-same-length-16
-same-length-16 c = search needs
-
--- src/lib.rt:172:1
-returns-6 : tie.Need-returns-6
-returns-6 c = ?
+returns-3 c = search needs
 
 pub write-spec : {M : Type 1} → statement M
 write-spec =
@@ -293,68 +49,9 @@ write-spec =
     lengths-fit-requires
     returns
     returns-2
-    mul-a
-    add-e
-    mul-x
-    element-copy-out-x
-    at-requires
-    mul-write
-    sub-write
-    part-write-start
-    part-write-end
-    write-requires
-    enum-known-p
-    mul-update
-    sub-update
-    part-update-start
-    part-update-end
-    cast-update
-    update-requires
+    write-as-requires
     same-length
     same-length-2
     same-length-3
     same-length-4
-    returns-3
-    enum-known-p-2
-    same-length-5
-    same-length-6
-    same-length-7
-    same-length-8
-    returns-4
-    cast-count
-    enum-known-p-3
-    mul-found
-    shared-slice-read-found
-    joined-requires
-    put-requires
-    mul-append
-    sub-append
-    part-append-start
-    part-append-end
-    append-requires
-    mul-update-2
-    sub-update-2
-    part-update-start-2
-    part-update-end-2
-    update-requires-2
-    with-entry-requires
-    mul-t60
-    element-set-from-sessions
-    same-length-9
-    same-length-10
-    same-length-11
-    same-length-12
-    returns-5
-    mul-roll-back
-    sub-roll-back
-    part-roll-back-start
-    part-roll-back-end
-    roll-back-requires
-    rested-requires
-    mul-t28
-    element-set-from-sessions-2
-    same-length-13
-    same-length-14
-    same-length-15
-    same-length-16
-    returns-6)
+    returns-3)
