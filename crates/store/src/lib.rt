@@ -505,7 +505,7 @@ fn advance_at(
     session: u8,
     k: usize,
 ) -> Reply
-    requires { ⌜ (Admitted (storeOf (now values) (now classes) (now readers) (now claimants) (now exclusives) (now logs) sessions) session) × (k < sessionAt sessions session .count) × (sessionAt sessions session .phase ≤ 4) ⌝ }
+    requires { ⌜ (Admitted (storeOf (now values) (now classes) (now readers) (now claimants) (now exclusives) (now logs) sessions) session) × (k < sessionAt sessions session .count) × (2 ≤ sessionAt sessions session .phase) × (sessionAt sessions session .phase ≤ 4) ⌝ }
     ensures { λ r. ⌜ outcome (r .answer) (storeOf (now (values .exit)) (now (classes .entry)) (now (readers .exit)) (now (claimants .exit)) (now (exclusives .exit)) (now (logs .entry)) (r .sessions)) ≡ carried session (advanceOn (part (now (logs .entry)) session) (sessionAt sessions session) (lockAt (locksOf (now (readers .entry)) (now (claimants .entry)) (now (exclusives .entry))) (cellAt (part (now (logs .entry)) session) 0 k)) session k) (storeOf (now (values .entry)) (now (classes .entry)) (now (readers .entry)) (now (claimants .entry)) (now (exclusives .entry)) (now (logs .entry)) sessions) ⌝ }
 {
     let i = session as usize;
