@@ -5,6 +5,7 @@ ghost use Prim.Native.Nat.{suc, _<_};
 ghost use Rattle.model.specs.Buffers.{idle, running, withEntry, moveTo};
 
 // A session's record: phase (0 idle, 1 running, 2 promoting, 3 publishing, 4 releasing), entry count, next cell.
+#[repr(C)]
 pub struct Session {
     pub phase: u8,
     pub count: u8,
@@ -12,6 +13,7 @@ pub struct Session {
 }
 
 // The records of the sixteen sessions, passed in and handed back by every call.
+#[repr(C)]
 pub struct Sessions {
     pub records: [Session; 16],
 }
