@@ -113,9 +113,9 @@ module _ (n : ℕ) (log : List ℕ) (x : Session) where
   unfolding entriesOn
   entries-many ne h = simp (ne-eqb (x .phase) 0 ne, lt-leb (x .count) 32 h, and-false)
 
-  pub entries-cells : (x .phase ≡ 0 → ⊥) → x .phase ≤ 4 → x .count ≤ 32 → below n (cellAt log 0) (x .count) ≡ entriesOn n log x
+  pub entries-cells : (x .phase ≡ 0 → ⊥) → x .phase ≤ 4 → x .count ≤ 32 → (b : Bool) → b ≡ below n (cellAt log 0) (x .count) → b ≡ entriesOn n log x
   unfolding entriesOn
-  entries-cells ne p h = simp (ne-eqb (x .phase) 0 ne, le-leb (x .phase) 4 p, le-leb (x .count) 32 h)
+  entries-cells ne p h b e = simp (ne-eqb (x .phase) 0 ne, le-leb (x .phase) 4 p, le-leb (x .count) 32 h, e)
 
   -- b is what the test of the entries answered
   module _ (b : Bool) (e : b ≡ entriesOn n log x) where
@@ -179,13 +179,15 @@ module _ (n : ℕ) (log : List ℕ) (x : Session) where
       unfolding readOn guardOn
       read-outside h = simp (whole, runs, le-ltb c n h)
 
-      pub read-known : (k : ℕ) → c < n → k < x .count → found (x .count) k ≡ slotIn log 0 (x .count) c → Tell (entryAt log 0 k .current) ≡ readOn n log x l c
-      unfolding readOn guardOn readSlot
-      read-known k h i s = simp (whole, runs, lt-ltb c n h, found-here (x .count) k _ s i)
+      -- k is the place that the search for the cell answered
+      module _ (h : c < n) (k : ℕ) (s : found (x .count) k ≡ slotIn log 0 (x .count) c) where
+        pub read-known : k < x .count → (v : ℕ) → v ≡ entryAt log 0 k .current → Tell v ≡ readOn n log x l c
+        unfolding readOn guardOn readSlot
+        read-known i v q = simp (whole, runs, lt-ltb c n h, found-here (x .count) k _ s i, q)
 
-      pub read-new : (k : ℕ) → c < n → x .count ≤ k → found (x .count) k ≡ slotIn log 0 (x .count) c → newCell x l (Enter c) ≡ readOn n log x l c
-      unfolding readOn guardOn readSlot
-      read-new k h i s = simp (whole, runs, lt-ltb c n h, found-nowhere (x .count) k _ s i)
+        pub read-new : x .count ≤ k → (p : Plan) → p ≡ newCell x l (Enter c) → p ≡ readOn n log x l c
+        unfolding readOn guardOn readSlot
+        read-new i p q = simp (whole, runs, lt-ltb c n h, found-nowhere (x .count) k _ s i, q)
 
       -- ---- write
 
@@ -198,9 +200,9 @@ module _ (n : ℕ) (log : List ℕ) (x : Session) where
         unfolding writeOn guardOn
         write-odd h i = simp (whole, runs, lt-ltb c n h, le-ltb (getD classes c 0) 16 i)
 
-        pub write-class : c < n → getD classes c 0 ≤ 15 → (m : ℕ) → m ≡ cap (getD classes c 0) → writeCapped log x l c v m ≡ writeOn classes n log x l c v
+        pub write-class : c < n → getD classes c 0 ≤ 15 → (m : ℕ) → m ≡ cap (getD classes c 0) → (p : Plan) → p ≡ writeCapped log x l c v m → p ≡ writeOn classes n log x l c v
         unfolding writeOn guardOn
-        write-class h i m q = simp (whole, runs, lt-ltb c n h, lt-ltb (getD classes c 0) 16 (omega arith), q)
+        write-class h i m q p w = simp (whole, runs, lt-ltb c n h, lt-ltb (getD classes c 0) 16 (omega arith), ← q, w)
 
     -- ---- seal
 
@@ -247,9 +249,9 @@ module _ (log : List ℕ) (x : Session) (l : Lock) (c v m : ℕ) where
     unfolding writeCapped writeSlot
     write-known i = simp (le-leb v m h, found-here (x .count) k _ s i)
 
-    pub write-new : x .count ≤ k → newCell x l (EnterUpdate c v) ≡ writeCapped log x l c v m
+    pub write-new : x .count ≤ k → (p : Plan) → p ≡ newCell x l (EnterUpdate c v) → p ≡ writeCapped log x l c v m
     unfolding writeCapped writeSlot
-    write-new i = simp (le-leb v m h, found-nowhere (x .count) k _ s i)
+    write-new i p q = simp (le-leb v m h, found-nowhere (x .count) k _ s i, q)
 
 -- ---- advance
 
@@ -274,9 +276,9 @@ module _ (s c : ℕ) (l : Lock) where
 
 -- d is the cell of entry k
 module _ (log : List ℕ) (x : Session) (l : Lock) (s k d : ℕ) (e : d ≡ cellAt log 0 k) where
-  pub advance-promotes : x .phase ≡ 2 → promotePlan s d l ≡ advanceOn log x l s k
+  pub advance-promotes : x .phase ≡ 2 → (p : Plan) → p ≡ promotePlan s d l → p ≡ advanceOn log x l s k
   unfolding advanceOn
-  advance-promotes h = simp (eq-eqb (x .phase) 2 h, e)
+  advance-promotes h p q = simp (eq-eqb (x .phase) 2 h, ← e, q)
 
   module _ (h : x .phase ≡ 2 → ⊥) where
     pub advance-publishes : x .phase ≡ 3 → (v : ℕ) → v ≡ entryAt log 0 k .current → Publish d v ≡ advanceOn log x l s k

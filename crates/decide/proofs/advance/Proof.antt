@@ -1,23 +1,13 @@
 -- Each return is a way through `advanceOn`.
-use mathlib.Core.Path.{_∙_}
 use borrow.Author.Needs.{needs}
 use Rattle.decide.proofs.Ways.{advance-promotes, advance-publishes, advance-releases}
 use Rattle.decide.proofs.advance.Statement.{statement}
 use Rattle.decide.proofs.advance.Tie as tie
 
-cell-at-requires : tie.Need-cell-at-requires
-cell-at-requires c κs = search needs
-
-promote-requires : tie.Need-promote-requires
-promote-requires c κs = search needs
-
 returns : tie.Need-returns
 returns c =
     let k = c .before .before in
-    c .promote .ensures ∙ advance-promotes _ _ _ _ _ _ (k .cell-at .ensures) (c .before .if1 .taken)
-
-current-requires : tie.Need-current-requires
-current-requires c κs = search needs
+    advance-promotes _ _ _ _ _ _ (k .cell-at .ensures) (c .before .if1 .taken) _ (c .promote .ensures)
 
 returns-2 : tie.Need-returns-2
 returns-2 c =
@@ -30,4 +20,4 @@ returns-3 c = advance-releases _ _ _ _ _ _ (c .before .before .cell-at .ensures)
 pub advance-spec : {M : Type 1} → statement M
 advance-spec =
     tie.close
-    (tie.spec cell-at-requires promote-requires returns current-requires returns-2 returns-3)
+    (tie.spec (λ c κs. search needs) (λ c κs. search needs) returns (λ c κs. search needs) returns-2 returns-3)

@@ -6,15 +6,6 @@ use Rattle.decide.proofs.Ways.{listed, due-odd, due-early, due-none, du
 use Rattle.decide.proofs.due_slot.Statement.{statement}
 use Rattle.decide.proofs.due_slot.Tie as tie
 
-cast-count : tie.Need-cast-count
-cast-count c = search needs
-
-cast-next : tie.Need-cast-next
-cast-next c = search needs
-
-entries-fit-requires : tie.Need-entries-fit-requires
-entries-fit-requires c κs = search needs
-
 returns : tie.Need-returns
 returns c = due-odd _ _ _ _ (c .before .entries-fit .ensures) (not-true _ (c .if1 .taken))
 
@@ -22,9 +13,6 @@ returns-2 : tie.Need-returns-2
 returns-2 c =
     let t = c .before in
     due-early _ _ _ _ (t .before .entries-fit .ensures) (not-false _ (t .if1 .left)) (c .if2 .taken)
-
-cast-target : tie.Need-cast-target
-cast-target c = search needs
 
 target-requires : tie.Need-target-requires
 target-requires c κs =
@@ -38,9 +26,6 @@ returns-3 c =
     let t = p .before in
     due-none _ _ _ _ (t .before .entries-fit .ensures) (not-false _ (t .if1 .left)) (p .if2 .left) _ (c .before .target .ensures) (c .if3 .taken)
 
-cast-t10 : tie.Need-cast-t10
-cast-t10 c = search needs
-
 returns-4 : tie.Need-returns-4
 returns-4 c =
     let p = c .before .before in
@@ -50,14 +35,4 @@ returns-4 c =
 pub due-slot-spec : {M : Type 1} → statement M
 due-slot-spec =
     tie.close
-    (tie.spec
-    cast-count
-    cast-next
-    entries-fit-requires
-    returns
-    returns-2
-    cast-target
-    target-requires
-    returns-3
-    cast-t10
-    returns-4)
+    (tie.spec (λ c. search needs) (λ c. search needs) (λ c κs. search needs) returns returns-2 (λ c. search needs) target-requires returns-3 (λ c. search needs) returns-4)

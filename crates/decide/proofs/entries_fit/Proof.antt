@@ -1,5 +1,4 @@
 -- Each return is a way through `entriesOn`.
-use mathlib.Core.Path.{_∙_}
 use borrow.Author.Needs.{needs}
 use Rattle.decide.proofs.Ways.{entries-idle, entries-phase, entries-many, entries-cells}
 use Rattle.decide.proofs.entries_fit.Statement.{statement}
@@ -14,21 +13,12 @@ returns-2 c = entries-phase _ _ _ (c .if2 .taken)
 returns-3 : tie.Need-returns-3
 returns-3 c = entries-many _ _ _ (c .before .before .if1 .left) (c .if3 .taken)
 
-cast-all-below : tie.Need-cast-all-below
-cast-all-below c = search needs
-
-cast-all-below-2 : tie.Need-cast-all-below-2
-cast-all-below-2 c = search needs
-
-all-below-requires : tie.Need-all-below-requires
-all-below-requires c κs = search needs
-
 returns-4 : tie.Need-returns-4
 returns-4 c =
     let t = c .before in
-    c .all-below .ensures ∙ entries-cells _ _ _ (t .before .before .if1 .left) (t .before .if2 .left) (t .if3 .left)
+    entries-cells _ _ _ (t .before .before .if1 .left) (t .before .if2 .left) (t .if3 .left) _ (c .all-below .ensures)
 
 pub entries-fit-spec : {M : Type 1} → statement M
 entries-fit-spec =
     tie.close
-    (tie.spec returns returns-2 returns-3 cast-all-below cast-all-below-2 all-below-requires returns-4)
+    (tie.spec returns returns-2 returns-3 (λ c. search needs) (λ c. search needs) (λ c κs. search needs) returns-4)

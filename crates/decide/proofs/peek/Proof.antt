@@ -1,16 +1,9 @@
 -- Each return is a way through `peekOn`.
 use borrow.Author.Needs.{needs}
-use native.Mathlib.Omega.{arith}
 use Rattle.decide.specs.Own.{peekOn}
-use Rattle.decide.proofs.Ways.{turned, few, room, inside, peek-outside, peek-new, peek-written, peek-read}
+use Rattle.decide.proofs.Ways.{turned, room, inside, peek-outside, peek-new, peek-written, peek-read}
 use Rattle.decide.proofs.peek.Statement.{statement}
 use Rattle.decide.proofs.peek.Tie as tie
-
-cast-count : tie.Need-cast-count
-cast-count c = search needs
-
-tests-requires : tie.Need-tests-requires
-tests-requires c κs = search needs
 
 returns : tie.Need-returns
 unfolding peekOn
@@ -35,9 +28,6 @@ dirty-requires c κs =
     let t = c .before .before .before in
     inside _ _ _ _ (t .before .tests .ensures) (t .if1 .left) (t .before .before .before .before .pre .0) _ (c .if3 .left)
 
-cast-t12 : tie.Need-cast-t12
-cast-t12 c = search needs
-
 returns-4 : tie.Need-returns-4
 returns-4 c =
     let k = c .before .before in
@@ -57,14 +47,4 @@ returns-5 c =
 pub peek-spec : {M : Type 1} → statement M
 peek-spec =
     tie.close
-    (tie.spec
-    cast-count
-    tests-requires
-    returns
-    returns-2
-    find-requires
-    returns-3
-    dirty-requires
-    cast-t12
-    returns-4
-    returns-5)
+    (tie.spec (λ c. search needs) (λ c κs. search needs) returns returns-2 find-requires returns-3 dirty-requires (λ c. search needs) returns-4 returns-5)

@@ -8,9 +8,6 @@ use Rattle.decide.proofs.promote.Tie as tie
 returns : tie.Need-returns
 returns c = promote-loses _ _ _ (c .before .if1 .taken) (c .if2 .taken)
 
-alone-requires : tie.Need-alone-requires
-alone-requires c κs = search needs
-
 returns-2 : tie.Need-returns-2
 returns-2 c =
     let h = ⊎-elim (λ w. inl (w .1 .left)) (λ w. inr (w .left)) (c .before .before .if1 .came) in
@@ -22,4 +19,4 @@ returns-3 c =
     promote-waits _ _ _ h _ (c .before .alone .ensures) (c .if3 .left)
 
 pub promote-spec : {M : Type 1} → statement M
-promote-spec = tie.close (tie.spec returns alone-requires returns-2 returns-3)
+promote-spec = tie.close (tie.spec returns (λ c κs. search needs) returns-2 returns-3)

@@ -1,17 +1,9 @@
 -- Each return is a way through `readOn`: the tests' number, the cell outside, known, or new.
-use mathlib.Core.Path.{ap, _∙_}
 use borrow.Author.Needs.{needs}
-use Rattle.model.specs.declared.Plan.the-variants.{Tell}
 use Rattle.decide.specs.Own.{readOn}
 use Rattle.decide.proofs.Ways.{turned, room, inside, read-outside, read-known, read-new}
 use Rattle.decide.proofs.read.Statement.{statement}
 use Rattle.decide.proofs.read.Tie as tie
-
-cast-count : tie.Need-cast-count
-cast-count c = search needs
-
-tests-requires : tie.Need-tests-requires
-tests-requires c κs = search needs
 
 returns : tie.Need-returns
 unfolding readOn
@@ -34,29 +26,17 @@ returns-3 : tie.Need-returns-3
 returns-3 c =
     let f = c .before .before in
     let t = f .before .before in
-    ap Tell (c .current .ensures)
-    ∙ read-known _ _ _ _ (t .before .tests .ensures) (t .if1 .left) _ _ _ (f .before .if2 .left) (c .before .if3 .taken) (f .find .ensures)
-
-new-cell-requires : tie.Need-new-cell-requires
-new-cell-requires c κs = search needs
+    read-known _ _ _ _ (t .before .tests .ensures) (t .if1 .left) _ _ (f .before .if2 .left) _ (f .find .ensures) (c .before .if3 .taken) _
+    (c .current .ensures)
 
 returns-4 : tie.Need-returns-4
 returns-4 c =
     let f = c .before .before in
     let t = f .before .before in
-    c .new-cell .ensures
-    ∙ read-new _ _ _ _ (t .before .tests .ensures) (t .if1 .left) _ _ _ (f .before .if2 .left) (c .before .if3 .left) (f .find .ensures)
+    read-new _ _ _ _ (t .before .tests .ensures) (t .if1 .left) _ _ (f .before .if2 .left) _ (f .find .ensures) (c .before .if3 .left) _
+    (c .new-cell .ensures)
 
 pub read-spec : {M : Type 1} → statement M
 read-spec =
     tie.close
-    (tie.spec
-    cast-count
-    tests-requires
-    returns
-    returns-2
-    find-requires
-    current-requires
-    returns-3
-    new-cell-requires
-    returns-4)
+    (tie.spec (λ c. search needs) (λ c κs. search needs) returns returns-2 find-requires current-requires returns-3 (λ c κs. search needs) returns-4)

@@ -6,15 +6,6 @@ use Rattle.decide.proofs.Ways.{listed, record-odd, record-early, record
 use Rattle.decide.proofs.record_fits.Statement.{statement}
 use Rattle.decide.proofs.record_fits.Tie as tie
 
-cast-count : tie.Need-cast-count
-cast-count c = search needs
-
-cast-next : tie.Need-cast-next
-cast-next c = search needs
-
-entries-fit-requires : tie.Need-entries-fit-requires
-entries-fit-requires c κs = search needs
-
 returns : tie.Need-returns
 returns c = record-odd _ _ _ _ (c .before .entries-fit .ensures) (not-true _ (c .if1 .taken))
 
@@ -22,9 +13,6 @@ returns-2 : tie.Need-returns-2
 returns-2 c =
     let t = c .before in
     record-early _ _ _ _ (t .before .entries-fit .ensures) (not-false _ (t .if1 .left)) (c .if2 .taken)
-
-cast-target : tie.Need-cast-target
-cast-target c = search needs
 
 target-requires : tie.Need-target-requires
 target-requires c κs =
@@ -40,12 +28,4 @@ returns-3 c =
 pub record-fits-spec : {M : Type 1} → statement M
 record-fits-spec =
     tie.close
-    (tie.spec
-    cast-count
-    cast-next
-    entries-fit-requires
-    returns
-    returns-2
-    cast-target
-    target-requires
-    returns-3)
+    (tie.spec (λ c. search needs) (λ c. search needs) (λ c κs. search needs) returns returns-2 (λ c. search needs) target-requires returns-3)

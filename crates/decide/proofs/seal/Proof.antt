@@ -5,12 +5,6 @@ use Rattle.decide.proofs.Ways.{turned, room, seal-writes, seal-reads}
 use Rattle.decide.proofs.seal.Statement.{statement}
 use Rattle.decide.proofs.seal.Tie as tie
 
-cast-count : tie.Need-cast-count
-cast-count c = search needs
-
-tests-requires : tie.Need-tests-requires
-tests-requires c κs = search needs
-
 returns : tie.Need-returns
 unfolding sealOn
 returns c = turned _ _ _ _ (c .before .tests .ensures) (c .if1 .taken)
@@ -31,4 +25,4 @@ returns-3 c =
 pub seal-spec : {M : Type 1} → statement M
 seal-spec =
     tie.close
-    (tie.spec cast-count tests-requires returns any-publishes-requires returns-2 returns-3)
+    (tie.spec (λ c. search needs) (λ c κs. search needs) returns any-publishes-requires returns-2 returns-3)

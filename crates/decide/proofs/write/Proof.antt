@@ -1,13 +1,9 @@
 -- Each return is a way through `writeOn`: the tests' number, the cell outside, an odd class, or what the cap leaves.
-use mathlib.Core.Path.{_∙_}
 use borrow.Author.Needs.{needs}
 use Rattle.decide.specs.Own.{writeOn}
 use Rattle.decide.proofs.Ways.{turned, few, write-outside, write-odd, write-class}
 use Rattle.decide.proofs.write.Statement.{statement}
 use Rattle.decide.proofs.write.Tie as tie
-
-tests-requires : tie.Need-tests-requires
-tests-requires c κs = search needs
 
 returns : tie.Need-returns
 unfolding writeOn
@@ -25,9 +21,6 @@ returns-3 c =
     let t = i .before in
     write-odd _ _ _ _ (t .before .tests .ensures) (t .if1 .left) _ _ _ _ (i .if2 .left) (c .if3 .taken)
 
-cap-requires : tie.Need-cap-requires
-cap-requires c κs = search needs
-
 write-capped-requires : tie.Need-write-capped-requires
 write-capped-requires c κs =
     let t = c .before .before .before .before in
@@ -38,18 +31,10 @@ returns-4 c =
     let k = c .before .before in
     let i = k .before .before in
     let t = i .before in
-    c .write-capped .ensures
-    ∙ write-class _ _ _ _ (t .before .tests .ensures) (t .if1 .left) _ _ _ _ (i .if2 .left) (k .if3 .left) _ (c .before .cap .ensures)
+    write-class _ _ _ _ (t .before .tests .ensures) (t .if1 .left) _ _ _ _ (i .if2 .left) (k .if3 .left) _ (c .before .cap .ensures) _
+    (c .write-capped .ensures)
 
 pub write-spec : {M : Type 1} → statement M
 write-spec =
     tie.close
-    (tie.spec
-    tests-requires
-    returns
-    returns-2
-    shared-slice-read-class
-    returns-3
-    cap-requires
-    write-capped-requires
-    returns-4)
+    (tie.spec (λ c κs. search needs) returns returns-2 shared-slice-read-class returns-3 (λ c κs. search needs) write-capped-requires returns-4)
