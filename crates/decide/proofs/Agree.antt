@@ -21,6 +21,7 @@ use Rattle.model.specs.declared.Plan.the-variants.{Refuse, Start, Cancel}
 use Rattle.model.proofs.Tools.{same, test, which, nothing, both-l, and-false}
 use Rattle.model.proofs.Laws.{find-some, find-ext}
 use Rattle.log.specs.Slots.{part, slotOf, targetSlot}
+use Rattle.log.proofs.Targets.{slot-some}
 use Rattle.decide.specs.Own
 use Rattle.decide.specs.Own.{lengthsOn, entriesOn, recordOn, tested, guardOn, readSlot, readOn, writeCapped, writeOn, sealOn, dueAt, dueOn, advanceOn, handledOn, peekSlot, peekOn}
 use Rattle.decide.specs.declared.Due.{Due}
@@ -269,9 +270,9 @@ picks true false o e = absurd (not-slot e)
 picks false b o e = absurd (not-slot e)
 
 slot-below : (log : List ℕ) (m : ℕ) (o : Option ℕ) {k : ℕ} → slotOf log m o ≡ some k → k < m
-unfolding slotOf slotIn
+unfolding slotOf
 slot-below log m none e = nothing e
-slot-below log m (some c) e = find-some (cellAt log 0) c m e .0
+slot-below log m (some c) e = slot-some log m c e .0
 
 pub due-known : (n : ℕ) (log : List ℕ) (x : Session) (k : ℕ) → dueOn n log x ≡ Slot k → Advancing n log x k
 unfolding dueOn targetSlot entriesOn

@@ -10,9 +10,9 @@ use native.Mathlib.Omega.{arith}
 use borrow.Author.Tests.{lt-ltb, le-ltb, lt-leb, le-leb, eq-eqb, ne-eqb, eqb-true, leb-true}
 use lib.Dec.{ltb, leb, eqb}
 use lib.ListN.{length, getD}
-use Rattle.model.specs.Search.{some?, find, below}
+use Rattle.model.specs.Search.{some?, below}
 use Rattle.model.specs.Readers.{otherReaders}
-use Rattle.model.specs.Buffers.{idle, moveTo, cellAt, entryAt, slotIn, publishesIn, targetIn, cap}
+use Rattle.model.specs.Buffers.{idle, moveTo, cellAt, entryAt, slotIn, targetIn, cap}
 use Rattle.model.specs.Step.{claimed, newCell, sealPlan, promotePlan}
 use Rattle.model.specs.declared.Session.{Session}
 use Rattle.model.specs.declared.Lock.{Lock}
@@ -20,8 +20,8 @@ use Rattle.model.specs.declared.Answer.the-variants.{Moved, Committed}
 use Rattle.model.specs.declared.Plan.{Plan}
 use Rattle.model.specs.declared.Plan.the-variants.{Refuse, Tell, Enter, Update, EnterUpdate, RollBack, CommitReads, BeginPromotion, Wait, Own, Publish, Release, ShowStore, ShowLog}
 use Rattle.model.proofs.Tools.{test, which, clash, both-l, both-r, and-false}
-use Rattle.model.proofs.Laws.{find-some, find-none, Lowest, lowest-is}
 use Rattle.log.specs.Slots.{found, slotOf, targetSlot}
+use Rattle.log.proofs.Targets.{written-first, slot-some, target-some}
 use Rattle.decide.specs.Own.{entriesOn, recordOn, tested, guardOn, readSlot, readOn, writeSlot, writeCapped, writeOn, sealOn, dueAt, dueOn, advanceOn, handledOn, peekSlot, peekOn}
 use Rattle.decide.specs.declared.Due.the-variants.{Refused, Slot}
 
@@ -39,12 +39,10 @@ found-nowhere m k o e h = sym (rw (le-ltb k m h) at e)
 -- the lowest written cell has a first entry
 pub target-slot : (log : List ℕ) (m from : ℕ) {c : ℕ} → targetIn log 0 m from ≡ some c
     → (k : ℕ) × (slotIn log 0 m c ≡ some k) × (k < m) × (cellAt log 0 k ≡ c)
-unfolding targetIn slotIn
 target-slot log m from {c} e =
-    let w : Lowest _ (cellAt log 0) m c = rw e at (lowest-is (λ c. leb from c && publishesIn log 0 m c) (cellAt log 0) m) in
-    which (find (cellAt log 0) m c)
-    (λ p. absurd (find-none (cellAt log 0) c m p (w .place .0) (w .place .1) (w .place .2)))
-    (λ k p. let v = find-some (cellAt log 0) c m p in (k, p, v .0, v .1))
+    let k = written-first log m c (target-some log m from e .1) in
+    let s = slot-some log m c (k .1) in
+    (k .0, k .1, s .0, s .1)
 
 -- so a written cell is there where its place is one of m
 found-test : (m k : ℕ) → ltb k m ≡ some? (found m k)
