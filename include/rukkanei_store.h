@@ -99,6 +99,17 @@ rukkanei_sessions rukkanei_peek_number(rukkanei_sessions sessions, const uint32_
                                        size_t claimants_len, const uint8_t *exclusives, size_t exclusives_len, const uint32_t *logs,
                                        size_t logs_len, uint8_t session, uint32_t cell, uint32_t *number, uint32_t *value);
 
+/* Where a peek's word is. */
+#define RUKKANEI_NOWHERE 0
+#define RUKKANEI_IN_VALUES 1
+#define RUKKANEI_IN_LOGS 2
+
+/* The word that a running session's peek shows: the store's own, `values[*index]`, of a cell that it has not written, or the log's own,
+   `logs[*index]`, of one that it has. 0, with *index as before, where the peek is refused; rukkanei_peek_number tells why. */
+uint8_t rukkanei_peek_place(rukkanei_sessions sessions, const uint32_t *values, size_t values_len, const uint8_t *classes, size_t classes_len,
+                            const uint16_t *readers, size_t readers_len, const uint8_t *claimants, size_t claimants_len, const uint8_t *exclusives,
+                            size_t exclusives_len, const uint32_t *logs, size_t logs_len, uint8_t session, uint32_t cell, size_t *index);
+
 #ifdef __cplusplus
 }
 #endif

@@ -1,11 +1,12 @@
 // The calls for C: each is the store's own call, with the session records passed in and handed back by value and the answer as two numbers.
 ghost use mathlib.Core.Path.{_≡_};
-ghost use Rattle.model.specs.Step.{number, valueOf, taken, setUpTaken};
+ghost use Rattle.model.specs.Step.{number, valueOf, taken, setUpTaken, planOf, shown};
 ghost use Rattle.model.specs.declared.Call.the-variants.{Begin, Read, Write, Seal, Advance, Abandon, Peek};
 ghost use Rattle.store.specs.Lent.{storeOf};
-ghost use Rattle.exports.specs.Said.{said, inNumbers};
+ghost use Rattle.exports.specs.Said.{said, inNumbers, at, placeOf};
 
 use model::Answer;
+use model::Plan;
 use model::Sessions;
 
 fn wide(x: u8) -> u32
@@ -146,4 +147,21 @@ pub extern "C" fn rukkanei_peek_number(sessions: Sessions, values: &[u32], class
     *number = number_of(answer);
     *value = value_of(answer);
     left
+}
+
+// Where a peek's word is: 1 and its index in the values, 2 and its index in the logs; 0, with the index as before, where the peek is refused.
+#[no_mangle]
+pub extern "C" fn rukkanei_peek_place(sessions: Sessions, values: &[u32], classes: &[u8], readers: &[u16], claimants: &[u8], exclusives: &[u8], logs: &[u32], session: u8, cell: u32, index: &mut usize) -> u8
+    ensures { λ r. ⌜ at r (now (index .exit)) ≡ placeOf (shown session (planOf (Peek session cell) (storeOf (now (values .entry)) (now (classes .entry)) (now (readers .entry)) (now (claimants .entry)) (now (exclusives .entry)) (now (logs .entry)) sessions))) (now (index .entry)) ⌝ }
+{
+    let p = store::peek_plan(sessions, values, classes, readers, claimants, exclusives, logs, session, cell);
+    if let Plan::ShowStore(c) = p {
+        *index = c as usize;
+        return 1;
+    }
+    if let Plan::ShowLog(k) = p {
+        *index = 128 * (session as usize) + (4 * (k as usize) + 2);
+        return 2;
+    }
+    0
 }
