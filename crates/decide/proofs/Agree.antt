@@ -1,7 +1,7 @@
 -- The words of a session's part are the session's words, so what specs/Own.antt decides from the part is what the model plans,
 -- whatever keeps the locks. The first laws are of the part; the others speak of the lent buffers.
 use mathlib.Core.Path.{_≡_, refl, sym, ap, _∙_}
-use mathlib.Core.Bool.{Bool, true, false, cond, _&&_, _||_}
+use mathlib.Core.Bool.{Bool, true, false, cond, _||_}
 use mathlib.Core.Option.{Option, none, some}
 use mathlib.Core.List.{List}
 use Prim.Native.Nat.{ℕ, zero, suc, _+_, _*_, _<_, _≤_}
@@ -19,13 +19,14 @@ use Rattle.model.specs.declared.Answer.the-variants.{Moved}
 use Rattle.model.specs.declared.Plan.{Plan}
 use Rattle.model.specs.declared.Plan.the-variants.{Refuse, Start, Cancel}
 use Rattle.model.proofs.Tools.{same, test, which, nothing, both-l, and-false}
-use Rattle.model.proofs.Laws.{find-some, find-none, find-ext, Lowest, lowest-is}
+use Rattle.model.proofs.Laws.{find-some, find-ext}
 use Rattle.log.specs.Slots.{part, slotOf, targetSlot}
+use Rattle.log.proofs.Targets.{slot-some}
 use Rattle.decide.specs.Own
 use Rattle.decide.specs.Own.{lengthsOn, entriesOn, recordOn, tested, guardOn, readSlot, readOn, writeCapped, writeOn, sealOn, dueAt, dueOn, advanceOn, handledOn, peekSlot, peekOn}
 use Rattle.decide.specs.declared.Due.{Due}
 use Rattle.decide.specs.declared.Due.the-variants.{Refused, Slot}
-use Rattle.decide.proofs.Ways.{passes, turned, Entries, entries-of, running}
+use Rattle.decide.proofs.Ways.{target-slot, passes, turned, Entries, entries-of, record-entries}
 
 -- ---- a session's part
 
@@ -83,16 +84,6 @@ module _ (logs : List ℕ) (s : ℕ) where
     unfolding targetIn
     part-target from = lowest-ext _ _ (cellAt (part logs s) 0) (cellAt logs s) m (λ c. rw (part-publishes c)) (λ j l. part-cell j (omega arith))
 
--- the lowest written cell has a first entry
-target-slot : (log : List ℕ) (m from : ℕ) {c : ℕ} → targetIn log 0 m from ≡ some c
-    → (k : ℕ) × (slotIn log 0 m c ≡ some k) × (k < m) × (cellAt log 0 k ≡ c)
-unfolding targetIn slotIn
-target-slot log m from {c} e =
-    let w : Lowest _ (cellAt log 0) m c = rw e at (lowest-is (λ c. leb from c && publishesIn log 0 m c) (cellAt log 0) m) in
-    which (find (cellAt log 0) m c)
-    (λ p. absurd (find-none (cellAt log 0) c m p (w .place .0) (w .place .1) (w .place .2)))
-    (λ k p. let v = find-some (cellAt log 0) c m p in (k, p, v .0, v .1))
-
 slot-look : (log : List ℕ) (m c : ℕ) {k : ℕ} → slotIn log 0 m c ≡ some k → lookIn log 0 m c ≡ some (entryAt log 0 k)
 unfolding lookIn entryOf
 slot-look log m c e = rw e
@@ -137,7 +128,7 @@ module _ (B : Buffers) (s : ℕ) (x : Session) (lengths : lengthsFit B ≡ true)
   runs : (p q : Plan) → (x .count ≤ 32 → p ≡ q) → guardOn (recordOn (size B) (part (B .logs) s) x) (eqb (x .phase) 1) p ≡ guard B s x (eqb (x .phase) 1) q
   runs p q h =
       past (recordOn (size B) (part (B .logs) s) x) (eqb (x .phase) 1) p q
-      (λ w f. h (running (size B) (part (B .logs) s) x w (eqb-true (x .phase) 1 f) .count))
+      (λ w f. let one = eqb-true (x .phase) 1 f in h (record-entries (size B) (part (B .logs) s) x w (omega arith) .count))
       ∙ guard-agree (eqb (x .phase) 1) q
 
   -- ---- begin and abandon, whose tests answer a number
@@ -279,9 +270,9 @@ picks true false o e = absurd (not-slot e)
 picks false b o e = absurd (not-slot e)
 
 slot-below : (log : List ℕ) (m : ℕ) (o : Option ℕ) {k : ℕ} → slotOf log m o ≡ some k → k < m
-unfolding slotOf slotIn
+unfolding slotOf
 slot-below log m none e = nothing e
-slot-below log m (some c) e = find-some (cellAt log 0) c m e .0
+slot-below log m (some c) e = slot-some log m c e .0
 
 pub due-known : (n : ℕ) (log : List ℕ) (x : Session) (k : ℕ) → dueOn n log x ≡ Slot k → Advancing n log x k
 unfolding dueOn targetSlot entriesOn
