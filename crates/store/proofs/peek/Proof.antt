@@ -1,3 +1,7 @@
+use native.Mathlib.Omega.{arith}
+use mathlib.Core.Path.{refl, sym, _∙_}
+use Rattle.store.specs.Lent.{storeOf}
+use Rattle.store.proofs.Peeks.{peeked, inside, in-logs, hands-store, hands-log, hands-nothing}
 use borrow.Author.Needs.{needs}
 use Rattle.store.proofs.peek.Statement.{statement}
 use Rattle.store.proofs.peek.Tie as tie
@@ -31,11 +35,13 @@ part-result-start c = search needs
 
 -- src/lib.rt:352:16
 part-result-end : tie.Need-part-result-end
-part-result-end c = ?
+part-result-end c = let a = c .before .before .before .before .before .before .before .before .before .args in let σ = storeOf (a .values .now) (a .classes .now) (a .readers .now) (a .claimants .now) (a .exclusives .now) (a .logs .now) (a .sessions) in
+    omega (arith, inside (peeked σ (a .session) (a .cell)) (sym (c .before .before .peek-plan .ensures) ∙ c .enum-told .given .1))
 
 -- src/lib.rt:352:9
 returns : tie.Need-returns
-returns c = ?
+returns c = let a = c .before .before .before .before .before .before .before .before .before .before .args in let σ = storeOf (a .values .now) (a .classes .now) (a .readers .now) (a .claimants .now) (a .exclusives .now) (a .logs .now) (a .sessions) in
+    hands-store (a .values) (a .logs) _ (peeked σ (a .session) (a .cell)) (sym (c .before .before .before .peek-plan .ensures) ∙ c .before .enum-told .given .1)
 
 -- src/lib.rt:354:26
 enum-known-p : tie.Need-enum-known-p
@@ -79,11 +85,13 @@ part-result-start-2 c = search needs
 
 -- src/lib.rt:357:16
 part-result-end-2 : tie.Need-part-result-end-2
-part-result-end-2 c = ?
+part-result-end-2 c = let a = c .before .before .before .before .before .before .before .before .before .before .before .args in let σ = storeOf (a .values .now) (a .classes .now) (a .readers .now) (a .claimants .now) (a .exclusives .now) (a .logs .now) (a .sessions) in
+    omega (arith, in-logs (peeked σ (a .session) (a .cell)) (sym (c .before .before .before .before .peek-plan .ensures) ∙ c .before .p .given .1))
 
 -- src/lib.rt:357:9
 returns-2 : tie.Need-returns-2
-returns-2 c = ?
+returns-2 c = let a = c .before .before .before .before .before .before .before .before .before .before .before .before .args in let σ = storeOf (a .values .now) (a .classes .now) (a .readers .now) (a .claimants .now) (a .exclusives .now) (a .logs .now) (a .sessions) in
+    hands-log (a .values) (a .logs) _ (peeked σ (a .session) (a .cell)) (sym (c .before .before .before .before .before .peek-plan .ensures) ∙ c .before .before .p .given .1)
 
 -- src/lib.rt:359:5
 sub-result-3 : tie.Need-sub-result-3
@@ -99,7 +107,8 @@ part-result-end-3 c = search needs
 
 -- src/lib.rt:345:1
 returns-3 : tie.Need-returns-3
-returns-3 c = ?
+returns-3 c = let a = c .before .before .before .before .before .before .before .before .before .before .args in let σ = storeOf (a .values .now) (a .classes .now) (a .readers .now) (a .claimants .now) (a .exclusives .now) (a .logs .now) (a .sessions) in
+    hands-nothing (peeked σ (a .session) (a .cell)) _ (c .before .before .before .peek-plan .ensures) (c .before .before .match .keys2) (c .before .match2 .keys2) (a .values) (a .logs) _ refl
 
 pub peek-spec : {M : Type 1} → statement M
 peek-spec =

@@ -1,3 +1,8 @@
+use borrow.Author.Tests.{not-true, not-false}
+use mathlib.Core.Path.{sym, _∙_}
+use Rattle.store.specs.Lent.{storeOf}
+use Rattle.store.proofs.Refusals.{fit-is, lengths-of}
+use Rattle.store.proofs.SetUp.{set-7, set-8, set-done}
 use borrow.Author.Needs.{needs}
 use Rattle.store.proofs.set_up.Statement.{statement}
 use Rattle.store.proofs.set_up.Tie as tie
@@ -16,15 +21,18 @@ lengths-fit-requires c κs = search needs
 
 -- src/lib.rt:97:9
 returns : tie.Need-returns
-returns c = ?
+returns c = let a = c .before .before .before .before .before .before .before .before .args in let σ = storeOf (a .values .now) (a .classes .now) (a .readers .now) (a .claimants .now) (a .exclusives .now) (a .logs .now) (a .sessions) in
+    set-7 σ (sym (fit-is σ _ (c .before .lengths-fit .ensures)) ∙ not-true _ (c .if1 .taken))
 
 -- src/lib.rt:99:9
 all-fit-requires : tie.Need-all-fit-requires
-all-fit-requires c κs = ?
+all-fit-requires c κs = let a = c .before .before .before .before .before .before .before .before .args in let σ = storeOf (a .values .now) (a .classes .now) (a .readers .now) (a .claimants .now) (a .exclusives .now) (a .logs .now) (a .sessions) in
+    lengths-of (σ .lent) (sym (fit-is σ _ (c .before .lengths-fit .ensures)) ∙ not-false _ (c .if1 .left)) .classes
 
 -- src/lib.rt:100:9
 returns-2 : tie.Need-returns-2
-returns-2 c = ?
+returns-2 c = let a = c .before .before .before .before .before .before .before .before .before .before .args in let σ = storeOf (a .values .now) (a .classes .now) (a .readers .now) (a .claimants .now) (a .exclusives .now) (a .logs .now) (a .sessions) in
+    set-8 σ (sym (fit-is σ _ (c .before .before .before .lengths-fit .ensures)) ∙ not-false _ (c .before .before .if1 .left)) _ (c .before .all-fit .ensures) (not-true _ (c .if2 .taken))
 
 -- src/lib.rt:102:5
 clear-sets-requires : tie.Need-clear-sets-requires
@@ -64,7 +72,9 @@ same-length-4 c = search needs
 
 -- src/lib.rt:93:1
 returns-3 : tie.Need-returns-3
-returns-3 c = ?
+returns-3 c = let a = c .before .before .before .before .before .before .before .before .before .before .before .before .before .before .before .before .before .before .before .before .before .before .before .before .before .before .before .args in let σ = storeOf (a .values .now) (a .classes .now) (a .readers .now) (a .claimants .now) (a .exclusives .now) (a .logs .now) (a .sessions) in
+    set-done σ (sym (fit-is σ _ (c .before .before .before .before .before .before .before .before .before .before .before .before .before .before .before .before .before .before .before .before .lengths-fit .ensures)) ∙ not-false _ (c .before .before .before .before .before .before .before .before .before .before .before .before .before .before .before .before .before .before .before .if1 .left)) _ (c .before .before .before .before .before .before .before .before .before .before .before .before .before .before .before .before .before .before .all-fit .ensures) (not-false _ (c .before .before .before .before .before .before .before .before .before .before .before .before .before .before .before .before .before .if2 .left)) _ _ _ _ _
+    (c .before .before .before .before .before .before .before .before .before .before .before .before .before .before .before .clear-sets .ensures) (c .before .before .before .before .before .before .before .before .before .before .before .fill-bytes .ensures) (c .before .before .before .before .before .before .before .fill-bytes2 .ensures) (c .before .before .before .clear-words .ensures) (c .all-idle .ensures)
 
 pub set-up-spec : {M : Type 1} → statement M
 set-up-spec =

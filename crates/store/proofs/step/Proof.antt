@@ -89,7 +89,7 @@ same-length-5 c = search needs
 
 -- src/lib.rt:376:1
 returns : tie.Need-returns
-returns c = ?
+returns c = rw (c .before .before .before .before .before .before .before .call .given .1) (c .begin .ensures)
 
 -- src/lib.rt:376:1
 same-length-6 : tie.Need-same-length-6
@@ -113,7 +113,7 @@ same-length-10 c = search needs
 
 -- src/lib.rt:376:1
 returns-2 : tie.Need-returns-2
-returns-2 c = ?
+returns-2 c = rw (c .before .before .before .before .before .before .before .before .before .before .before .before .before .before .before .call2 .given .1) (c .before .before .before .before .before .before .before .before .read .ensures)
 
 -- src/lib.rt:376:1
 same-length-11 : tie.Need-same-length-11
@@ -137,7 +137,7 @@ same-length-15 c = search needs
 
 -- src/lib.rt:376:1
 returns-3 : tie.Need-returns-3
-returns-3 c = ?
+returns-3 c = rw (c .before .before .before .before .before .before .before .before .before .before .before .before .before .before .before .call3 .given .1) (c .before .before .before .before .before .before .before .before .write .ensures)
 
 -- src/lib.rt:376:1
 same-length-16 : tie.Need-same-length-16
@@ -161,7 +161,7 @@ same-length-20 c = search needs
 
 -- src/lib.rt:376:1
 returns-4 : tie.Need-returns-4
-returns-4 c = ?
+returns-4 c = rw (c .before .before .before .before .before .before .before .before .before .call4 .given .1) (c .before .before .seal .ensures)
 
 -- src/lib.rt:376:1
 same-length-21 : tie.Need-same-length-21
@@ -185,7 +185,7 @@ same-length-25 c = search needs
 
 -- src/lib.rt:376:1
 returns-5 : tie.Need-returns-5
-returns-5 c = ?
+returns-5 c = rw (c .before .before .before .before .before .before .before .before .before .before .before .before .before .before .before .call5 .given .1) (c .before .before .before .before .before .before .before .before .advance .ensures)
 
 -- src/lib.rt:376:1
 same-length-26 : tie.Need-same-length-26
@@ -209,7 +209,7 @@ same-length-30 c = search needs
 
 -- src/lib.rt:376:1
 returns-6 : tie.Need-returns-6
-returns-6 c = ?
+returns-6 c = rw (c .before .before .before .before .before .before .before .before .before .before .before .before .before .call6 .given .1) (c .before .before .before .before .before .before .abandon .ensures)
 
 -- src/lib.rt:376:1
 same-length-31 : tie.Need-same-length-31
@@ -233,7 +233,7 @@ same-length-35 c = search needs
 
 -- src/lib.rt:376:1
 returns-7 : tie.Need-returns-7
-returns-7 c = ?
+returns-7 c = rw (c .before .before .before .before .before .before .before .call7 .given .1) (c .peek-number .ensures)
 
 pub step-spec : {M : Type 1} → statement M
 step-spec =
