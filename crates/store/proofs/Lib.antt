@@ -1,2 +1,6 @@
-pub mod Refusals
+pub mod Advances
 pub mod Carry
+pub mod Peeks
+pub mod Refusals
+pub mod Seals
+pub mod SetUp

@@ -34,7 +34,7 @@ same-length-3 c = search needs
 
 -- src/lib.rt:124:1
 returns : tie.Need-returns
-returns c = in-numbers _ _ _ _ _ (c .before .before .abandon .ensures) (c .before .number-of .ensures) (c .value-of .ensures)
+returns c = in-numbers _ _ _ _ _ (c .before .before .before .before .before .before .before .before .before .abandon .ensures) (c .before .number-of .ensures) (c .value-of .ensures)
 
 pub rukkanei-abandon-spec : {M : Type 1} → statement M
 rukkanei-abandon-spec =

@@ -22,7 +22,7 @@ value-of-requires c κs = search needs
 
 -- src/lib.rt:59:1
 returns : tie.Need-returns
-returns c = in-numbers _ _ _ _ _ (c .before .before .begin .ensures) (c .before .number-of .ensures) (c .value-of .ensures)
+returns c = in-numbers _ _ _ _ _ (c .before .before .before .begin .ensures) (c .before .number-of .ensures) (c .value-of .ensures)
 
 pub rukkanei-begin-spec : {M : Type 1} → statement M
 rukkanei-begin-spec =

@@ -22,7 +22,7 @@ value-of-requires c κs = search needs
 
 -- src/lib.rt:137:1
 returns : tie.Need-returns
-returns c = in-numbers _ _ _ _ _ (c .before .before .peek-number .ensures) (c .before .number-of .ensures) (c .value-of .ensures)
+returns c = in-numbers _ _ _ _ _ (c .before .before .before .peek-number .ensures) (c .before .number-of .ensures) (c .value-of .ensures)
 
 pub rukkanei-peek-number-spec : {M : Type 1} → statement M
 rukkanei-peek-number-spec =

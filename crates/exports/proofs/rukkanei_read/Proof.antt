@@ -38,7 +38,7 @@ same-length-4 c = search needs
 
 -- src/lib.rt:72:1
 returns : tie.Need-returns
-returns c = in-numbers _ _ _ _ _ (c .before .before .read .ensures) (c .before .number-of .ensures) (c .value-of .ensures)
+returns c = in-numbers _ _ _ _ _ (c .before .before .before .before .before .before .before .before .before .before .before .read .ensures) (c .before .number-of .ensures) (c .value-of .ensures)
 
 pub rukkanei-read-spec : {M : Type 1} → statement M
 rukkanei-read-spec =

@@ -26,7 +26,7 @@ same-length c = search needs
 
 -- src/lib.rt:98:1
 returns : tie.Need-returns
-returns c = in-numbers _ _ _ _ _ (c .before .before .seal .ensures) (c .before .number-of .ensures) (c .value-of .ensures)
+returns c = in-numbers _ _ _ _ _ (c .before .before .before .before .before .seal .ensures) (c .before .number-of .ensures) (c .value-of .ensures)
 
 pub rukkanei-seal-spec : {M : Type 1} → statement M
 rukkanei-seal-spec =

@@ -38,7 +38,7 @@ same-length-4 c = search needs
 
 -- src/lib.rt:85:1
 returns : tie.Need-returns
-returns c = in-numbers _ _ _ _ _ (c .before .before .write .ensures) (c .before .number-of .ensures) (c .value-of .ensures)
+returns c = in-numbers _ _ _ _ _ (c .before .before .before .before .before .before .before .before .before .before .before .write .ensures) (c .before .number-of .ensures) (c .value-of .ensures)
 
 pub rukkanei-write-spec : {M : Type 1} → statement M
 rukkanei-write-spec =
