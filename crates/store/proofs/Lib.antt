@@ -1,2 +1,4 @@
-pub mod Refusals
 pub mod Carry
+pub mod Refusals
+pub mod Parts
+pub mod Tags
