@@ -2,3 +2,5 @@ pub mod Carry
 pub mod Refusals
 pub mod Parts
 pub mod Tags
+pub mod Choices
+pub mod Entering
