@@ -37,9 +37,14 @@ pub record Decided (σ : Store) (k : Call) (c : ℕ) (l : Lock) (known : ℕ →
   pub planned : p ≡ planOf k σ
   pub choice : Choice (length (σ .lent .values)) (cut (σ .lent .logs) (sessionOf k)) (own σ (sessionOf k)) c known new p
 
+abbrev pub ReadDecided : Store → ℕ → ℕ → Lock → Plan → Type 0
+ReadDecided σ s c l p = Decided σ (Read s c) c l (λ j. Tell (entryAt (cut (σ .lent .logs) s) 0 j .current)) (Enter c) p
+
+abbrev pub WriteDecided : Store → ℕ → ℕ → ℕ → Lock → Plan → Type 0
+WriteDecided σ s c v l p = Decided σ (Write s c v) c l (λ j. Update j v) (EnterUpdate c v) p
+
 module _ (σ : Store) (s c : ℕ) (z : Sized σ s) (l : Lock) (f : l ≡ lockAt (σ .lent .locks) c) (p : Plan) where
-  pub read-decided : p ≡ readOn (length (σ .lent .values)) (cut (σ .lent .logs) s) (own σ s) l c
-      → Decided σ (Read s c) c l (λ j. Tell (entryAt (cut (σ .lent .logs) s) 0 j .current)) (Enter c) p
+  pub read-decided : p ≡ readOn (length (σ .lent .values)) (cut (σ .lent .logs) s) (own σ s) l c → ReadDecided σ s c l p
   unfolding planOf size sessionAt
   read-decided e =
       record {
@@ -50,7 +55,7 @@ module _ (σ : Store) (s c : ℕ) (z : Sized σ s) (l : Lock) (f : l ≡ lockAt 
       }
 
   pub write-decided : (v : ℕ) → p ≡ writeOn (σ .lent .classes) (length (σ .lent .classes)) (cut (σ .lent .logs) s) (own σ s) l c v
-      → Decided σ (Write s c v) c l (λ j. Update j v) (EnterUpdate c v) p
+      → WriteDecided σ s c v l p
   unfolding planOf size sessionAt
   write-decided v e =
       let g = rw (lengths-of (σ .lent) (z .lengths) .classes) at e in
@@ -112,7 +117,7 @@ module _ {σ : Store} {k : Call} {c : ℕ} {l : Lock} {known : ℕ → Plan} {ne
 
 -- ---- read
 
-module _ {σ : Store} {s c : ℕ} {l : Lock} {known : ℕ → Plan} {p : Plan} (d : Decided σ (Read s c) c l known (Enter c) p) where
+module _ {σ : Store} {s c : ℕ} {l : Lock} {p : Plan} (d : ReadDecided σ s c l p) where
   pub read-told : (v : ℕ) → p ≡ Tell v → outcome (Value v) σ ≡ taken (Read s c) σ
   read-told v e = carry-tell s σ v ∙ carries (Read s c) σ (Tell v) (sym e ∙ d .planned)
 
@@ -127,7 +132,7 @@ module _ {σ : Store} {s c : ℕ} {l : Lock} {known : ℕ → Plan} {p : Plan} (
 
 -- ---- write
 
-module _ {σ : Store} {s c v : ℕ} {l : Lock} {p : Plan} (d : Decided σ (Write s c v) c l (λ j. Update j v) (EnterUpdate c v) p) where
+module _ {σ : Store} {s c v : ℕ} {l : Lock} {p : Plan} (d : WriteDecided σ s c v l p) where
   words : length (σ .lent .logs) ≡ 2048
   words = lengths-of (σ .lent) (d .sized .lengths) .logs
 
