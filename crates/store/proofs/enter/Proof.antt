@@ -1,4 +1,7 @@
+-- `store::enter` meets its contract: the lock that the session joined is put back, and the entry is appended.
 use borrow.Author.Needs.{needs}
+use Rattle.model.specs.Buffers.{join}
+use Rattle.store.proofs.Carry.{put-on}
 use Rattle.store.proofs.enter.Statement.{statement}
 use Rattle.store.proofs.enter.Tie as tie
 use Rattle.store.proofs.enter.Reads as reads
@@ -37,7 +40,7 @@ same-length-4 c = search needs
 
 -- src/lib.rt:137:1
 returns : tie.Need-returns
-returns c = ?
+returns c = (put-on (join _) _ _ _ _ _ (c .before .before .before .before .before .before .before .before .before .before .put .ensures) (c .before .before .before .before .before .before .before .before .before .before .before .joined .ensures) (c .before .before .before .before .before .before .before .before .before .before .before .before .before .before .before .before .before .before .before .pre .5), c .before .before .append .ensures)
 
 pub enter-spec : {M : Type 1} → statement M
 enter-spec =
