@@ -160,12 +160,19 @@ module _ {σ : Store} {s c v : ℕ} {l : Lock} {p : Plan} (d : WriteDecided σ s
     pub can-update-new : 4 * own σ s .count + 3 < length (cut (puts (σ .lent .logs) s P) s)
     can-update-new = let w = part-long (puts (σ .lent .logs) s P) s words-still (d .sized .session) in let r = n .room in omega arith
 
-    pub write-entered : (b u : ℕ) → p ≡ EnterUpdate b u → (L : Locks) (Q : List ℕ) (y : Session) → L ≡ lockOn c (join s) (σ .lent .locks)
-        → Q ≡ updated (cut (puts (σ .lent .logs) s P) s) 0 (own σ s .count) u → y ≡ withEntry (own σ s)
-        → outcome Done (leaves σ s L (σ .lent .values) (puts (puts (σ .lent .logs) s P) s Q) y) ≡ taken (Write s c v) σ
-    unfolding sessionAt
-    write-entered b u e L Q y g q r =
-        let f : u ≡ v = let w = n .plan in cc in
-        carry-enter-update s σ c (getD (σ .lent .values) c 0) L (puts (puts (σ .lent .logs) s P) s Q) y refl g r u
-        (put-updated (puts (σ .lent .logs) s P) s words-still (d .sized .session) Q _ u (n .room) q ∙ rw appended-is)
-        ∙ carries (Write s c v) σ (EnterUpdate c u) (rw f (sym (n .plan) ∙ d .planned))
+    module _ (b u : ℕ) (e : p ≡ EnterUpdate b u) (Q : List ℕ) (q : Q ≡ updated (cut (puts (σ .lent .logs) s P) s) 0 (own σ s .count) u) where
+      updated-is : puts (puts (σ .lent .logs) s P) s Q
+          ≡ updated (appended (σ .lent .logs) s (own σ s .count) c (getD (σ .lent .values) c 0)) s (own σ s .count) u
+      updated-is = put-updated (puts (σ .lent .logs) s P) s words-still (d .sized .session) Q _ u (n .room) q ∙ rw appended-is
+
+      pub logs-still : length (puts (puts (σ .lent .logs) s P) s Q) ≡ length (σ .lent .logs)
+      unfolding appended updated
+      logs-still = ap length updated-is ∙ simp length-set
+
+      pub write-entered : (L : Locks) (y : Session) → L ≡ lockOn c (join s) (σ .lent .locks) → y ≡ withEntry (own σ s)
+          → outcome Done (leaves σ s L (σ .lent .values) (puts (puts (σ .lent .logs) s P) s Q) y) ≡ taken (Write s c v) σ
+      unfolding sessionAt
+      write-entered L y g r =
+          let f : u ≡ v = let w = n .plan in cc in
+          carry-enter-update s σ c (getD (σ .lent .values) c 0) L (puts (puts (σ .lent .logs) s P) s Q) y refl g r u updated-is
+          ∙ carries (Write s c v) σ (EnterUpdate c u) (rw f (sym (n .plan) ∙ d .planned))

@@ -114,6 +114,9 @@ module _ (σ : Store) (s : ℕ) (z : Sized σ s) where
   pub can-decide : (length (cut (σ .lent .logs) s) ≡ 128) × (length (σ .lent .values) ≤ 1024)
   can-decide = (part-long (σ .lent .logs) s (sizes .logs) (z .session), sizes .few)
 
+  pub can-decide-write : (length (cut (σ .lent .logs) s) ≡ 128) × (length (σ .lent .classes) ≤ 1024)
+  can-decide-write = (can-decide .0, rw (sizes .classes) (sizes .few))
+
   pub locks-even : (length (σ .lent .locks .claimants) ≡ length (σ .lent .locks .readers)) × (length (σ .lent .locks .exclusives) ≡ length (σ .lent .locks .readers))
   locks-even = (sizes .claimants ∙ sym (sizes .readers), sizes .exclusives ∙ sym (sizes .readers))
 

@@ -1,4 +1,11 @@
+-- `store::write_as` meets its contract: each way through it is one law of proofs/Entering.antt, at the plan that `decide::write` answers.
+use native.Mathlib.Omega.{arith}
 use borrow.Author.Needs.{needs}
+use Rattle.model.specs.Buffers.{Store}
+use Rattle.model.specs.declared.Plan.the-variants.{EnterUpdate}
+use Rattle.store.specs.Lent.{storeOf}
+use Rattle.store.proofs.Parts.{part-fits, can-decide-write, locks-even}
+use Rattle.store.proofs.Entering.{New, Left, WriteDecided, write-decided, refused, is-new, can-enter, is-left, can-roll, rolled, can-update, write-updated, entered-fits, can-update-new, logs-still, write-entered}
 use Rattle.store.proofs.write_as.Statement.{statement}
 use Rattle.store.proofs.write_as.Tie as tie
 use Rattle.store.proofs.write_as.Reads as reads
@@ -10,6 +17,23 @@ use Rattle.log.proofs.update.Reads as update-reads
 use Rattle.model.proofs.Session.rested.Reads as rested-reads
 use Rattle.model.proofs.Session.with_entry.Reads as with-entry-reads
 use Rattle.store.proofs.enter.Reads as enter-reads
+
+-- the store at the entry, and what is known once the plan is
+abbrev given : tie.Start → Store
+given c =
+    storeOf (c .args .values .now) (c .args .classes .now) (c .args .readers .now) (c .args .claimants .now) (c .args .exclusives .now) (c .args .logs .now) (c .args .t1)
+
+abbrev start : tie.After-write → tie.Start
+start c = c .before .before .before .before .before .before .before .before .before .before .before .before .before .before
+
+decided : (c : tie.After-write) → WriteDecided (given (start c)) (start c .args .session) (start c .args .cell) (start c .args .value) (c .before .before .before .at .result) (c .write .result)
+decided c = write-decided (given (start c)) _ _ (start c .pre) _ (c .before .before .before .at .ensures) _ _ (c .write .ensures)
+
+is-entered : (c : tie.After-p3) → New (given (start (c .before .before .before .before .before))) (start (c .before .before .before .before .before) .args .session) (start (c .before .before .before .before .before) .args .cell) (EnterUpdate (start (c .before .before .before .before .before) .args .cell) (start (c .before .before .before .before .before) .args .value)) (c .before .before .before .before .before .write .result)
+is-entered c = is-new (decided (c .before .before .before .before .before)) (EnterUpdate _ _) tt (λ j. tt) tt (c .p3 .given .1)
+
+is-rolled : (c : tie.At-match3-keys2) → Left (given (start (c .before .before .before .before))) (start (c .before .before .before .before) .args .session) (c .before .before .before .before .write .result)
+is-rolled c = is-left (decided (c .before .before .before .before)) 4 5 (λ j. tt) tt (c .before .before .before .match .keys2) (c .before .before .match2 .keys2) (c .match3 .keys2)
 
 -- src/lib.rt:194:13
 mul-a : tie.Need-mul-a
@@ -29,7 +53,7 @@ element-copy-out-x c = search needs
 
 -- src/lib.rt:197:9
 at-requires : tie.Need-at-requires
-at-requires c κs = ?
+at-requires c κs = locks-even _ _ (c .before .before .before .before .before .before .before .before .before .before .pre)
 
 -- src/lib.rt:198:27
 mul-write : tie.Need-mul-write
@@ -45,11 +69,11 @@ part-write-start c = search needs
 
 -- src/lib.rt:198:27
 part-write-end : tie.Need-part-write-end
-part-write-end c = ?
+part-write-end c = part-fits (given (c .before .before .before .before .before .before .before .before .before .before .before .before)) _ (c .before .before .before .before .before .before .before .before .before .before .before .before .pre)
 
 -- src/lib.rt:198:9
 write-requires : tie.Need-write-requires
-write-requires c κs = ?
+write-requires c κs = can-decide-write (given (c .before .before .before .before .before .before .before .before .before .before .before .before .before)) _ (c .before .before .before .before .before .before .before .before .before .before .before .before .before .pre)
 
 -- src/lib.rt:199:25
 enum-known-p : tie.Need-enum-known-p
@@ -69,7 +93,7 @@ part-update-start c = search needs
 
 -- src/lib.rt:200:21
 part-update-end : tie.Need-part-update-end
-part-update-end c = ?
+part-update-end c = part-fits (given (c .before .before .before .before .before .before .before .before .before .before .before .before .before .before .before .before .before)) _ (c .before .before .before .before .before .before .before .before .before .before .before .before .before .before .before .before .before .pre)
 
 -- src/lib.rt:200:38
 cast-update : tie.Need-cast-update
@@ -77,7 +101,7 @@ cast-update c = search needs
 
 -- src/lib.rt:200:9
 update-requires : tie.Need-update-requires
-update-requires c κs = ?
+update-requires c κs = can-update (decided (c .before .before .before .before)) _ _ (c .before .before .p .given .1)
 
 -- src/lib.rt:201:9
 same-length : tie.Need-same-length
@@ -97,7 +121,7 @@ same-length-4 c = search needs
 
 -- src/lib.rt:201:9
 returns : tie.Need-returns
-returns c = ?
+returns c = write-updated (decided (c .before .before .before .before .before .before .before)) _ _ (c .before .before .before .before .before .p .given .1) _ (c .before .before .update .ensures)
 
 -- src/lib.rt:203:25
 enum-known-p-2 : tie.Need-enum-known-p-2
@@ -121,7 +145,7 @@ same-length-8 c = search needs
 
 -- src/lib.rt:204:9
 returns-2 : tie.Need-returns-2
-returns-2 c = ?
+returns-2 c = refused (decided (c .before .before .before .before)) _ (c .before .p2 .given .1)
 
 -- src/lib.rt:206:17
 cast-count : tie.Need-cast-count
@@ -137,7 +161,7 @@ mul-found c = search needs
 
 -- src/lib.rt:208:21
 shared-slice-read-found : tie.Need-shared-slice-read-found
-shared-slice-read-found c = ?
+shared-slice-read-found c = is-entered (c .before .before) .inside
 
 -- src/lib.rt:209:47
 mul-enter : tie.Need-mul-enter
@@ -153,15 +177,15 @@ part-enter-start c = search needs
 
 -- src/lib.rt:209:47
 part-enter-end : tie.Need-part-enter-end
-part-enter-end c = ?
+part-enter-end c = part-fits (given (c .before .before .before .before .before .before .before .before .before .before .before .before .before .before .before .before .before .before .before .before .before .before .before .before)) _ (c .before .before .before .before .before .before .before .before .before .before .before .before .before .before .before .before .before .before .before .before .before .before .before .before .pre)
 
 -- src/lib.rt:209:9
 enter-requires : tie.Need-enter-requires
-enter-requires c κs = ?
+enter-requires c κs = can-enter (decided (c .before .before .before .before .before .before .before .before .before .before .before)) (is-entered (c .before .before .before .before .before .before))
 
 -- src/lib.rt:210:21
 mul-update-2 : tie.Need-mul-update-2
-mul-update-2 c = ?
+mul-update-2 c = omega (arith, c .before .before .before .before .before .before .before .before .before .before .before .before .before .before .before .before .before .before .before .before .before .before .before .before .before .before .before .before .before .before .before .before .before .before .pre .session)
 
 -- src/lib.rt:210:21
 sub-update-2 : tie.Need-sub-update-2
@@ -173,23 +197,23 @@ part-update-start-2 c = search needs
 
 -- src/lib.rt:210:21
 part-update-end-2 : tie.Need-part-update-end-2
-part-update-end-2 c = ?
+part-update-end-2 c = entered-fits (decided (c .before .before .before .before .before .before .before .before .before .before .before .before .before .before .before .before .before .before .before .before)) (is-entered (c .before .before .before .before .before .before .before .before .before .before .before .before .before .before .before)) _ (c .before .before .before .before .before .before .before .before .enter .ensures .1)
 
 -- src/lib.rt:210:9
 update-requires-2 : tie.Need-update-requires-2
-update-requires-2 c κs = ?
+update-requires-2 c κs = can-update-new (decided (c .before .before .before .before .before .before .before .before .before .before .before .before .before .before .before .before .before .before .before .before .before)) (is-entered (c .before .before .before .before .before .before .before .before .before .before .before .before .before .before .before .before)) _ (c .before .before .before .before .before .before .before .before .before .enter .ensures .1)
 
 -- src/lib.rt:211:31
 with-entry-requires : tie.Need-with-entry-requires
-with-entry-requires c κs = ?
+with-entry-requires c κs = is-entered (c .before .before .before .before .before .before .before .before .before .before .before .before .before .before .before .before .before .before .before) .room
 
 -- src/lib.rt:211:9
 mul-t50 : tie.Need-mul-t50
-mul-t50 c = ?
+mul-t50 c = omega (arith, c .before .before .before .before .before .before .before .before .before .before .before .before .before .before .before .before .before .before .before .before .before .before .before .before .before .before .before .before .before .before .before .before .before .before .before .before .before .before .before .pre .session)
 
 -- src/lib.rt:211:9
 element-set-from-sessions : tie.Need-element-set-from-sessions
-element-set-from-sessions c = ?
+element-set-from-sessions c = c .before .before .before .before .before .before .before .before .before .before .before .before .before .before .before .before .before .before .before .before .before .before .before .before .before .before .before .before .before .before .before .before .before .before .before .before .before .before .before .pre .session
 
 -- src/lib.rt:212:9
 same-length-9 : tie.Need-same-length-9
@@ -205,11 +229,11 @@ same-length-11 c = search needs
 
 -- src/lib.rt:212:9
 same-length-12 : tie.Need-same-length-12
-same-length-12 c = ?
+same-length-12 c = logs-still (decided (c .before .before .before .before .before .before .before .before .before .before .before .before .before .before .before .before .before .before .before .before .before .before .before .before .before)) (is-entered (c .before .before .before .before .before .before .before .before .before .before .before .before .before .before .before .before .before .before .before .before)) _ (c .before .before .before .before .before .before .before .before .before .before .before .before .before .enter .ensures .1) _ _ (c .before .before .before .before .before .before .before .before .before .before .before .before .before .before .before .before .before .before .before .before .p3 .given .1) _ (c .before .before .before .update2 .ensures)
 
 -- src/lib.rt:212:9
 returns-3 : tie.Need-returns-3
-returns-3 c = ?
+returns-3 c = write-entered (decided (c .before .before .before .before .before .before .before .before .before .before .before .before .before .before .before .before .before .before .before .before .before .before .before .before .before)) (is-entered (c .before .before .before .before .before .before .before .before .before .before .before .before .before .before .before .before .before .before .before .before)) _ (c .before .before .before .before .before .before .before .before .before .before .before .before .before .enter .ensures .1) _ _ (c .before .before .before .before .before .before .before .before .before .before .before .before .before .before .before .before .before .before .before .before .p3 .given .1) _ (c .before .before .before .update2 .ensures) _ _ (c .before .before .before .before .before .before .before .before .before .before .before .before .before .enter .ensures .0) (c .with-entry .ensures)
 
 -- src/lib.rt:214:22
 mul-roll-back : tie.Need-mul-roll-back
@@ -225,11 +249,11 @@ part-roll-back-start c = search needs
 
 -- src/lib.rt:214:22
 part-roll-back-end : tie.Need-part-roll-back-end
-part-roll-back-end c = ?
+part-roll-back-end c = part-fits (given (c .before .before .before .before .before .before .before .before .before .before .before .before .before .before .before .before .before .before .before)) _ (c .before .before .before .before .before .before .before .before .before .before .before .before .before .before .before .before .before .before .before .pre)
 
 -- src/lib.rt:214:5
 roll-back-requires : tie.Need-roll-back-requires
-roll-back-requires c κs = ?
+roll-back-requires c κs = can-roll (decided (c .before .before .before .before .before .before .before .before .before)) (is-rolled (c .before .before .before .before .before))
 
 -- src/lib.rt:215:27
 rested-requires : tie.Need-rested-requires
@@ -237,11 +261,11 @@ rested-requires c κs = search needs
 
 -- src/lib.rt:215:5
 mul-t35 : tie.Need-mul-t35
-mul-t35 c = ?
+mul-t35 c = omega (arith, c .before .before .before .before .before .before .before .before .before .before .before .before .before .before .before .before .before .before .before .before .before .before .before .before .before .before .before .before .before .before .before .pre .session)
 
 -- src/lib.rt:215:5
 element-set-from-sessions-2 : tie.Need-element-set-from-sessions-2
-element-set-from-sessions-2 c = ?
+element-set-from-sessions-2 c = c .before .before .before .before .before .before .before .before .before .before .before .before .before .before .before .before .before .before .before .before .before .before .before .before .before .before .before .before .before .before .before .pre .session
 
 -- src/lib.rt:189:1
 same-length-13 : tie.Need-same-length-13
@@ -261,7 +285,7 @@ same-length-16 c = search needs
 
 -- src/lib.rt:189:1
 returns-4 : tie.Need-returns-4
-returns-4 c = ?
+returns-4 c = rolled (decided (c .before .before .before .before .before .before .before .before .before .before .before .before .before .before .before .before .before)) (is-rolled (c .before .before .before .before .before .before .before .before .before .before .before .before .before)) _ _ (c .before .before .before .before .before .before .before .roll-back .ensures) (c .rested .ensures)
 
 pub write-as-spec : {M : Type 1} → statement M
 write-as-spec =
