@@ -17,7 +17,7 @@ use Rattle.model.specs.declared.Plan.the-variants.{Refuse, Tell, Enter, Update,
 use Rattle.model.proofs.Tools.{split, which}
 use Rattle.log.proofs.Targets.{slot-some}
 use Rattle.decide.specs.Own.{recordOn, guardOn, readSlot, readOn, writeSlot, writeCapped, writeOn}
-use Rattle.decide.proofs.Ways.{Entries, running}
+use Rattle.decide.proofs.Ways.{Entries, record-entries}
 use Rattle.store.proofs.Tags.{tag, Passed, Passes, passed, apart}
 
 -- a plan p of a call on cell c: refused; that of entry k in the log; that of a new cell; or rolled back
@@ -38,7 +38,7 @@ module _ (n : ℕ) (log : List ℕ) (x : Session) (l : Lock) (c : ℕ) where
         (λ w.
         split (Choice n log x c known new) (eqb (x .phase) 1)
         (λ r.
-        split (Choice n log x c known new) (ltb c n) (λ i. f (running n log x w (eqb-true (x .phase) 1 r)) (ltb-true c n i)) (λ i. refuses 3 refl))
+        split (Choice n log x c known new) (ltb c n) (λ i. let h = eqb-true (x .phase) 1 r in f (record-entries n log x w (omega arith)) (ltb-true c n i)) (λ i. refuses 3 refl))
         (λ r. refuses 2 refl))
         (λ w. refuses 9 refl)
 

@@ -22,13 +22,9 @@ use Rattle.decide.proofs.Agree.{read-agree, write-agree}
 use Rattle.store.specs.Lent.{Sized}
 use Rattle.store.proofs.Carry.{carries, leaves, keeps, carry-refuse, carry-tell, carry-enter, carry-update, carry-enter-update, carry-roll-back}
 use Rattle.store.proofs.Refusals.{lengths-of}
-use Rattle.store.proofs.Parts.{cut, cut-is, puts, part-long, put-appended, put-updated, rolled-back, can-decide, locks-even, can-sweep}
+use Rattle.store.proofs.Parts.{own, cut, cut-is, puts, part-long, put-appended, put-updated, rolled-back, can-decide, locks-even, can-sweep}
 use Rattle.store.proofs.Tags.{tag, Passed, Passes}
 use Rattle.store.proofs.Choices.{Choice, read-choice, write-choice, when-new, when-left, when-known}
-
--- the session's record as the code reads it
-abbrev pub own : Store → ℕ → Session
-own σ s = getD (σ .sessions .records) s idle
 
 -- the plan p of call k, on cell c with lock l; `known` and `new` are its plans of an entry in the log and of a new cell
 pub record Decided (σ : Store) (k : Call) (c : ℕ) (l : Lock) (known : ℕ → Plan) (new p : Plan) : Type 0 where

@@ -4,3 +4,4 @@ pub mod Parts
 pub mod Tags
 pub mod Choices
 pub mod Entering
+pub mod Tested

@@ -6,10 +6,10 @@ use mathlib.Core.List.{List, [], _∷_, _++_}
 use Prim.Native.Nat.{ℕ, zero, suc, _+_, _*_, _-_, _<_, _≤_}
 use native.Mathlib.Nat.{zero-add, suc-add}
 use native.Mathlib.Omega.{arith}
-use lib.ListN.{length, set, take, drop, length-set, take-append-drop}
+use lib.ListN.{length, getD, set, take, drop, length-set, take-append-drop}
 use lib.Seq.{length-take-le, set-append-left, sets}
 use Rattle.model.specs.Search.{below}
-use Rattle.model.specs.Buffers.{Locks, Store, size, cellAt, publishesIn, appended, updated, sweep, leave, withdraw}
+use Rattle.model.specs.Buffers.{Locks, Store, idle, cellAt, publishesIn, appended, updated, sweep, leave, withdraw}
 use Rattle.model.specs.Step.{rolledBack, readsDropped}
 use Rattle.model.specs.declared.Session.{Session}
 use Rattle.model.specs.declared.Lock.{Lock}
@@ -20,7 +20,10 @@ use Rattle.decide.proofs.Ways.{Entries}
 use Rattle.store.specs.Lent.{Sized}
 use Rattle.store.proofs.Refusals.{Lengths, lengths-of}
 
--- the part as the code takes it
+-- a session's record and its part, as the code reads them
+abbrev pub own : Store → ℕ → Session
+own σ s = getD (σ .sessions .records) s idle
+
 abbrev pub cut : List ℕ → ℕ → List ℕ
 cut logs s = take (128 * s + 128 - 128 * s) (drop (128 * s) logs)
 
