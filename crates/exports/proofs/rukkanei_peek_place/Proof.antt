@@ -1,4 +1,7 @@
 use borrow.Author.Needs.{needs}
+use Rattle.store.specs.Lent.{storeOf}
+use Rattle.store.proofs.Peeks.{peeked}
+use Rattle.exports.proofs.Laws.{place-store, place-log, place-none}
 use Rattle.exports.proofs.rukkanei_peek_place.Statement.{statement}
 use Rattle.exports.proofs.rukkanei_peek_place.Tie as tie
 use Rattle.exports.proofs.rukkanei_peek_place.Reads as reads
@@ -19,7 +22,7 @@ cast-index c = search needs
 
 -- src/lib.rt:160:9
 returns : tie.Need-returns
-returns c = ?
+returns c = place-store _ _ (c .before .before .before .peek-plan .ensures) (c .before .p .given .1)
 
 -- src/lib.rt:162:26
 enum-known-p-2 : tie.Need-enum-known-p-2
@@ -47,11 +50,14 @@ add-index-2 c = search needs
 
 -- src/lib.rt:164:9
 returns-2 : tie.Need-returns-2
-returns-2 c = ?
+returns-2 c = place-log _ _ (c .before .before .before .before .peek-plan .ensures) (c .before .p2 .given .1)
 
 -- src/lib.rt:153:1
 returns-3 : tie.Need-returns-3
-returns-3 c = ?
+returns-3 c =
+    let a = c .before .before .before .before .before .before .before .before .before .args in
+    let σ = storeOf (a .values .now) (a .classes .now) (a .readers .now) (a .claimants .now) (a .exclusives .now) (a .logs .now) (a .sessions) in
+    place-none _ _ (peeked σ (a .session) (a .cell)) (c .before .before .peek-plan .ensures) (c .before .match .keys2) (c .match2 .keys2)
 
 pub rukkanei-peek-place-spec : {M : Type 1} → statement M
 rukkanei-peek-place-spec =
