@@ -88,4 +88,12 @@ returns-4 c = let r = c .before .before .before .before .before .before .before 
 pub read-as-spec : {M : Type 1} → statement M
 read-as-spec =
     tie.close
-    (tie.spec (λ c. search needs) (λ c. search needs) (λ c. search needs) (λ c. search needs) at-requires (λ c. search needs) (λ c. search needs) (λ c. search needs) part-read-end read-requires (λ c. search needs) (λ c. search needs) (λ c. search needs) (λ c. search needs) (λ c. search needs) returns (λ c. search needs) (λ c. search needs) (λ c. search needs) (λ c. search needs) (λ c. search needs) returns-2 (λ c. search needs) (λ c. search needs) (λ c. search needs) shared-slice-read-value (λ c. search needs) (λ c. search needs) (λ c. search needs) part-enter-end enter-requires with-entry-requires mul-t40 element-set-from-sessions (λ c. search needs) (λ c. search needs) (λ c. search needs) (λ c. search needs) returns-3 (λ c. search needs) (λ c. search needs) (λ c. search needs) part-roll-back-end roll-back-requires (λ c κs. search needs) mul-t33 element-set-from-sessions-2 (λ c. search needs) (λ c. search needs) (λ c. search needs) (λ c. search needs) returns-4)
+    (tie.spec
+    (λ c. search needs) (λ c. search needs) (λ c. search needs) (λ c. search needs) at-requires (λ c. search needs) (λ c. search needs)
+    (λ c. search needs) part-read-end read-requires (λ c. search needs) (λ c. search needs) (λ c. search needs) (λ c. search needs)
+    (λ c. search needs) returns (λ c. search needs) (λ c. search needs) (λ c. search needs) (λ c. search needs) (λ c. search needs) returns-2
+    (λ c. search needs) (λ c. search needs) (λ c. search needs) shared-slice-read-value (λ c. search needs) (λ c. search needs)
+    (λ c. search needs) part-enter-end enter-requires with-entry-requires mul-t40 element-set-from-sessions (λ c. search needs)
+    (λ c. search needs) (λ c. search needs) (λ c. search needs) returns-3 (λ c. search needs) (λ c. search needs) (λ c. search needs)
+    part-roll-back-end roll-back-requires (λ c κs. search needs) mul-t33 element-set-from-sessions-2 (λ c. search needs) (λ c. search needs)
+    (λ c. search needs) (λ c. search needs) returns-4)

@@ -68,10 +68,10 @@ mul-update-2 : tie.Need-mul-update-2
 mul-update-2 c = omega (arith, is-new (c .before .before .before .before .before .before .before .before .before .before .before .before .before .before .before) .decided .sized .session)
 
 part-update-end-2 : tie.Need-part-update-end-2
-part-update-end-2 c = entered-fits (is-new (c .before .before .before .before .before .before .before .before .before .before .before .before .before .before .before)) _ (c .before .before .before .before .before .before .before .before .enter .ensures .1)
+part-update-end-2 c = let e = c .before .before .before .before .before .before .before .before in entered-fits (is-new (e .before .before .before .before .before .before .before)) _ (e .enter .ensures .1)
 
 update-requires-2 : tie.Need-update-requires-2
-update-requires-2 c κs = can-update-new (is-new (c .before .before .before .before .before .before .before .before .before .before .before .before .before .before .before .before)) _ (c .before .before .before .before .before .before .before .before .before .enter .ensures .1)
+update-requires-2 c κs = let e = c .before .before .before .before .before .before .before .before .before in can-update-new (is-new (e .before .before .before .before .before .before .before)) _ (e .enter .ensures .1)
 
 with-entry-requires : tie.Need-with-entry-requires
 with-entry-requires c κs = is-new (c .before .before .before .before .before .before .before .before .before .before .before .before .before .before .before .before .before .before .before) .room
@@ -108,4 +108,13 @@ returns-4 c = let r = c .before .before .before .before .before .before .before 
 pub write-as-spec : {M : Type 1} → statement M
 write-as-spec =
     tie.close
-    (tie.spec (λ c. search needs) (λ c. search needs) (λ c. search needs) (λ c. search needs) at-requires (λ c. search needs) (λ c. search needs) (λ c. search needs) part-write-end write-requires (λ c. search needs) (λ c. search needs) (λ c. search needs) (λ c. search needs) part-update-end (λ c. search needs) update-requires (λ c. search needs) (λ c. search needs) (λ c. search needs) (λ c. search needs) returns (λ c. search needs) (λ c. search needs) (λ c. search needs) (λ c. search needs) (λ c. search needs) returns-2 (λ c. search needs) (λ c. search needs) (λ c. search needs) shared-slice-read-found (λ c. search needs) (λ c. search needs) (λ c. search needs) part-enter-end enter-requires mul-update-2 (λ c. search needs) (λ c. search needs) part-update-end-2 update-requires-2 with-entry-requires mul-t50 element-set-from-sessions (λ c. search needs) (λ c. search needs) (λ c. search needs) same-length-12 returns-3 (λ c. search needs) (λ c. search needs) (λ c. search needs) part-roll-back-end roll-back-requires (λ c κs. search needs) mul-t35 element-set-from-sessions-2 (λ c. search needs) (λ c. search needs) (λ c. search needs) (λ c. search needs) returns-4)
+    (tie.spec
+    (λ c. search needs) (λ c. search needs) (λ c. search needs) (λ c. search needs) at-requires (λ c. search needs) (λ c. search needs)
+    (λ c. search needs) part-write-end write-requires (λ c. search needs) (λ c. search needs) (λ c. search needs) (λ c. search needs)
+    part-update-end (λ c. search needs) update-requires (λ c. search needs) (λ c. search needs) (λ c. search needs) (λ c. search needs) returns
+    (λ c. search needs) (λ c. search needs) (λ c. search needs) (λ c. search needs) (λ c. search needs) returns-2 (λ c. search needs)
+    (λ c. search needs) (λ c. search needs) shared-slice-read-found (λ c. search needs) (λ c. search needs) (λ c. search needs) part-enter-end
+    enter-requires mul-update-2 (λ c. search needs) (λ c. search needs) part-update-end-2 update-requires-2 with-entry-requires mul-t50
+    element-set-from-sessions (λ c. search needs) (λ c. search needs) (λ c. search needs) same-length-12 returns-3 (λ c. search needs)
+    (λ c. search needs) (λ c. search needs) part-roll-back-end roll-back-requires (λ c κs. search needs) mul-t35 element-set-from-sessions-2
+    (λ c. search needs) (λ c. search needs) (λ c. search needs) (λ c. search needs) returns-4)
