@@ -1,10 +1,10 @@
 -- A call is its plan carried out; and what each plan leaves, in the shape in which the code leaves it: an answer, lists, one record put in its place.
-use mathlib.Core.Path.{_≡_, refl, sym, ap, _∙_}
+use mathlib.Core.Path.{_≡_, refl}
 use Prim.Native.Nat.{ℕ}
 use mathlib.Core.List.{List}
 use lib.ListN.{getD, set}
-use Rattle.model.specs.Buffers.{Locks, Store, idle, running, sessionAt, withSession, withEntry, moveTo, lockAt, setLock, lockOn, join, claim, own, vacate, appended, updated}
-use Rattle.model.specs.Step.{Outcome, outcome, taken, reply, step, planOf, sessionOf, recordOf, answer, after, rolledBack, readsDropped, handled, releasing}
+use Rattle.model.specs.Buffers.{Locks, Store, idle, running, withSession, withEntry, moveTo, lockAt, setLock, lockOn, join, claim, own, vacate, appended, updated}
+use Rattle.model.specs.Step.{outcome, taken, reply, step, planOf, sessionOf, recordOf, answer, after, rolledBack, readsDropped, handled, releasing}
 use Rattle.model.specs.declared.Session.{Session}
 use Rattle.model.specs.declared.Lock.{Lock}
 use Rattle.model.specs.declared.Call.{Call}

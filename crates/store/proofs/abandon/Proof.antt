@@ -4,8 +4,8 @@ use borrow.Author.Tests.{not-true, not-false}
 use Rattle.model.specs.Buffers.{Store}
 use Rattle.store.specs.Lent.{storeOf, Sized}
 use Rattle.store.proofs.Refusals.{refused-7, refused-1, sized}
-use Rattle.store.proofs.Parts.{part-fits, can-decide}
-use Rattle.store.proofs.Tested.{abandon-refused, can-abandon, abandon-cancels}
+use Rattle.store.proofs.Parts.{part-fits, can-decide, can-roll-back}
+use Rattle.store.proofs.Tested.{abandon-refused, abandon-entries, abandon-cancels}
 use Rattle.store.proofs.abandon.Statement.{statement}
 use Rattle.store.proofs.abandon.Tie as tie
 
@@ -27,24 +27,29 @@ returns-2 : tie.Need-returns-2
 returns-2 c = refused-1 _ _ (c .before .before .lengths-fit .ensures) _ (not-false _ (c .before .if1 .left)) (c .if2 .taken)
 
 part-tests-end : tie.Need-part-tests-end
-part-tests-end c = part-fits (given (c .before .before .before .before .before .before .before .before .before .before)) _ (fits (c .before))
+part-tests-end c = part-fits _ _ (fits (c .before))
 
 tests-requires : tie.Need-tests-requires
-tests-requires c κs = can-decide (given (c .before .before .before .before .before .before .before .before .before .before .before)) _ (fits (c .before .before))
+tests-requires c κs = can-decide _ _ (fits (c .before .before))
 
 returns-3 : tie.Need-returns-3
 returns-3 c = abandon-refused _ _ (fits (c .before .before .before .before)) _ (c .before .tests .ensures) (c .if3 .taken)
 
 part-roll-back-end : tie.Need-part-roll-back-end
-part-roll-back-end c = part-fits (given (c .before .before .before .before .before .before .before .before .before .before .before .before .before .before)) _ (fits (c .before .before .before .before .before))
+part-roll-back-end c = part-fits _ _ (fits (c .before .before .before .before .before))
 
 roll-back-requires : tie.Need-roll-back-requires
-roll-back-requires c κs = can-abandon _ _ (fits (c .before .before .before .before .before .before .before .before .before)) _ (c .before .before .before .before .before .before .tests .ensures) (c .before .before .before .before .before .if3 .left)
+roll-back-requires c κs = let i = c .before .before .before .before .before in let z = fits (i .before .before .before .before) in
+    can-roll-back _ _ z _ (abandon-entries _ _ z _ (i .before .tests .ensures) (i .if3 .left))
 
 returns-4 : tie.Need-returns-4
-returns-4 c = abandon-cancels _ _ (fits (c .before .before .before .before .before .before .before .before .before .before .before .before .before .before .before .before .before)) _ (c .before .before .before .before .before .before .before .before .before .before .before .before .before .before .tests .ensures) (c .before .before .before .before .before .before .before .before .before .before .before .before .before .if3 .left) _ _ (c .before .before .before .before .before .before .before .roll-back .ensures) (c .rested .ensures)
+returns-4 c = let i = c .before .before .before .before .before .before .before .before .before .before .before .before .before in abandon-cancels _ _ (fits (i .before .before .before .before)) _ (i .before .tests .ensures) (i .if3 .left) _ _ (c .before .before .before .before .before .before .before .roll-back .ensures) (c .rested .ensures)
 
 pub abandon-spec : {M : Type 1} → statement M
 abandon-spec =
     tie.close
-    (tie.spec (λ c κs. search needs) returns returns-2 (λ c. search needs) (λ c. search needs) (λ c. search needs) (λ c. search needs) (λ c. search needs) (λ c. search needs) (λ c. search needs) part-tests-end tests-requires returns-3 (λ c. search needs) (λ c. search needs) (λ c. search needs) (λ c. search needs) part-roll-back-end roll-back-requires (λ c κs. search needs) (λ c. search needs) (λ c. search needs) (λ c. search needs) (λ c. search needs) (λ c. search needs) returns-4)
+    (tie.spec
+    (λ c κs. search needs) returns returns-2 (λ c. search needs) (λ c. search needs) (λ c. search needs) (λ c. search needs) (λ c. search needs)
+    (λ c. search needs) (λ c. search needs) part-tests-end tests-requires returns-3 (λ c. search needs) (λ c. search needs) (λ c. search needs)
+    (λ c. search needs) part-roll-back-end roll-back-requires (λ c κs. search needs) (λ c. search needs) (λ c. search needs) (λ c. search needs)
+    (λ c. search needs) (λ c. search needs) returns-4)

@@ -27,13 +27,13 @@ returns-2 : tie.Need-returns-2
 returns-2 c = refused-1 _ _ (c .before .before .lengths-fit .ensures) _ (not-false _ (c .before .if1 .left)) (c .if2 .taken)
 
 part-tests-end : tie.Need-part-tests-end
-part-tests-end c = part-fits (given (c .before .before .before .before .before .before .before .before .before .before)) _ (fits (c .before))
+part-tests-end c = part-fits _ _ (fits (c .before))
 
 tests-requires : tie.Need-tests-requires
-tests-requires c κs = can-decide (given (c .before .before .before .before .before .before .before .before .before .before .before)) _ (fits (c .before .before))
+tests-requires c κs = can-decide _ _ (fits (c .before .before))
 
 returns-3 : tie.Need-returns-3
-returns-3 c = begin-refused _ _ (fits (c .before .before .before .before)) _ (c .before .tests .ensures) (c .if3 .taken)
+returns-3 c = let z = c .before .before .before .before in begin-refused _ _ (fits z) _ (c .before .tests .ensures) (c .if3 .taken)
 
 returns-4 : tie.Need-returns-4
 returns-4 c = begin-starts _ _ (fits (c .before .before .before .before .before)) _ (c .before .before .tests .ensures) (c .before .if3 .left) _ (c .begun .ensures)
@@ -41,4 +41,7 @@ returns-4 c = begin-starts _ _ (fits (c .before .before .before .before .before)
 pub begin-spec : {M : Type 1} → statement M
 begin-spec =
     tie.close
-    (tie.spec (λ c κs. search needs) returns returns-2 (λ c. search needs) (λ c. search needs) (λ c. search needs) (λ c. search needs) (λ c. search needs) (λ c. search needs) (λ c. search needs) part-tests-end tests-requires returns-3 (λ c κs. search needs) (λ c. search needs) (λ c. search needs) returns-4)
+    (tie.spec
+    (λ c κs. search needs) returns returns-2 (λ c. search needs) (λ c. search needs) (λ c. search needs) (λ c. search needs) (λ c. search needs)
+    (λ c. search needs) (λ c. search needs) part-tests-end tests-requires returns-3 (λ c κs. search needs) (λ c. search needs)
+    (λ c. search needs) returns-4)

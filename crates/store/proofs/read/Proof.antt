@@ -17,4 +17,6 @@ read-as-requires c κs = sized _ _ (c .before .before .before .before .before .b
 pub read-spec : {M : Type 1} → statement M
 read-spec =
     tie.close
-    (tie.spec (λ c κs. search needs) returns returns-2 read-as-requires (λ c. search needs) (λ c. search needs) (λ c. search needs) (λ c. search needs) (λ c. search needs))
+    (tie.spec
+    (λ c κs. search needs) returns returns-2 read-as-requires (λ c. search needs) (λ c. search needs) (λ c. search needs) (λ c. search needs)
+    (λ c. search needs))
