@@ -190,6 +190,6 @@ module _ (σ : Store) (s k : ℕ) (w : Admitted σ s) (slot : k < recordOf σ s 
             let last : recordOf σ s .phase ≡ 4 = four-of (recordOf σ s .phase) two four (q .1) (q .2) in
             let answer : h .answer ≡ releasing (σ .lent) s c (recordOf σ s) = rw (g, cut-is) (handled-releases (σ .lent) s (recordOf σ s) c (w .count) last) in
             carry-release s σ c (h .session) (h .answer) record-is L answer (locked (vacate s) m L a b) ∙ at-last (q .0)
-            where
-              four-of : (x : ℕ) → 2 ≤ x → x ≤ 4 → (x ≡ 2 → ⊥) → (x ≡ 3 → ⊥) → x ≡ 4
-              four-of x a b c d = omega arith
+          where
+            four-of : (x : ℕ) → 2 ≤ x → x ≤ 4 → (x ≡ 2 → ⊥) → (x ≡ 3 → ⊥) → x ≡ 4
+            four-of x a b c d = omega arith

@@ -1,12 +1,11 @@
-use lib.ListN.{length}
-use mathlib.Core.Path.{_≡_, sym, ap, _∙_}
+-- At most three digits and a byte: the place in the text stays below four.
 use Prim.Native.Nat.{_≤_}
+use mathlib.Core.Path.{_≡_, sym, ap, _∙_}
 use mathlib.Core.Logic.{⊎-elim}
 use native.Mathlib.Omega.{arith}
-use lib.ListN.{length-set}
-use lib.Seq.{length-take-le}
-use mathlib.Core.Path.{sym}
 use borrow.Author.Needs.{needs}
+use lib.ListN.{length, length-set}
+use lib.Seq.{length-take-le}
 use Rattle.orders.proofs.print.Statement.{statement}
 use Rattle.orders.proofs.print.Tie as tie
 use Rattle.orders.proofs.print.Reads as reads
@@ -22,75 +21,57 @@ two c =
     let h = one (c .before) in
     ⊎-elim (λ w. (omega arith, ap length (w .2) ∙ simp length-set (h .1))) (λ w. (omega arith, ap length (w .1) ∙ h .1)) (c .if2 .came)
 
--- src/main.rt:38:26
 cast-text : tie.Need-cast-text
 cast-text c = search needs
 
--- src/main.rt:38:19
 add-text : tie.Need-add-text
 add-text c = search needs
 
--- src/main.rt:38:9
 array-write-text : tie.Need-array-write-text
 array-write-text c = search needs
 
--- src/main.rt:39:9
 add-n : tie.Need-add-n
 add-n c = search needs
 
--- src/main.rt:42:26
 cast-text-2 : tie.Need-cast-text-2
 cast-text-2 c = search needs
 
--- src/main.rt:42:19
 add-text-2 : tie.Need-add-text-2
 add-text-2 c = search needs
 
--- src/main.rt:42:9
 array-write-text-2 : tie.Need-array-write-text-2
 array-write-text-2 c = omega (arith, one (c .before))
 
--- src/main.rt:43:9
 add-n-2 : tie.Need-add-n-2
 add-n-2 c = let h = one (c .before .before) in search needs
 
--- src/main.rt:45:22
 cast-text-3 : tie.Need-cast-text-3
 cast-text-3 c = search needs
 
--- src/main.rt:45:15
 add-text-3 : tie.Need-add-text-3
 add-text-3 c = search needs
 
--- src/main.rt:45:5
 array-write-text-3 : tie.Need-array-write-text-3
 array-write-text-3 c = omega (arith, two c)
 
--- src/main.rt:46:10
 add-text-4 : tie.Need-add-text-4
 add-text-4 c = let h = two (c .before) in search needs
 
--- src/main.rt:46:5
 array-write-text-4 : tie.Need-array-write-text-4
 array-write-text-4 c = omega (arith, two (c .before))
 
--- src/main.rt:47:42
 add-text-5 : tie.Need-add-text-5
 add-text-5 c = let h = two (c .before) in search needs
 
--- src/main.rt:47:34
 array-share-prefix-text : tie.Need-array-share-prefix-text
 array-share-prefix-text c = let h = two (c .before) in simp length-set (omega arith)
 
--- src/main.rt:47:34
 slice-aggregate-write-all : tie.Need-slice-aggregate-write-all
 slice-aggregate-write-all c = let h = two (c .before .before) in sym (length-take-le _ _ (simp length-set (omega arith)))
 
--- src/main.rt:47:5
 write-all-requires : tie.Need-write-all-requires
 write-all-requires c κs = search needs
 
--- src/main.rt:34:1
 returns : tie.Need-returns
 returns c = search needs
 
