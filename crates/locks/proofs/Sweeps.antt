@@ -26,6 +26,10 @@ use Rattle.locks.proofs.Digits.{no-member, marked-same, marked-other}
 getD-any : (l : List ℕ) (i d e : ℕ) → i < length l → getD l i d ≡ getD l i e
 getD-any l i d e h = sym (getD-set-same l i (getD l i d) e h) ∙ ap (λ (k : List ℕ). getD k i e) (set-getD l i d)
 
+pub leave-on : (R C E : List ℕ) (c s : ℕ) → locksOf (set R c (withoutReader s (getD R c 0))) C E ≡ lockOn c (leave s) (locksOf R C E)
+unfolding lockOn lockAt setLock leave
+leave-on R C E c s = rw (set-getD C c 16, set-getD E c 0)
+
 module _ (R C E : List ℕ) (c : ℕ) (eC : length C ≡ length R) (eE : length E ≡ length R) where
   pub lock-past : length R ≤ c → record { readers = 0; claimant = 16; exclusive = 0 } ≡ lockAt (locksOf R C E) c
   unfolding lockAt
@@ -43,12 +47,8 @@ module _ (R C E : List ℕ) (c : ℕ) (eC : length C ≡ length R) (eE : length 
 
     pub withdraw-other : (s : ℕ) → (getD C c 0 ≡ s → ⊥)
         → locksOf (set R c (withoutReader s (getD R c 0))) C E ≡ lockOn c (withdraw s) (locksOf R C E)
-    unfolding lockOn lockAt setLock withdraw leave
-    withdraw-other s n = rw (ne-eqb (getD C c 16) s (λ e. n (getD-any C c 0 16 (omega arith) ∙ e))) (rw (set-getD C c 16, set-getD E c 0))
-
-pub leave-on : (R C E : List ℕ) (c s : ℕ) → locksOf (set R c (withoutReader s (getD R c 0))) C E ≡ lockOn c (leave s) (locksOf R C E)
-unfolding lockOn lockAt setLock leave
-leave-on R C E c s = rw (set-getD C c 16, set-getD E c 0)
+    unfolding lockOn lockAt withdraw
+    withdraw-other s n = rw (ne-eqb (getD C c 16) s (λ e. n (getD-any C c 0 16 (omega arith) ∙ e))) (leave-on R C E c s)
 
 -- the lock that is there, put again
 put-same : (c : ℕ) (L : Locks) → setLock c (lockAt L c) L ≡ L

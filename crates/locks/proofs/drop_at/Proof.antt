@@ -12,7 +12,8 @@ is-marked-requires : tie.Need-is-marked-requires
 is-marked-requires c κs = search needs
 
 returns : tie.Need-returns
-returns c = drop-seen _ _ _ _ _ _ (c .before .before .before .cell-at .ensures) (sym (c .before .is-marked .ensures) ∙ c .if1 .taken)
+returns c =
+    drop-seen _ _ _ _ _ _ (c .before .before .before .cell-at .ensures) (sym (c .before .is-marked .ensures) ∙ c .if1 .taken)
 
 put-mark-requires : tie.Need-put-mark-requires
 put-mark-requires c κs = search needs
@@ -21,7 +22,11 @@ publishes-requires : tie.Need-publishes-requires
 publishes-requires c κs = search needs
 
 returns-2 : tie.Need-returns-2
-returns-2 c = drop-written _ _ _ _ _ _ (c .before .before .before .before .before .before .before .cell-at .ensures) (sym (c .before .before .before .before .before .is-marked .ensures) ∙ c .before .before .before .before .if1 .left) _ (c .before .before .put-mark .ensures) (sym (c .before .publishes .ensures) ∙ c .if2 .taken)
+returns-2 c =
+    let m = c .before .before in
+    let t = m .before .before in
+    drop-written _ _ _ _ _ _ (t .before .before .before .cell-at .ensures) (sym (t .before .is-marked .ensures) ∙ t .if1 .left) _ (m .put-mark .ensures)
+    (sym (c .before .publishes .ensures) ∙ c .if2 .taken)
 
 leave-at-requires : tie.Need-leave-at-requires
 leave-at-requires c κs = search needs
@@ -30,7 +35,12 @@ same-length : tie.Need-same-length
 same-length c = search needs
 
 returns-3 : tie.Need-returns-3
-returns-3 c = drop-left _ _ _ _ _ _ (c .before .before .before .before .before .before .before .before .before .before .before .cell-at .ensures) (sym (c .before .before .before .before .before .before .before .before .before .is-marked .ensures) ∙ c .before .before .before .before .before .before .before .before .if1 .left) _ (c .before .before .before .before .before .before .put-mark .ensures) (sym (c .before .before .before .before .before .publishes .ensures) ∙ c .before .before .before .before .if2 .left) _ (c .before .before .leave-at .ensures)
+returns-3 c =
+    let p = c .before .before .before .before in
+    let m = p .before .before in
+    let t = m .before .before in
+    drop-left _ _ _ _ _ _ (t .before .before .before .cell-at .ensures) (sym (t .before .is-marked .ensures) ∙ t .if1 .left) _ (m .put-mark .ensures)
+    (sym (p .before .publishes .ensures) ∙ p .if2 .left) _ (c .before .before .leave-at .ensures)
 
 pub drop-at-spec : {M : Type 1} → statement M
 drop-at-spec =

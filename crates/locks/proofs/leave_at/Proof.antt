@@ -2,9 +2,6 @@
 use borrow.Author.Needs.{needs}
 use Rattle.locks.proofs.leave_at.Statement.{statement}
 use Rattle.locks.proofs.leave_at.Tie as tie
-use Rattle.locks.proofs.leave_at.Reads as reads
-use Rattle.locks.proofs.leave_at.Lts as lts
-use Rattle.locks.proofs.without_reader.Reads as without-reader-reads
 
 mul-set : tie.Need-mul-set
 mul-set c = search needs

@@ -26,13 +26,19 @@ same-length-3 : tie.Need-same-length-3
 same-length-3 c = search needs
 
 returns : tie.Need-returns
-returns c = rw (c .before .before .before .before .leave-at .ensures) (withdraw-own _ _ _ _ (c .before .before .before .before .before .before .before .before .before .pre .2) (c .before .before .before .before .before .before .before .before .before .pre .3) (c .before .before .before .before .before .before .before .before .before .pre .1) _ (c .if1 .taken))
+returns c =
+    let r = c .before .before .before .before in
+    let p = r .before .before .before .before .before .pre in
+    rw (r .leave-at .ensures) (withdraw-own _ _ _ _ (p .2) (p .3) (p .1) _ (c .if1 .taken))
 
 same-length-4 : tie.Need-same-length-4
 same-length-4 c = search needs
 
 returns-2 : tie.Need-returns-2
-returns-2 c = rw (c .before .before .before .before .leave-at .ensures) (withdraw-other _ _ _ _ (c .before .before .before .before .before .before .before .before .before .pre .2) (c .before .before .before .before .before .before .before .before .before .pre .3) (c .before .before .before .before .before .before .before .before .before .pre .1) _ (c .if1 .left))
+returns-2 c =
+    let r = c .before .before .before .before in
+    let p = r .before .before .before .before .before .pre in
+    rw (r .leave-at .ensures) (withdraw-other _ _ _ _ (p .2) (p .3) (p .1) _ (c .if1 .left))
 
 pub withdraw-at-spec : {M : Type 1} → statement M
 withdraw-at-spec =
