@@ -1,0 +1,5 @@
+pub mod Decimal
+pub mod Items
+pub mod Lines
+pub mod Transcript
+pub mod Output

@@ -1,0 +1,43 @@
+-- The replay's text, from input bytes to output bytes (document 01, "Call fields"). What it prints of the calls is `history` and `run` of the
+-- model, of which demand 3 speaks.
+use Prim.Native.Nat.{ℕ}
+use mathlib.Core.Bool.{cond}
+use mathlib.Core.List.{List, _++_, reverse}
+use lib.Dec.{leb, eqb}
+use lib.ListN.{length, replicate}
+use Rattle.model.specs.declared.Answer.{Answer}
+use Rattle.model.specs.Buffers.{Store, idle}
+use Rattle.model.specs.Step.{number, setUpAnswer, setUp}
+use Rattle.model.specs.History.{run, history}
+use Rattle.transcript.specs.Items.{Item, itemsAt, values, classes, later, calls}
+use Rattle.transcript.specs.Lines.{sizeLine, setUpLine, answerLines, cellLines, endLine}
+
+-- what set-up is given for the starting cells: nothing in locks, logs and records
+unfoldable pub given : List Item → Store
+given items =
+    let n = length (values items) in
+    record {
+      lent = record {
+        values = values items;
+        classes = classes items;
+        locks = record { readers = replicate n 0; claimants = replicate n 0; exclusives = replicate n 0 };
+        logs = replicate 2048 0;
+      };
+      sessions = record { records = replicate 16 idle };
+    }
+
+-- a line for each call from the store σ, the line of what ends the calls, and a line for each cell
+unfoldable pub callsText : Store → List Item → List ℕ
+callsText σ items =
+    answerLines 1 (reverse (history σ (reverse (calls items)))) ++ (endLine items ++ cellLines 0 (run σ (reverse (calls items)) .lent .values))
+
+-- set-up comes first: a refused one is all that is printed
+unfoldable pub afterSetUp : Answer → Store → List Item → List ℕ
+afterSetUp a σ items = cond (eqb (number a) 100) (callsText σ items) (setUpLine (number a))
+
+unfoldable pub itemsText : List Item → List ℕ
+itemsText items = afterSetUp (setUpAnswer (given items .lent)) (setUp (given items)) (later items)
+
+-- up to 65,536 bytes are taken
+unfoldable pub transcript : List ℕ → List ℕ
+transcript input = cond (leb (length input) 65536) (itemsText (itemsAt input 0)) sizeLine
