@@ -3,3 +3,4 @@ pub mod Items
 pub mod Lines
 pub mod Transcript
 pub mod Output
+pub mod Worked
