@@ -1,1 +1,3 @@
+pub mod Decimals
+pub mod Puts
 pub mod Worked

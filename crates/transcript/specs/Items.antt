@@ -26,7 +26,7 @@ nextOfField kind.StartingCell x n = next.Cell (x .class) (x .value) n
 unfoldable pub nextOf : Reading → Next
 nextOf (reading.Field k x n) = nextOfField k x n
 nextOf reading.End = next.End
-nextOf (reading.Refused number place) = next.Refused number place
+nextOf (reading.Refused number place) = next.Refused number
 
 -- an item: a starting cell with its place, class and value; a call; a refused field with its place and number
 pub data Item : Type 0 where
@@ -39,7 +39,7 @@ unfoldable pub following : ℕ → Next → (ℕ → List Item) → List Item
 following place (next.Cell class value n) from = cell place class value ∷ from (place + n)
 following place (next.Call k n) from = asked k ∷ from (place + n)
 following place next.End from = []
-following place (next.Refused number at) from = refused at number ∷ []
+following place (next.Refused number) from = refused place number ∷ []
 
 unfoldable pub itemsWithin : ℕ → List ℕ → ℕ → List Item
 itemsWithin zero bytes place = []

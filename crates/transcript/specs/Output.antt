@@ -1,17 +1,79 @@
--- What a writer leaves of the lent output, and what the replay answers.
-use Prim.Native.Nat.{ℕ, _+_}
-use mathlib.Core.List.{List}
-use lib.ListN.{length}
+-- What the writers leave of the lent output, and what the replay answers.
+use Prim.Native.Nat.{ℕ, _+_, _≤_}
+use mathlib.Core.Path.{_≡_}
+use mathlib.Core.Bool.{Bool, true, false, _&&_}
+use mathlib.Core.List.{List, _++_}
+use lib.Dec.{leb}
+use lib.ListN.{length, take, drop}
 use lib.Seq.{sets}
+use Rattle.model.specs.declared.Call.{Call}
+use Rattle.model.specs.Buffers.{Store}
+use Rattle.model.specs.Step.{step, reply}
+use Rattle.transcript.specs.declared.Cells.{Cells}
+use Rattle.transcript.specs.declared.Cells.the-variants.{Found, TooMany}
+use Rattle.transcript.specs.declared.Printed.{Printed}
+use Rattle.transcript.specs.declared.Printed.the-variants.{Bytes, Short}
+use Rattle.transcript.specs.Items.{itemsAt, values, classes, later}
+use Rattle.transcript.specs.Lines.{answerLine}
+use Rattle.transcript.specs.Transcript.{transcript}
+
+-- ---- one text
 
 -- the place after what was written, and the output
-pub record Written : Type 0 where
+pub record Out : Type 0 where
   pub at : ℕ
   pub output : List ℕ
 
-abbrev pub written : ℕ → List ℕ → Written
-written at output = record { at = at; output = output }
+abbrev pub out : ℕ → List ℕ → Out
+out at output = record { at = at; output = output }
 
 -- a text put at a place
-unfoldable pub put : List ℕ → ℕ → List ℕ → Written
-put output at text = written (at + length text) (sets output at text)
+unfoldable pub put : List ℕ → ℕ → List ℕ → Out
+put output at text = out (at + length text) (sets output at text)
+
+-- ---- one call
+
+-- the output and the store after a call
+pub record Turned : Type 0 where
+  pub out : Out
+  pub store : Store
+
+abbrev pub turned : Out → Store → Turned
+turned o σ = record { out = o; store = σ }
+
+-- a call's line is put, and the call is made
+unfoldable pub turn : Call → ℕ → List ℕ → ℕ → Store → Turned
+turn k ordinal output at σ = turned (put output at (answerLine ordinal (reply k σ))) (step k σ)
+
+-- ---- the cells
+
+-- the leading cells of the input, at the front of vs and ks, and the place of the field that closes them; or more than 1,024
+pub record Leading (input vs ks : List ℕ) (n place : ℕ) : Type 0 where
+  pub cells : values (itemsAt input 0) ≡ take n vs
+  pub kinds : classes (itemsAt input 0) ≡ take n ks
+  pub closed : later (itemsAt input 0) ≡ itemsAt input place
+  pub few : n ≤ 1024
+  pub inside : place ≤ length input
+
+abbrev pub ReadCells : List ℕ → List ℕ → List ℕ → Cells → Type 0
+ReadCells input vs ks (Found n place) = Leading input vs ks n place
+ReadCells input vs ks TooMany = 1025 ≤ length (values (itemsAt input 0))
+
+-- ---- the replay
+
+-- the lent lengths that serve every input: 409,600 bytes of output, 1,024 cells, 2,048 words of logs
+unfoldable pub longEnough : ℕ → ℕ → ℕ → ℕ → ℕ → ℕ → ℕ → Bool
+longEnough output vs ks readers claimants exclusives logs =
+    leb 409600 output && (leb 1024 vs && (leb 1024 ks && (leb 1024 readers && (leb 1024 claimants && (leb 1024 exclusives && leb 2048 logs)))))
+
+pub record Replayed : Type 0 where
+  pub answer : Printed
+  pub output : List ℕ
+
+abbrev pub replayed : Printed → List ℕ → Replayed
+replayed answer output = record { answer = answer; output = output }
+
+-- the text stands at the front of the output, and what follows is as before; too little lent leaves the output as before
+unfoldable pub replaying : Bool → List ℕ → List ℕ → Replayed
+replaying true input output = replayed (Bytes (length (transcript input))) (transcript input ++ drop (length (transcript input)) output)
+replaying false input output = replayed Short output

@@ -13,13 +13,13 @@ use Rattle.transcript.specs.Items.{Item, itemsAt, values, classes, later
 use Rattle.transcript.specs.Lines.{sizeLine, setUpLine, answerLines, cellLines, endLine}
 
 -- what set-up is given for the starting cells: nothing in locks, logs and records
-unfoldable pub given : List Item → Store
-given items =
-    let n = length (values items) in
+unfoldable pub given : List ℕ → List ℕ → Store
+given vs ks =
+    let n = length vs in
     record {
       lent = record {
-        values = values items;
-        classes = classes items;
+        values = vs;
+        classes = ks;
         locks = record { readers = replicate n 0; claimants = replicate n 0; exclusives = replicate n 0 };
         logs = replicate 2048 0;
       };
@@ -35,8 +35,11 @@ callsText σ items =
 unfoldable pub afterSetUp : Answer → Store → List Item → List ℕ
 afterSetUp a σ items = cond (eqb (number a) 100) (callsText σ items) (setUpLine (number a))
 
+unfoldable pub setUpText : Store → List Item → List ℕ
+setUpText σ items = afterSetUp (setUpAnswer (σ .lent)) (setUp σ) items
+
 unfoldable pub itemsText : List Item → List ℕ
-itemsText items = afterSetUp (setUpAnswer (given items .lent)) (setUp (given items)) (later items)
+itemsText items = setUpText (given (values items) (classes items)) (later items)
 
 -- up to 65,536 bytes are taken
 unfoldable pub transcript : List ℕ → List ℕ

@@ -1,26 +1,53 @@
 // The replay of document 01, "Call fields", as one function from input bytes to output bytes, on buffers that the caller lends.
-ghost use mathlib.Core.Path.{_≡_};
-ghost use Prim.Native.Nat.{ℕ, _+_, _*_, _<_, _≤_};
-ghost use lib.ListN.{length};
-ghost use Rattle.field.specs.Field.{readingAt};
-ghost use Rattle.transcript.specs.Items.{nextOf};
+mod items;
+mod leading;
+mod lines;
+mod run;
 
 use model::Call;
+use model::Sessions;
+ghost use mathlib.Core.Path.{_≡_};
+ghost use Prim.Native.Nat.{_≤_};
+ghost use lib.ListN.{length};
+ghost use Rattle.transcript.specs.Output.{longEnough, replayed, replaying};
 
-// What stands at a place of the input, with its length: a starting cell, a call, the end, or a refused field with its number and place.
+// What stands at a place of the input: a starting cell or a call, with the field's length; the end; or the number with which a field is refused.
 pub enum Next {
-    Cell {
-        class: u8,
-        value: u32,
-        length: usize,
-    },
-    Call {
-        call: Call,
-        length: usize,
-    },
+    Cell { class: u8, value: u32, length: usize },
+    Call { call: Call, length: usize },
     End,
-    Refused {
-        number: u8,
-        place: usize,
-    },
+    Refused { number: u8 },
+}
+
+// How many starting cells lead the input, and the place of the field that closes them; or that there are more than 1,024.
+pub enum Cells {
+    Found { count: usize, place: usize },
+    TooMany,
+}
+
+// The place after a call's line, and the records that the call hands back.
+pub struct Turn {
+    pub at: usize,
+    pub sessions: Sessions,
+}
+
+// The replay's answer: how many bytes of the output it wrote, or that too little was lent.
+pub enum Printed {
+    Bytes(usize),
+    Short,
+}
+
+// What is lent serves every input: at most 16,384 calls with 21 bytes each, 1,024 cells with 18, and one line more.
+fn long_enough(
+    output: usize,
+    values: usize,
+    classes: usize,
+    readers: usize,
+    claimants: usize,
+    exclusives: usize,
+    logs: usize,
+) -> bool
+    ensures { λ r. ⌜ r ≡ longEnough output values classes readers claimants exclusives logs ⌝ }
+{
+    (409600 <= output) & (1024 <= values) & (1024 <= classes) & (1024 <= readers) & (1024 <= claimants) & (1024 <= exclusives) & (2048 <= logs)
 }

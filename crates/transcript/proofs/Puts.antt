@@ -1,0 +1,30 @@
+-- Texts put one after the other are one text.
+use Prim.Native.Nat.{ℕ, zero, suc, _+_, _≤_, _<_}
+use native.Mathlib.Omega.{arith}
+use native.Mathlib.Numerals.{add-one}
+use mathlib.Core.Path.{_≡_, refl, sym, _∙_, ap}
+use mathlib.Core.List.{List, [], _∷_, _++_}
+use lib.ListN.{length, set, drop, length-append}
+use lib.Seq.{sets, sets-eq}
+use Rattle.transcript.specs.Output.{Out, out, put}
+
+sets-append : (o : List ℕ) (at : ℕ) (s t : List ℕ) → sets (sets o at s) (at + length s) t ≡ sets o at (s ++ t)
+sets-append o at [] t = ap (λ (i : ℕ). sets o i t) (omega arith)
+sets-append o at (b ∷ s) t = ap (λ (i : ℕ). sets (sets (set o at b) (suc at) s) i t) (omega arith) ∙ sets-append (set o at b) (suc at) s t
+
+-- one byte more
+pub sets-more : (o : List ℕ) (at i : ℕ) (t : List ℕ) (b : ℕ) → length t ≡ i → set (sets o at t) (at + i) b ≡ sets o at (t ++ b ∷ [])
+sets-more o at i t b e = ap (λ (n : ℕ). set (sets o at t) (at + n) b) (sym e) ∙ sets-append o at t (b ∷ [])
+
+-- where a text ends
+pub ends-at : (o : List ℕ) (at : ℕ) (s : List ℕ) {a : ℕ} {p : List ℕ} → out a p ≡ put o at s → a ≡ at + length s
+unfolding put
+ends-at o at s e = ap (λ (x : Out). x .at) e
+
+-- a text at the place where another ended
+pub then : (o : List ℕ) (at : ℕ) (s t : List ℕ) {a b : ℕ} {p q : List ℕ} → out a p ≡ put o at s → out b q ≡ put p a t → out b q ≡ put o at (s ++ t)
+unfolding put
+then o at s t {a} {b} {p} {q} e f =
+    let place : a ≡ at + length s = ends-at o at s e in
+    let text : p ≡ sets o at s = ap (λ (x : Out). x .output) e in
+    f ∙ rw (text, place) (ap (λ (i : ℕ). out i (sets (sets o at s) (at + length s) t)) (simp length-append (omega arith)) ∙ ap (out (at + length (s ++ t))) (sets-append o at s t))

@@ -1,0 +1,85 @@
+// Set-up, and the calls.
+use crate::Next;
+use crate::Turn;
+use crate::items::next_at;
+use crate::lines;
+use model::Call;
+use model::Session;
+use model::Sessions;
+ghost use mathlib.Core.Path.{_≡_};
+ghost use Prim.Native.Nat.{_+_, _*_, _≤_, _<_};
+ghost use lib.ListN.{length};
+ghost use Rattle.store.specs.Lent.{storeOf};
+ghost use Rattle.transcript.specs.Items.{itemsAt};
+ghost use Rattle.transcript.specs.Output.{out, put, turned, turn};
+ghost use Rattle.transcript.specs.Transcript.{callsText, given, setUpText};
+
+// One call with its line.
+fn take_turn(
+    call: Call,
+    ordinal: u32,
+    output: &mut [u8],
+    at: usize,
+    sessions: Sessions,
+    values: &mut [u32],
+    classes: &[u8],
+    readers: &mut [u16],
+    claimants: &mut [u8],
+    exclusives: &mut [u8],
+    logs: &mut [u32],
+) -> Turn
+    requires { ⌜ (ordinal < 100000) × (at + 21 ≤ length (now output)) ⌝ }
+    ensures { λ r. ⌜ turned (out (r .at) (now (output .exit))) (storeOf (now (values .exit)) (now (classes .entry)) (now (readers .exit)) (now (claimants .exit)) (now (exclusives .exit)) (now (logs .exit)) (r .sessions)) ≡ turn call ordinal (now (output .entry)) at (storeOf (now (values .entry)) (now (classes .entry)) (now (readers .entry)) (now (claimants .entry)) (now (exclusives .entry)) (now (logs .entry)) sessions) ⌝ }
+{
+    let reply = store::step(call, sessions, values, classes, readers, claimants, exclusives, logs);
+    let answer = reply.answer;
+    let after = reply.sessions;
+    let end = lines::put_answer(output, at, ordinal, answer);
+    Turn { at: end, sessions: after }
+}
+
+// The calls from a place on, each with its line, then the line of what ends them and the cells.
+fn run_calls(
+    input: &[u8],
+    from: usize,
+    output: &mut [u8],
+    sessions: Sessions,
+    values: &mut [u32],
+    classes: &[u8],
+    readers: &mut [u16],
+    claimants: &mut [u8],
+    exclusives: &mut [u8],
+    logs: &mut [u32],
+) -> usize
+    requires { ⌜ (from ≤ length (now input)) × (length (now input) ≤ 65536) × (409600 ≤ length (now output)) × (length (now values) ≤ 1024) ⌝ }
+    ensures { λ r. ⌜ out r (now (output .exit)) ≡ put (now (output .entry)) 0 (callsText (storeOf (now (values .entry)) (now (classes .entry)) (now (readers .entry)) (now (claimants .entry)) (now (exclusives .entry)) (now (logs .entry)) sessions) (itemsAt (now (input .entry)) from)) ⌝ }
+{
+    let mut sessions = sessions;
+    let mut place = from;
+    let mut ordinal: u32 = 1;
+    let mut at = 0;
+    loop {
+        let next = next_at(input, place);
+        match next {
+            Next::Call { call, length } => {
+                let t = take_turn(call, ordinal, output, at, sessions, values, classes, readers, claimants, exclusives, logs);
+                let after = t.sessions;
+                sessions = after;
+                at = t.at;
+                ordinal += 1;
+                place += length;
+            }
+            Next::End => {
+                return lines::put_cells(output, at, &values[..]);
+            }
+            Next::Refused { number } => {
+                let end = lines::put_field(output, at, place as u32, number);
+                return lines::put_cells(output, end, &values[..]);
+            }
+            Next::Cell { class: _, value: _, length: _ } => {
+                let end = lines::put_field(output, at, place as u32, 11);
+                return lines::put_cells(output, end, &values[..]);
+            }
+        }
+    }
+}
