@@ -8,7 +8,7 @@ use lib.Dec.{ltb}
 use lib.ListN.{length, length-append}
 use borrow.Author.Tests.{lt-ltb, le-ltb, ltb-true, ltb-false}
 use Rattle.transcript.specs.Decimal.{digit, digits, decimal}
-use Rattle.transcript.specs.Lines.{word}
+use Rattle.transcript.specs.Lines.{word, space, newline, cellLine}
 
 -- a test, with what it came to
 pub test {ℓ} : {P : Type ℓ} (b : Bool) → (b ≡ true → P) → (b ≡ false → P) → P
@@ -65,3 +65,10 @@ length-decimal (suc k) n h =
 pub length-word : (k n end : ℕ) → n < 10 ^ suc k → length (word n end) ≤ suc (suc k)
 unfolding word
 length-word k n end h = simp length-append (omega (arith, length-decimal k n h))
+
+pub length-cell : (i v : ℕ) → i < 10000 → v < 4294967296 → length (cellLine i v) ≤ 18
+unfolding cellLine
+length-cell i v h k =
+    let w = length-word 3 i space (omega arith) in
+    let x = length-word 9 v newline (omega arith) in
+    simp length-append (omega arith)

@@ -21,10 +21,17 @@ pub ends-at : (o : List ℕ) (at : ℕ) (s : List ℕ) {a : ℕ} {p : List ℕ} 
 unfolding put
 ends-at o at s e = ap (λ (x : Out). x .at) e
 
--- a text at the place where another ended
-pub then : (o : List ℕ) (at : ℕ) (s t : List ℕ) {a b : ℕ} {p q : List ℕ} → out a p ≡ put o at s → out b q ≡ put p a t → out b q ≡ put o at (s ++ t)
+pub put-nothing : (o : List ℕ) (at : ℕ) → put o at [] ≡ out at o
 unfolding put
-then o at s t {a} {b} {p} {q} e f =
+put-nothing o at = ap (λ (i : ℕ). out i o) (omega arith)
+
+-- a text at the place where another ended is put after it
+pub after : (o : List ℕ) (at : ℕ) (s t : List ℕ) {a : ℕ} {p : List ℕ} → out a p ≡ put o at s → put p a t ≡ put o at (s ++ t)
+unfolding put
+after o at s t {a} {p} e =
     let place : a ≡ at + length s = ends-at o at s e in
     let text : p ≡ sets o at s = ap (λ (x : Out). x .output) e in
-    f ∙ rw (text, place) (ap (λ (i : ℕ). out i (sets (sets o at s) (at + length s) t)) (simp length-append (omega arith)) ∙ ap (out (at + length (s ++ t))) (sets-append o at s t))
+    rw (text, place) (ap (λ (i : ℕ). out i (sets (sets o at s) (at + length s) t)) (simp length-append (omega arith)) ∙ ap (out (at + length (s ++ t))) (sets-append o at s t))
+
+pub then : (o : List ℕ) (at : ℕ) (s t : List ℕ) {a b : ℕ} {p q : List ℕ} → out a p ≡ put o at s → out b q ≡ put p a t → out b q ≡ put o at (s ++ t)
+then o at s t e f = f ∙ after o at s t e

@@ -26,14 +26,14 @@ given vs ks =
       sessions = record { records = replicate 16 idle };
     }
 
--- a line for each call from the store σ, the line of what ends the calls, and a line for each cell
-unfoldable pub callsText : Store → List Item → List ℕ
-callsText σ items =
-    answerLines 1 (reverse (history σ (reverse (calls items)))) ++ (endLine items ++ cellLines 0 (run σ (reverse (calls items)) .lent .values))
+-- a line for each call from the store σ, with the ordinals from the given one on, the line of what ends the calls, and a line for each cell
+unfoldable pub callsText : ℕ → Store → List Item → List ℕ
+callsText ordinal σ items =
+    answerLines ordinal (reverse (history σ (reverse (calls items)))) ++ (endLine items ++ cellLines 0 (run σ (reverse (calls items)) .lent .values))
 
 -- set-up comes first: a refused one is all that is printed
 unfoldable pub afterSetUp : Answer → Store → List Item → List ℕ
-afterSetUp a σ items = cond (eqb (number a) 100) (callsText σ items) (setUpLine (number a))
+afterSetUp a σ items = cond (eqb (number a) 100) (callsText 1 σ items) (setUpLine (number a))
 
 unfoldable pub setUpText : Store → List Item → List ℕ
 setUpText σ items = afterSetUp (setUpAnswer (σ .lent)) (setUp σ) items

@@ -52,7 +52,7 @@ fn run_calls(
     logs: &mut [u32],
 ) -> usize
     requires { ⌜ (from ≤ length (now input)) × (length (now input) ≤ 65536) × (409600 ≤ length (now output)) × (length (now values) ≤ 1024) ⌝ }
-    ensures { λ r. ⌜ out r (now (output .exit)) ≡ put (now (output .entry)) 0 (callsText (storeOf (now (values .entry)) (now (classes .entry)) (now (readers .entry)) (now (claimants .entry)) (now (exclusives .entry)) (now (logs .entry)) sessions) (itemsAt (now (input .entry)) from)) ⌝ }
+    ensures { λ r. ⌜ out r (now (output .exit)) ≡ put (now (output .entry)) 0 (callsText 1 (storeOf (now (values .entry)) (now (classes .entry)) (now (readers .entry)) (now (claimants .entry)) (now (exclusives .entry)) (now (logs .entry)) sessions) (itemsAt (now (input .entry)) from)) ⌝ }
 {
     let mut sessions = sessions;
     let mut place = from;

@@ -1,55 +1,62 @@
+-- `transcript::lines::put_cells` meets its contract. The loop's invariant: what is written and the lines of the cells that are left are the whole.
+-- Assumes nothing.
+use Prim.Native.Nat.{ℕ, _+_, _-_, _*_, _≤_}
+use native.Mathlib.Omega.{arith}
+use mathlib.Core.Path.{_≡_, refl, sym, _∙_, ap}
+use lib.ListN.{length, drop}
+use Rattle.transcript.specs.Lines.{cellLines}
+use Rattle.transcript.specs.Output.{put}
+use Rattle.transcript.proofs.Decimals.{length-cell}
+use Rattle.transcript.proofs.CellLines.{cells-more, cells-none}
+use Rattle.transcript.proofs.Puts.{ends-at, after, put-nothing}
 use borrow.Author.Needs.{needs}
 use Rattle.transcript.proofs.lines.put_cells.Statement.{statement}
 use Rattle.transcript.proofs.lines.put_cells.Tie as tie
-use Rattle.transcript.proofs.lines.put_cells.Reads as reads
-use Rattle.transcript.proofs.lines.put_cells.Lts as lts
-use Rattle.transcript.proofs.lines.put_cell.Reads as put-cell-reads
 
 abbrev Inv-loop : tie.InvT-loop
-Inv-loop output₀ at values end₀ i₀ output end i = ?
+Inv-loop output₀ at values end₀ i₀ output end i =
+    (i ≤ length values) × (length output ≡ length output₀) × (end + 18 * length values ≤ length output₀ + 18 * i) × (put output end (cellLines i (drop i values)) ≡ put output₀ at (cellLines 0 values))
 
 abbrev μ-loop : tie.MeasureT-loop
-μ-loop output₀ at values end₀ i₀ output end i = ?
+μ-loop output₀ at values end₀ i₀ output end i = length values - i
 
--- src/lines.rt:138:5
 loop-holds : tie.Need-loop-holds Inv-loop μ-loop
 loop-holds c = search needs
 
--- src/lines.rt:139:37
 cast-put-cell : tie.Need-cast-put-cell Inv-loop μ-loop
 cast-put-cell c = search needs
 
--- src/lines.rt:139:47
 mul-put-cell : tie.Need-mul-put-cell Inv-loop μ-loop
 mul-put-cell c = search needs
 
--- src/lines.rt:139:47
 shared-slice-read-put-cell : tie.Need-shared-slice-read-put-cell Inv-loop μ-loop
 shared-slice-read-put-cell c = search needs
 
--- src/lines.rt:139:9
 put-cell-requires : tie.Need-put-cell-requires Inv-loop μ-loop
 put-cell-requires c κs = search needs
 
--- src/lines.rt:140:9
 add-i : tie.Need-add-i Inv-loop μ-loop
 add-i c = search needs
 
--- src/lines.rt:138:5
 loop-less : tie.Need-loop-less Inv-loop μ-loop
 loop-less c = search needs
 
--- src/lines.rt:138:5
 loop-again : tie.Need-loop-again Inv-loop μ-loop
-loop-again c = search needs
+loop-again c =
+    let i = c .before .before .before .before .before .before .loop .i in
+    let values = c .before .before .before .before .before .before .before .before .before .args .values .now in
+    let inv = c .before .before .before .before .before .before .loop .inv in
+    let line = c .before .before .put-cell .ensures in
+    let value = c .before .before .before .before .before .before .before .shared-slice-known .given i in
+    (search needs, search needs, omega (arith, ends-at _ _ _ line, length-cell i _ (omega arith) value), after _ _ _ _ line ∙ ap (put _ _) (sym (cells-more i values (c .before .before .before .before .before .loop-test .taken))) ∙ inv .3)
 
--- src/lines.rt:132:1
 same-length : tie.Need-same-length Inv-loop μ-loop
 same-length c = search needs
 
--- src/lines.rt:132:1
 returns : tie.Need-returns Inv-loop μ-loop
-returns c = search needs
+returns c =
+    let inv = c .before .loop .inv in
+    sym (put-nothing _ _) ∙ ap (put _ _) (sym (cells-none _ _ (c .loop-test .left))) ∙ inv .3
 
 pub put-cells-spec : {M : Type 1} → statement M
 put-cells-spec =

@@ -52,7 +52,14 @@ same-length c = search needs
 
 returns : tie.Need-returns Inv-loop μ-loop
 unfolding put
-returns c = ?
+returns c =
+    let i = c .before .loop .i in
+    let text = c .before .before .args .text .now in
+    let at = c .before .before .args .at in
+    let o = c .before .before .args .output .now in
+    let end : i ≡ length text = omega arith in
+    ap (λ (n : ℕ). out (at + n) (c .before .loop .output)) end
+    ∙ ap (out (at + length text)) (c .before .loop .inv .2 ∙ ap (sets o at) (take-all i text (omega arith)))
 
 pub put-text-spec : {M : Type 1} → statement M
 put-text-spec =
