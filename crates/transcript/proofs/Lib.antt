@@ -4,4 +4,5 @@ pub mod Decimals
 pub mod Forward
 pub mod Puts
 pub mod Scanning
+pub mod Turns
 pub mod Worked

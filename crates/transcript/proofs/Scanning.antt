@@ -2,11 +2,13 @@
 -- is never used up, and what stands at a place says what the items from there on are.
 use Prim.Native.Nat.{ℕ, zero, suc, _+_, _≤_, _<_}
 use native.Mathlib.Omega.{arith}
+use native.Mathlib.Numerals.{add-one}
 use mathlib.Core.Path.{_≡_, refl, sym, _∙_, ap, subst}
 use mathlib.Core.Bool.{Bool, true, false, cond, _&&_}
-use mathlib.Core.List.{List, [], _∷_}
+use mathlib.Core.List.{List, [], _∷_, _++_, append-nil, append-assoc}
 use lib.Dec.{T, leb, eqb}
-use lib.ListN.{length, getD}
+use lib.ListN.{length, getD, take, set, length-append}
+use lib.Seq.{take-suc-set, length-take-le}
 use borrow.Author.Tests.{leb-true}
 use denote.Enum.Declared.{tagOf}
 use types.Run.{OneOf, miss}
@@ -25,6 +27,7 @@ use Rattle.field.proofs.RoundTrip.{found}
 use Rattle.transcript.specs.declared.Next.{Next}
 use Rattle.transcript.specs.declared.Next.the-variants as next
 use Rattle.transcript.specs.Items.{nextOfField, nextOf, Item, cell, asked, refused, following, itemsWithin, itemsAt, values, classes, later}
+use Rattle.transcript.specs.Output.{Leading}
 use Rattle.transcript.proofs.Next.{the-type}
 
 -- ---- every field has a body
@@ -105,13 +108,13 @@ module _ (bytes : List ℕ) where
   same zero k place h i = sym (none-past k place (omega arith))
   same (suc j) zero place h i = none-past (suc j) place (omega arith)
   same (suc j) (suc k) place h i =
-      following-same place _ (itemsWithin j bytes) (itemsWithin k bytes) (advances bytes place) (λ n f. same j k (place + n) (omega arith) (omega arith))
+      following-same place (nextOf (readingAt bytes place)) (itemsWithin j bytes) (itemsWithin k bytes) (advances bytes place) (λ n f. same j k (place + n) (omega arith) (omega arith))
 
   step-within : (m place : ℕ) → length bytes ≤ m → itemsWithin m bytes place ≡ following place (nextOf (readingAt bytes place)) (itemsWithin m bytes)
   unfolding itemsWithin nextOf following
   step-within zero place h = rw (← at-end bytes place (omega arith))
   step-within (suc m) place h =
-      following-same place _ (itemsWithin m bytes) (itemsWithin (suc m) bytes) (advances bytes place) (λ n f. same m (suc m) (place + n) (omega arith) (omega arith))
+      following-same place (nextOf (readingAt bytes place)) (itemsWithin m bytes) (itemsWithin (suc m) bytes) (advances bytes place) (λ n f. same m (suc m) (place + n) (omega arith) (omega arith))
 
   -- the items from a place on, with no count
   pub items-step : (place : ℕ) → itemsAt bytes place ≡ following place (nextOf (readingAt bytes place)) (itemsAt bytes)
@@ -136,3 +139,45 @@ closed place (next.Cell class value n) f h = absurd (miss (1 ∷ 2 ∷ 3 ∷ [])
 closed place (next.Call k n) f h = record { values = refl; classes = refl; later = refl }
 closed place next.End f h = record { values = refl; classes = refl; later = refl }
 closed place (next.Refused number) f h = record { values = refl; classes = refl; later = refl }
+
+-- the first n of vs and ks are the cells of the items before the place
+pub record Leads (input vs ks : List ℕ) (n place : ℕ) : Type 0 where
+  pub cells : values (itemsAt input 0) ≡ take n vs ++ values (itemsAt input place)
+  pub kinds : classes (itemsAt input 0) ≡ take n ks ++ classes (itemsAt input place)
+  pub rest : later (itemsAt input 0) ≡ later (itemsAt input place)
+
+pub none-yet : (input vs ks : List ℕ) → Leads input vs ks 0 0
+none-yet input vs ks = record { cells = refl; kinds = refl; rest = refl }
+
+more : (all xs ys : List ℕ) (n x : ℕ) → n < length xs → all ≡ take n xs ++ (x ∷ ys) → all ≡ take (n + 1) (set xs n x) ++ ys
+more all xs ys n x h e =
+    e ∙ rw (add-one, take-suc-set xs n x h) (sym (append-assoc (take n xs) (x ∷ []) ys))
+
+module _ (input vs ks : List ℕ) (n place class value m : ℕ) (so-far : Leads input vs ks n place) (here : itemsAt input place ≡ cell place class value ∷ itemsAt input (place + m)) where
+  -- one cell more
+  pub one-more : n < length vs → n < length ks → Leads input (set vs n value) (set ks n class) (n + 1) (place + m)
+  unfolding values classes later
+  one-more h k =
+      record {
+        cells = more _ vs _ n value h (so-far .cells ∙ ap (λ (r : List Item). take n vs ++ values r) here);
+        kinds = more _ ks _ n class k (so-far .kinds ∙ ap (λ (r : List Item). take n ks ++ classes r) here);
+        rest = so-far .rest ∙ ap later here;
+      }
+
+  -- one cell too many
+  pub too-many : n ≡ 1024 → n ≤ length vs → 1025 ≤ length (values (itemsAt input 0))
+  unfolding values
+  too-many e h =
+      let all = ap length (so-far .cells ∙ ap (λ (r : List Item). take n vs ++ values r) here) in
+      omega (arith, simp length-append at all, length-take-le n vs h)
+
+-- the field at the place closes them
+pub closes : (input vs ks : List ℕ) (n place : ℕ) → Leads input vs ks n place → Closed (itemsAt input place) → n ≤ 1024 → place ≤ length input → Leading input vs ks n place
+closes input vs ks n place l d h i =
+    record {
+      cells = l .cells ∙ ap (λ (r : List ℕ). take n vs ++ r) (d .values) ∙ append-nil (take n vs);
+      kinds = l .kinds ∙ ap (λ (r : List ℕ). take n ks ++ r) (d .classes) ∙ append-nil (take n ks);
+      closed = l .rest ∙ d .later;
+      few = h;
+      inside = i;
+    }

@@ -7,6 +7,8 @@ use Rattle.model.specs.declared.Answer.the-variants.{Done, Value, Sealed, Moved
 use Rattle.model.specs.Step.{number}
 use Rattle.model.specs.History.{Event}
 use Rattle.transcript.specs.Decimal.{decimal}
+use Rattle.transcript.specs.declared.Next.{Next}
+use Rattle.transcript.specs.declared.Next.the-variants as next
 use Rattle.transcript.specs.Items.{Item, cell, asked, refused}
 
 -- a number and what parts it from the next word or ends the line
@@ -58,9 +60,16 @@ unfoldable pub cellLines : ℕ → List ℕ → List ℕ
 cellLines i [] = []
 cellLines i (v ∷ vs) = cellLine i v ++ cellLines (suc i) vs
 
--- the line of the item that ends the calls: a refused field, or a late starting cell, which is no call: 11; none where the input ends
+-- the line of what ends the calls: a refused field, or a late starting cell, which is no call: 11; none where the input ends
 unfoldable pub endLine : List Item → List ℕ
 endLine [] = []
 endLine (cell place class value ∷ items) = fieldLine place 11
 endLine (asked k ∷ items) = endLine items
 endLine (refused place number ∷ items) = fieldLine place number
+
+-- the same of what stands at a place
+unfoldable pub stopLine : ℕ → Next → List ℕ
+stopLine place (next.Cell class value n) = fieldLine place 11
+stopLine place (next.Call k n) = []
+stopLine place next.End = []
+stopLine place (next.Refused number) = fieldLine place number

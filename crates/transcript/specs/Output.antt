@@ -59,6 +59,15 @@ abbrev pub ReadCells : List ℕ → List ℕ → List ℕ → Cells → Type 0
 ReadCells input vs ks (Found n place) = Leading input vs ks n place
 ReadCells input vs ks TooMany = 1025 ≤ length (values (itemsAt input 0))
 
+-- what set-up is handed: at most 1,024 cells, with a class and a lock for each, and 2,048 words of logs
+pub record Fitted (vs ks readers claimants exclusives logs : List ℕ) : Type 0 where
+  pub few : length vs ≤ 1024
+  pub classed : length ks ≡ length vs
+  pub read : length readers ≡ length vs
+  pub claimed : length claimants ≡ length vs
+  pub marked : length exclusives ≡ length vs
+  pub logged : length logs ≡ 2048
+
 -- ---- the replay
 
 -- the lent lengths that serve every input: 409,600 bytes of output, 1,024 cells, 2,048 words of logs

@@ -51,3 +51,33 @@ fn long_enough(
 {
     (409600 <= output) & (1024 <= values) & (1024 <= classes) & (1024 <= readers) & (1024 <= claimants) & (1024 <= exclusives) & (2048 <= logs)
 }
+
+// Prints the replay of `input` at the front of `output`. The other buffers are work space. Without 409,600 bytes of output, 1,024 elements of each of
+// `values` to `exclusives` and 2,048 words of `logs` nothing is done.
+pub fn replay(
+    input: &[u8],
+    output: &mut [u8],
+    values: &mut [u32],
+    classes: &mut [u8],
+    readers: &mut [u16],
+    claimants: &mut [u8],
+    exclusives: &mut [u8],
+    logs: &mut [u32],
+) -> Printed
+    ensures { λ r. ⌜ replayed r (now (output .exit)) ≡ replaying (longEnough (length (now (output .entry))) (length (now (values .entry))) (length (now (classes .entry))) (length (now (readers .entry))) (length (now (claimants .entry))) (length (now (exclusives .entry))) (length (now (logs .entry)))) (now (input .entry)) (now (output .entry)) ⌝ }
+{
+    if !long_enough(output.len(), values.len(), classes.len(), readers.len(), claimants.len(), exclusives.len(), logs.len()) {
+        return Printed::Short;
+    }
+    if 65536 < input.len() {
+        let end = lines::put_text(output, 0, b"size\n");
+        return Printed::Bytes(end);
+    }
+    let found = leading::read_cells(input, values, classes);
+    let Cells::Found { count, place } = found else {
+        let end = lines::put_set_up(output, 0, 7);
+        return Printed::Bytes(end);
+    };
+    let end = run::set_up_and_run(input, place, output, &mut values[..count], &classes[..count], &mut readers[..count], &mut claimants[..count], &mut exclusives[..count], &mut logs[..2048]);
+    Printed::Bytes(end)
+}

@@ -1,4 +1,5 @@
 // The lines. Each writer puts a text at a place of the output and answers the place after it.
+use crate::Next;
 use model::Answer;
 ghost use mathlib.Core.Path.{_≡_};
 ghost use mathlib.Core.List.{_∷_, []};
@@ -6,7 +7,7 @@ ghost use Prim.Native.Nat.{_+_, _*_, _≤_, _<_};
 ghost use lib.ListN.{length};
 ghost use Rattle.model.specs.Step.{number};
 ghost use Rattle.transcript.specs.Decimal.{decimal};
-ghost use Rattle.transcript.specs.Lines.{word, sizeLine, setUpLine, fieldLine, cellLine, answerLine, cellLines};
+ghost use Rattle.transcript.specs.Lines.{word, sizeLine, setUpLine, fieldLine, cellLine, answerLine, cellLines, stopLine};
 ghost use Rattle.transcript.specs.Output.{out, put};
 
 const SPACE: u8 = 32;
@@ -80,13 +81,26 @@ pub(crate) fn put_set_up(output: &mut [u8], at: usize, n: u8) -> usize
 }
 
 // field PLACE N
-pub(crate) fn put_field(output: &mut [u8], at: usize, place: u32, n: u8) -> usize
+fn put_field(output: &mut [u8], at: usize, place: u32, n: u8) -> usize
     requires { ⌜ (place < 100000) × (at + 16 ≤ length (now output)) ⌝ }
     ensures { λ r. ⌜ out r (now (output .exit)) ≡ put (now (output .entry)) at (fieldLine place n) ⌝ }
 {
     let a = put_text(output, at, b"field ");
     let b = put_word(output, a, place, SPACE);
     put_word(output, b, n as u32, NEWLINE)
+}
+
+// The line of what ends the calls; none where the input ends.
+pub(crate) fn put_stop(output: &mut [u8], at: usize, place: usize, next: Next) -> usize
+    requires { ⌜ (place < 100000) × (at + 16 ≤ length (now output)) ⌝ }
+    ensures { λ r. ⌜ out r (now (output .exit)) ≡ put (now (output .entry)) at (stopLine place next) ⌝ }
+{
+    match next {
+        Next::Refused { number } => put_field(output, at, place as u32, number),
+        Next::Cell { class: _, value: _, length: _ } => put_field(output, at, place as u32, 11),
+        Next::End => at,
+        Next::Call { call: _, length: _ } => at,
+    }
 }
 
 // ORDINAL N, and after 101 the value

@@ -11,7 +11,7 @@ ghost use Prim.Native.Nat.{_+_, _*_, _≤_, _<_};
 ghost use lib.ListN.{length};
 ghost use Rattle.store.specs.Lent.{storeOf};
 ghost use Rattle.transcript.specs.Items.{itemsAt};
-ghost use Rattle.transcript.specs.Output.{out, put, turned, turn};
+ghost use Rattle.transcript.specs.Output.{out, put, turned, turn, Fitted};
 ghost use Rattle.transcript.specs.Transcript.{callsText, given, setUpText};
 
 // One call with its line.
@@ -60,26 +60,41 @@ fn run_calls(
     let mut at = 0;
     loop {
         let next = next_at(input, place);
-        match next {
-            Next::Call { call, length } => {
-                let t = take_turn(call, ordinal, output, at, sessions, values, classes, readers, claimants, exclusives, logs);
-                let after = t.sessions;
-                sessions = after;
-                at = t.at;
-                ordinal += 1;
-                place += length;
-            }
-            Next::End => {
-                return lines::put_cells(output, at, &values[..]);
-            }
-            Next::Refused { number } => {
-                let end = lines::put_field(output, at, place as u32, number);
-                return lines::put_cells(output, end, &values[..]);
-            }
-            Next::Cell { class: _, value: _, length: _ } => {
-                let end = lines::put_field(output, at, place as u32, 11);
-                return lines::put_cells(output, end, &values[..]);
-            }
-        }
+        let Next::Call { call, length } = next else {
+            let end = lines::put_stop(output, at, place, next);
+            return lines::put_cells(output, end, &values[..]);
+        };
+        let t = take_turn(call, ordinal, output, at, sessions, values, classes, readers, claimants, exclusives, logs);
+        let after = t.sessions;
+        sessions = after;
+        at = t.at;
+        ordinal += 1;
+        place += length;
     }
+}
+
+// Set-up on the cells that were read, then the calls; a refused set-up is all that is printed.
+pub(crate) fn set_up_and_run(
+    input: &[u8],
+    from: usize,
+    output: &mut [u8],
+    values: &mut [u32],
+    classes: &[u8],
+    readers: &mut [u16],
+    claimants: &mut [u8],
+    exclusives: &mut [u8],
+    logs: &mut [u32],
+) -> usize
+    requires { ⌜ (from ≤ length (now input)) × (length (now input) ≤ 65536) × (409600 ≤ length (now output)) ⌝ ∗ ⌜ Fitted (now values) (now classes) (now readers) (now claimants) (now exclusives) (now logs) ⌝ }
+    ensures { λ r. ⌜ out r (now (output .exit)) ≡ put (now (output .entry)) 0 (setUpText (given (now (values .entry)) (now (classes .entry))) (itemsAt (now (input .entry)) from)) ⌝ }
+{
+    let records = [Session { phase: 0, count: 0, next: 0 }; 16];
+    let reply = store::set_up(Sessions { records }, &values[..], classes, readers, claimants, exclusives, logs);
+    let answer = reply.answer;
+    let sessions = reply.sessions;
+    let n = lines::number_of(answer);
+    if n != 100 {
+        return lines::put_set_up(output, 0, n);
+    }
+    run_calls(input, from, output, sessions, values, classes, readers, claimants, exclusives, logs)
 }

@@ -1,79 +1,90 @@
+-- `transcript::leading::read_cells` meets its contract. The loop's invariant: the cells read and those of the items from the place on are all the
+-- leading cells. Assumes nothing.
+use Prim.Native.Nat.{_-_, _≤_}
+use native.Mathlib.Omega.{arith}
+use mathlib.Core.Path.{_≡_, refl, sym, _∙_, subst}
+use lib.ListN.{length}
+use Rattle.transcript.specs.Items.{following}
+use Rattle.transcript.proofs.Scanning.{Advances, advances, items-by, closed, Closed, Leads, none-yet, one-more, too-many, closes}
 use borrow.Author.Needs.{needs}
 use Rattle.transcript.proofs.leading.read_cells.Statement.{statement}
 use Rattle.transcript.proofs.leading.read_cells.Tie as tie
-use Rattle.transcript.proofs.leading.read_cells.Reads as reads
-use Rattle.transcript.proofs.leading.read_cells.Lts as lts
-use Rattle.transcript.proofs.items.next_at.Reads as next-at-reads
 
 abbrev Inv-loop : tie.InvT-loop
-Inv-loop input values₀ classes₀ place₀ count₀ values classes place count = ?
+Inv-loop input values₀ classes₀ place₀ count₀ values classes place count =
+    (count ≤ 1024) × (place ≤ length input) × (length values ≡ length values₀) × (length classes ≡ length classes₀) × Leads input values classes count place
 
 abbrev μ-loop : tie.MeasureT-loop
-μ-loop input values₀ classes₀ place₀ count₀ values classes place count = ?
+μ-loop input values₀ classes₀ place₀ count₀ values classes place count = length input - place
 
--- src/leading.rt:17:5
 loop-holds : tie.Need-loop-holds Inv-loop μ-loop
-loop-holds c = search needs
+loop-holds c = (omega arith, omega arith, refl, refl, none-yet _ _ _)
 
--- src/leading.rt:18:13
 next-at-requires : tie.Need-next-at-requires Inv-loop μ-loop
 next-at-requires c κs = search needs
 
--- src/leading.rt:19:26
 enum-known-next : tie.Need-enum-known-next Inv-loop μ-loop
 enum-known-next c = search needs
 
--- src/leading.rt:20:13
 same-length : tie.Need-same-length Inv-loop μ-loop
 same-length c = search needs
 
--- src/leading.rt:20:13
 same-length-2 : tie.Need-same-length-2 Inv-loop μ-loop
 same-length-2 c = search needs
 
--- src/leading.rt:20:13
 returns : tie.Need-returns Inv-loop μ-loop
-returns c = search needs
+returns c =
+    let inv = c .before .before .loop .inv in
+    let shut = closed _ _ _ (c .match .keys2) in
+    closes _ _ _ _ _ (inv .4) (subst Closed (sym (items-by _ _ _ (c .before .next-at .ensures))) shut) (inv .0) (inv .1)
 
--- src/leading.rt:23:13
 same-length-3 : tie.Need-same-length-3 Inv-loop μ-loop
 same-length-3 c = search needs
 
--- src/leading.rt:23:13
 same-length-4 : tie.Need-same-length-4 Inv-loop μ-loop
 same-length-4 c = search needs
 
--- src/leading.rt:23:13
 returns-2 : tie.Need-returns-2 Inv-loop μ-loop
-returns-2 c = search needs
+unfolding following
+returns-2 c =
+    let inv = c .before .before .before .before .before .loop .inv in
+    let seen = sym (c .before .before .next .given .1) ∙ c .before .before .before .before .next-at .ensures in
+    let here = items-by _ _ _ seen in
+    let step = subst (Advances _ _) (sym seen) (advances _ _) in
+    too-many _ _ _ _ _ _ _ _ (inv .4) here (c .if1 .taken) (omega arith)
 
--- src/leading.rt:25:9
 mul-values : tie.Need-mul-values Inv-loop μ-loop
 mul-values c = search needs
 
--- src/leading.rt:25:9
 slice-write-values : tie.Need-slice-write-values Inv-loop μ-loop
 slice-write-values c = search needs
 
--- src/leading.rt:26:9
 slice-write-classes : tie.Need-slice-write-classes Inv-loop μ-loop
 slice-write-classes c = search needs
 
--- src/leading.rt:27:9
 add-count : tie.Need-add-count Inv-loop μ-loop
 add-count c = search needs
 
--- src/leading.rt:28:9
 add-place : tie.Need-add-place Inv-loop μ-loop
-add-place c = search needs
+add-place c =
+    let seen = sym (c .before .before .next .given .1) ∙ c .before .before .before .before .next-at .ensures in
+    let step = subst (Advances _ _) (sym seen) (advances _ _) in
+    omega (arith, step .inside, step .four)
 
--- src/leading.rt:17:5
 loop-less : tie.Need-loop-less Inv-loop μ-loop
-loop-less c = search needs
+loop-less c =
+    let seen = sym (c .before .before .next .given .1) ∙ c .before .before .before .before .next-at .ensures in
+    let step = subst (Advances _ _) (sym seen) (advances _ _) in
+    omega (arith, step .inside, step .four)
 
--- src/leading.rt:17:5
 loop-again : tie.Need-loop-again Inv-loop μ-loop
-loop-again c = search needs
+unfolding following
+loop-again c =
+    let inv = c .before .before .before .before .before .loop .inv in
+    let seen = sym (c .before .before .next .given .1) ∙ c .before .before .before .before .next-at .ensures in
+    let here = items-by _ _ _ seen in
+    let step = subst (Advances _ _) (sym seen) (advances _ _) in
+    (omega arith, omega (arith, step .inside), search needs, search needs, one-more _ _ _ _ _ _ _ _ (inv .4) here (omega arith) (omega arith))
 
 pub read-cells-spec : {M : Type 1} → statement M
 read-cells-spec =

@@ -3,7 +3,7 @@
 use Prim.Native.Nat.{ℕ, _+_, _-_, _*_, _≤_}
 use native.Mathlib.Omega.{arith}
 use mathlib.Core.Path.{_≡_, refl, sym, _∙_, ap}
-use lib.ListN.{length, drop}
+use lib.ListN.{length, drop, getD}
 use Rattle.transcript.specs.Lines.{cellLines}
 use Rattle.transcript.specs.Output.{put}
 use Rattle.transcript.proofs.Decimals.{length-cell}
@@ -48,7 +48,7 @@ loop-again c =
     let inv = c .before .before .before .before .before .before .loop .inv in
     let line = c .before .before .put-cell .ensures in
     let value = c .before .before .before .before .before .before .before .shared-slice-known .given i in
-    (search needs, search needs, omega (arith, ends-at _ _ _ line, length-cell i _ (omega arith) value), after _ _ _ _ line ∙ ap (put _ _) (sym (cells-more i values (c .before .before .before .before .before .loop-test .taken))) ∙ inv .3)
+    (search needs, search needs, omega (arith, ends-at _ _ _ line, length-cell i (getD values i 0) (omega arith) (omega (arith, value))), after _ _ _ _ line ∙ ap (put _ _) (sym (cells-more i values (c .before .before .before .before .before .loop-test .taken))) ∙ inv .3)
 
 same-length : tie.Need-same-length Inv-loop μ-loop
 same-length c = search needs
