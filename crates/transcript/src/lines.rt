@@ -83,7 +83,7 @@ pub(crate) fn put_set_up(output: &mut [u8], at: usize, n: u8) -> usize
 // field PLACE N
 fn put_field(output: &mut [u8], at: usize, place: u32, n: u8) -> usize
     requires { ⌜ (place < 100000) × (at + 16 ≤ length (now output)) ⌝ }
-    ensures { λ r. ⌜ out r (now (output .exit)) ≡ put (now (output .entry)) at (fieldLine place n) ⌝ }
+    ensures { λ r. ⌜ (out r (now (output .exit)) ≡ put (now (output .entry)) at (fieldLine place n)) × (r ≤ at + 16) ⌝ }
 {
     let a = put_text(output, at, b"field ");
     let b = put_word(output, a, place, SPACE);
@@ -93,7 +93,7 @@ fn put_field(output: &mut [u8], at: usize, place: u32, n: u8) -> usize
 // The line of what ends the calls; none where the input ends.
 pub(crate) fn put_stop(output: &mut [u8], at: usize, place: usize, next: Next) -> usize
     requires { ⌜ (place < 100000) × (at + 16 ≤ length (now output)) ⌝ }
-    ensures { λ r. ⌜ out r (now (output .exit)) ≡ put (now (output .entry)) at (stopLine place next) ⌝ }
+    ensures { λ r. ⌜ (out r (now (output .exit)) ≡ put (now (output .entry)) at (stopLine place next)) × (r ≤ at + 16) ⌝ }
 {
     match next {
         Next::Refused { number } => put_field(output, at, place as u32, number),
@@ -106,7 +106,7 @@ pub(crate) fn put_stop(output: &mut [u8], at: usize, place: usize, next: Next) -
 // ORDINAL N, and after 101 the value
 pub(crate) fn put_answer(output: &mut [u8], at: usize, ordinal: u32, answer: Answer) -> usize
     requires { ⌜ (ordinal < 100000) × (at + 21 ≤ length (now output)) ⌝ }
-    ensures { λ r. ⌜ out r (now (output .exit)) ≡ put (now (output .entry)) at (answerLine ordinal answer) ⌝ }
+    ensures { λ r. ⌜ (out r (now (output .exit)) ≡ put (now (output .entry)) at (answerLine ordinal answer)) × (r ≤ at + 21) ⌝ }
 {
     let n = number_of(answer);
     let a = put_word(output, at, ordinal, SPACE);

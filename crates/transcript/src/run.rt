@@ -29,7 +29,7 @@ fn take_turn(
     logs: &mut [u32],
 ) -> Turn
     requires { ⌜ (ordinal < 100000) × (at + 21 ≤ length (now output)) ⌝ }
-    ensures { λ r. ⌜ turned (out (r .at) (now (output .exit))) (storeOf (now (values .exit)) (now (classes .entry)) (now (readers .exit)) (now (claimants .exit)) (now (exclusives .exit)) (now (logs .exit)) (r .sessions)) ≡ turn call ordinal (now (output .entry)) at (storeOf (now (values .entry)) (now (classes .entry)) (now (readers .entry)) (now (claimants .entry)) (now (exclusives .entry)) (now (logs .entry)) sessions) ⌝ }
+    ensures { λ r. ⌜ (turned (out (r .at) (now (output .exit))) (storeOf (now (values .exit)) (now (classes .entry)) (now (readers .exit)) (now (claimants .exit)) (now (exclusives .exit)) (now (logs .exit)) (r .sessions)) ≡ turn call ordinal (now (output .entry)) at (storeOf (now (values .entry)) (now (classes .entry)) (now (readers .entry)) (now (claimants .entry)) (now (exclusives .entry)) (now (logs .entry)) sessions)) × (r .at ≤ at + 21) ⌝ }
 {
     let reply = store::step(call, sessions, values, classes, readers, claimants, exclusives, logs);
     let answer = reply.answer;

@@ -33,8 +33,15 @@ same-length c = search needs
 returns : tie.Need-returns
 unfolding answerLine
 returns c =
-    then _ _ _ _ (c .before .before .before .before .before .before .before .put-word .ensures)
-    (c .before .before .put-word2 .ensures ∙ ap (put _ _) (ap (λ (n : ℕ). word n newline) (c .before .before .before .before .before .before .before .before .before .number-of .ensures) ∙ sym (plain-words _ (c .before .before .before .before .match .keys2))))
+    let a = c .before .before .before .before .before .before .before .put-word .ensures in
+    let e = c .before .before .put-word2 .ensures in
+    (then _ _ _ _ a (e ∙ ap (put _ _) (ap (λ (n : ℕ). word n newline) (c .before .before .before .before .before .before .before .before .before .number-of .ensures) ∙ sym (plain-words _ (c .before .before .before .before .match .keys2)))),
+    omega
+    (arith,
+    ends-at _ _ _ a,
+    ends-at _ _ _ e,
+    length-word 4 (c .before .before .before .before .before .before .before .before .before .before .before .args .ordinal) 32 (omega arith),
+    length-word 2 (c .before .before .before .before .before .before .before .before .before .number-of .result) 10 (omega arith)))
 
 cast-put-word-2 : tie.Need-cast-put-word-2
 cast-put-word-2 c = search needs
@@ -59,8 +66,18 @@ same-length-2 c = search needs
 returns-2 : tie.Need-returns-2
 unfolding answerLine
 returns-2 c =
-    then _ _ _ _ (c .before .before .before .before .before .before .before .before .before .before .before .before .before .put-word .ensures)
-    (then _ _ _ _ (c .before .before .before .before .before .before .put-word3 .ensures) (c .before .before .put-word4 .ensures) ∙ ap (put _ _) (value-words _ _ _ (c .before .before .before .before .before .before .before .before .before .before .before .before .before .before .before .number-of .ensures) (c .before .before .before .before .before .before .before .before .before .answer .given .1)))
+    let a = c .before .before .before .before .before .before .before .before .before .before .before .before .before .put-word .ensures in
+    let b = c .before .before .before .before .before .before .put-word3 .ensures in
+    let e = c .before .before .put-word4 .ensures in
+    (then _ _ _ _ a (then _ _ _ _ b e ∙ ap (put _ _) (value-words _ _ _ (c .before .before .before .before .before .before .before .before .before .before .before .before .before .before .before .number-of .ensures) (c .before .before .before .before .before .before .before .before .before .answer .given .1))),
+    omega
+    (arith,
+    ends-at _ _ _ a,
+    ends-at _ _ _ b,
+    ends-at _ _ _ e,
+    length-word 4 (c .before .before .before .before .before .before .before .before .before .before .before .before .before .before .before .before .before .args .ordinal) 32 (omega arith),
+    length-word 2 (c .before .before .before .before .before .before .before .before .before .before .before .before .before .before .before .number-of .result) 32 (omega arith),
+    length-word 9 (c .before .before .before .before .before .before .before .before .before .answer .given .0 .0) 10 (omega arith)))
 
 pub put-answer-spec : {M : Type 1} → statement M
 put-answer-spec =

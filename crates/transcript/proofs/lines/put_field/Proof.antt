@@ -27,7 +27,17 @@ same-length c = search needs
 returns : tie.Need-returns
 unfolding fieldLine
 returns c =
-    then _ _ _ _ (c .before .before .before .before .before .before .before .before .before .before .put-text .ensures) (then _ _ _ _ (c .before .before .before .before .before .before .put-word .ensures) (c .before .before .put-word2 .ensures))
+    let a = c .before .before .before .before .before .before .before .before .before .before .put-text .ensures in
+    let b = c .before .before .before .before .before .before .put-word .ensures in
+    let e = c .before .before .put-word2 .ensures in
+    (then _ _ _ _ a (then _ _ _ _ b e),
+    omega
+    (arith,
+    ends-at _ _ _ a,
+    ends-at _ _ _ b,
+    ends-at _ _ _ e,
+    length-word 4 (c .before .before .before .before .before .before .before .before .before .before .before .before .before .before .args .place) 32 (omega arith),
+    length-word 2 (c .before .before .before .before .before .before .before .before .before .before .before .before .before .before .args .n) 10 (omega arith)))
 
 pub put-field-spec : {M : Type 1} → statement M
 put-field-spec =

@@ -1,65 +1,57 @@
+-- `transcript::lines::put_stop` meets its contract: a line, or nothing. Assumes nothing.
+use native.Mathlib.Omega.{arith}
+use mathlib.Core.Path.{sym, _∙_, ap}
+use Rattle.transcript.specs.Lines.{stopLine}
+use Rattle.transcript.proofs.Puts.{put-nothing}
 use borrow.Author.Needs.{needs}
 use Rattle.transcript.proofs.lines.put_stop.Statement.{statement}
 use Rattle.transcript.proofs.lines.put_stop.Tie as tie
-use Rattle.transcript.proofs.lines.put_stop.Reads as reads
-use Rattle.transcript.proofs.lines.put_stop.Lts as lts
-use Rattle.transcript.proofs.lines.put_field.Reads as put-field-reads
 
--- src/lines.rt:99:25
 enum-known-next : tie.Need-enum-known-next
 enum-known-next c = search needs
 
--- src/lines.rt:99:59
 cast-put-field : tie.Need-cast-put-field
 cast-put-field c = search needs
 
--- src/lines.rt:99:37
 put-field-requires : tie.Need-put-field-requires
 put-field-requires c κs = search needs
 
--- src/lines.rt:100:67
 enum-told : tie.Need-enum-told
 enum-told c = search needs
 
--- src/lines.rt:100:79
 cast-put-field-2 : tie.Need-cast-put-field-2
 cast-put-field-2 c = search needs
 
--- src/lines.rt:100:57
 put-field-requires-2 : tie.Need-put-field-requires-2
 put-field-requires-2 c κs = search needs
 
--- src/lines.rt:101:22
 enum-told-2 : tie.Need-enum-told-2
 enum-told-2 c = search needs
 
--- src/lines.rt:102:46
 enum-told-3 : tie.Need-enum-told-3
 enum-told-3 c = search needs
 
--- src/lines.rt:94:1
 same-length : tie.Need-same-length
 same-length c = search needs
 
--- src/lines.rt:94:1
 returns : tie.Need-returns
-returns c = search needs
+unfolding stopLine
+returns c = (rw (c .before .before .before .before .before .next .given .1) (c .before .before .put-field .ensures .0), c .before .before .put-field .ensures .1)
 
--- src/lines.rt:94:1
 same-length-2 : tie.Need-same-length-2
 same-length-2 c = search needs
 
--- src/lines.rt:94:1
 returns-2 : tie.Need-returns-2
-returns-2 c = search needs
+unfolding stopLine
+returns-2 c = (rw (c .before .before .before .before .enum-told .given .1) (c .before .before .put-field2 .ensures .0), c .before .before .put-field2 .ensures .1)
 
--- src/lines.rt:94:1
 returns-3 : tie.Need-returns-3
-returns-3 c = search needs
+unfolding stopLine
+returns-3 c = (rw (c .enum-told2 .given .1) (sym (put-nothing _ _)), omega arith)
 
--- src/lines.rt:94:1
 returns-4 : tie.Need-returns-4
-returns-4 c = search needs
+unfolding stopLine
+returns-4 c = (rw (c .enum-told3 .given .1) (sym (put-nothing _ _)), omega arith)
 
 pub put-stop-spec : {M : Type 1} → statement M
 put-stop-spec =

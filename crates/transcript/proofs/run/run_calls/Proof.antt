@@ -1,88 +1,119 @@
+-- `transcript::run::run_calls` meets its contract. The loop's invariant: what is written and the text of the items from the place on, from the store as
+-- it is, are the whole text; each call took four bytes at least, and 21 bytes of output at most. Assumes nothing.
+use Prim.Native.Nat.{_+_, _-_, _*_, _≤_}
+use native.Mathlib.Omega.{arith}
+use mathlib.Core.Path.{_≡_, refl, sym, _∙_, ap, subst}
+use lib.ListN.{length}
+use Rattle.store.specs.Lent.{storeOf}
+use Rattle.transcript.specs.Items.{itemsAt, following}
+use Rattle.transcript.specs.Output.{put}
+use Rattle.transcript.specs.Transcript.{callsText}
+use Rattle.transcript.proofs.Puts.{ends-at, then}
+use Rattle.transcript.proofs.Scanning.{Advances, advances, items-by}
+use Rattle.transcript.proofs.Turns.{turned-text, stops}
 use borrow.Author.Needs.{needs}
 use Rattle.transcript.proofs.run.run_calls.Statement.{statement}
 use Rattle.transcript.proofs.run.run_calls.Tie as tie
-use Rattle.transcript.proofs.run.run_calls.Reads as reads
-use Rattle.transcript.proofs.run.run_calls.Lts as lts
-use Rattle.transcript.proofs.items.next_at.Reads as next-at-reads
-use Rattle.transcript.proofs.lines.put_cells.Reads as put-cells-reads
-use Rattle.transcript.proofs.lines.put_stop.Reads as put-stop-reads
-use Rattle.transcript.proofs.run.take_turn.Reads as take-turn-reads
 
 abbrev Inv-loop : tie.InvT-loop
 Inv-loop input from output₀ values₀ classes readers₀ claimants₀ exclusives₀ logs₀ sessions₀ place₀ ordinal₀ at₀ output values readers claimants exclusives logs sessions place ordinal at =
-    ?
+    (place ≤ length input)
+    × (4 * ordinal ≤ place + 4)
+    × (at + 21 ≤ 21 * ordinal)
+    × (length output ≡ length output₀)
+    × (length values ≡ length values₀)
+    × (length readers ≡ length readers₀)
+    × (length claimants ≡ length claimants₀)
+    × (length exclusives ≡ length exclusives₀)
+    × (length logs ≡ length logs₀)
+    × (put output at (callsText ordinal (storeOf values classes readers claimants exclusives logs sessions) (itemsAt input place))
+    ≡ put output₀ 0 (callsText 1 (storeOf values₀ classes readers₀ claimants₀ exclusives₀ logs₀ sessions₀) (itemsAt input from)))
 
 abbrev μ-loop : tie.MeasureT-loop
-μ-loop input from output₀ values₀ classes readers₀ claimants₀ exclusives₀ logs₀ sessions₀ place₀ ordinal₀ at₀ output values readers claimants exclusives logs sessions place ordinal at =
-    ?
+μ-loop input from output₀ values₀ classes readers₀ claimants₀ exclusives₀ logs₀ sessions₀ place₀ ordinal₀ at₀ output values readers claimants exclusives logs sessions place ordinal at = length input - place
 
--- src/run.rt:61:5
 loop-holds : tie.Need-loop-holds Inv-loop μ-loop
-loop-holds c = search needs
+loop-holds c = (omega arith, omega arith, omega arith, refl, refl, refl, refl, refl, refl, refl)
 
--- src/run.rt:62:13
 next-at-requires : tie.Need-next-at-requires Inv-loop μ-loop
 next-at-requires c κs = search needs
 
--- src/run.rt:63:26
 enum-known-next : tie.Need-enum-known-next Inv-loop μ-loop
 enum-known-next c = search needs
 
--- src/run.rt:64:17
 put-stop-requires : tie.Need-put-stop-requires Inv-loop μ-loop
-put-stop-requires c κs = search needs
+put-stop-requires c κs =
+    let inv = c .before .before .before .loop .inv in
+    (omega (arith, inv .0), omega (arith, inv .0, inv .1, inv .2, inv .3))
 
--- src/run.rt:65:13
 put-cells-requires : tie.Need-put-cells-requires Inv-loop μ-loop
-put-cells-requires c κs = search needs
+put-cells-requires c κs =
+    let inv = c .before .before .before .before .before .before .before .before .loop .inv in
+    (omega (arith, inv .4), omega (arith, inv .0, inv .1, inv .2, inv .3, inv .4, c .before .before .before .before .put-stop .ensures .1))
 
--- src/run.rt:65:13
 same-length : tie.Need-same-length Inv-loop μ-loop
 same-length c = search needs
 
--- src/run.rt:65:13
 same-length-2 : tie.Need-same-length-2 Inv-loop μ-loop
 same-length-2 c = search needs
 
--- src/run.rt:65:13
 same-length-3 : tie.Need-same-length-3 Inv-loop μ-loop
 same-length-3 c = search needs
 
--- src/run.rt:65:13
 same-length-4 : tie.Need-same-length-4 Inv-loop μ-loop
 same-length-4 c = search needs
 
--- src/run.rt:65:13
 same-length-5 : tie.Need-same-length-5 Inv-loop μ-loop
 same-length-5 c = search needs
 
--- src/run.rt:65:13
 same-length-6 : tie.Need-same-length-6 Inv-loop μ-loop
 same-length-6 c = search needs
 
--- src/run.rt:65:13
 returns : tie.Need-returns Inv-loop μ-loop
-returns c = search needs
+returns c =
+    let inv = c .before .before .before .before .before .before .before .before .before .before .before .loop .inv in
+    let here = items-by _ _ _ (c .before .before .before .before .before .before .before .before .before .before .next-at .ensures) in
+    let left = ap (callsText _ _) here ∙ stops _ _ _ _ _ (c .before .before .before .before .before .before .before .before .before .match .keys2) in
+    then _ _ _ _ (c .before .before .before .before .before .before .before .put-stop .ensures .0) (c .before .before .put-cells .ensures) ∙ ap (put _ _) (sym left) ∙ inv .9
 
--- src/run.rt:67:13
 take-turn-requires : tie.Need-take-turn-requires Inv-loop μ-loop
-take-turn-requires c κs = search needs
+take-turn-requires c κs =
+    let inv = c .before .before .before .before .before .before .before .before .before .before .loop .inv in
+    (omega (arith, inv .0, inv .1), omega (arith, inv .0, inv .1, inv .2, inv .3))
 
--- src/run.rt:71:9
 add-ordinal : tie.Need-add-ordinal Inv-loop μ-loop
-add-ordinal c = search needs
+add-ordinal c = omega (arith, c .before .before .before .before .before .before .before .before .before .before .before .before .before .before .before .before .before .before .before .before .before .before .before .before .before .before .before .before .before .before .before .before .before .pre .1, c .before .before .before .before .before .before .before .before .before .before .before .before .before .before .before .before .before .before .before .before .before .before .before .before .loop .inv .0, c .before .before .before .before .before .before .before .before .before .before .before .before .before .before .before .before .before .before .before .before .before .before .before .before .loop .inv .1)
 
--- src/run.rt:72:9
 add-place : tie.Need-add-place Inv-loop μ-loop
-add-place c = search needs
+add-place c =
+    let seen = sym (c .before .before .before .before .before .before .before .before .before .before .before .before .before .before .before .before .before .before .before .before .before .next .given .1) ∙ c .before .before .before .before .before .before .before .before .before .before .before .before .before .before .before .before .before .before .before .before .before .before .before .next-at .ensures in
+    let step = subst (Advances _ _) (sym seen) (advances _ _) in
+    omega (arith, c .before .before .before .before .before .before .before .before .before .before .before .before .before .before .before .before .before .before .before .before .before .before .before .before .before .before .before .before .before .before .before .before .before .pre .1, step .inside, step .four)
 
--- src/run.rt:61:5
 loop-less : tie.Need-loop-less Inv-loop μ-loop
-loop-less c = search needs
+loop-less c =
+    let seen = sym (c .before .before .before .before .before .before .before .before .before .before .before .before .before .before .before .before .before .before .before .before .before .next .given .1) ∙ c .before .before .before .before .before .before .before .before .before .before .before .before .before .before .before .before .before .before .before .before .before .before .before .next-at .ensures in
+    let step = subst (Advances _ _) (sym seen) (advances _ _) in
+    omega (arith, c .before .before .before .before .before .before .before .before .before .before .before .before .before .before .before .before .before .before .before .before .before .before .before .before .before .before .before .before .before .before .before .before .before .pre .1, step .inside, step .four)
 
--- src/run.rt:61:5
 loop-again : tie.Need-loop-again Inv-loop μ-loop
-loop-again c = search needs
+unfolding following
+loop-again c =
+    let inv = c .before .before .before .before .before .before .before .before .before .before .before .before .before .before .before .before .before .before .before .before .before .before .before .before .loop .inv in
+    let seen = sym (c .before .before .before .before .before .before .before .before .before .before .before .before .before .before .before .before .before .before .before .before .before .next .given .1) ∙ c .before .before .before .before .before .before .before .before .before .before .before .before .before .before .before .before .before .before .before .before .before .before .before .next-at .ensures in
+    let step = subst (Advances _ _) (sym seen) (advances _ _) in
+    let here = items-by _ _ _ seen in
+    let turn = c .before .before .before .before .before .before .before .before .before .before .before .before .before .take-turn .ensures in
+    (omega (arith, step .inside),
+    omega (arith, inv .1, step .four),
+    omega (arith, inv .2, turn .1),
+    search needs,
+    search needs,
+    search needs,
+    search needs,
+    search needs,
+    search needs,
+    turned-text _ _ _ _ _ _ (turn .0) ∙ ap (put _ _) (ap (callsText _ _) (sym here)) ∙ inv .9)
 
 pub run-calls-spec : {M : Type 1} → statement M
 run-calls-spec =

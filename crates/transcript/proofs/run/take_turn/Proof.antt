@@ -30,7 +30,7 @@ same-length-6 : tie.Need-same-length-6
 same-length-6 c = search needs
 
 returns : tie.Need-returns
-returns c = turning _ _ _ _ _ (c .before .before .before .before .before .before .before .before .before .before .before .before .before .before .before .step .ensures) (c .before .before .put-answer .ensures)
+returns c = (turning _ _ _ _ _ (c .before .before .before .before .before .before .before .before .before .before .before .before .before .before .before .step .ensures) (c .before .before .put-answer .ensures .0), c .before .before .put-answer .ensures .1)
 
 pub take-turn-spec : {M : Type 1} → statement M
 take-turn-spec =
