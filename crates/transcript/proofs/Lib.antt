@@ -4,5 +4,6 @@ pub mod Decimals
 pub mod Forward
 pub mod Puts
 pub mod Scanning
+pub mod Starting
 pub mod Turns
 pub mod Worked

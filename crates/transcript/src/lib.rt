@@ -69,15 +69,6 @@ pub fn replay(
     if !long_enough(output.len(), values.len(), classes.len(), readers.len(), claimants.len(), exclusives.len(), logs.len()) {
         return Printed::Short;
     }
-    if 65536 < input.len() {
-        let end = lines::put_text(output, 0, b"size\n");
-        return Printed::Bytes(end);
-    }
-    let found = leading::read_cells(input, values, classes);
-    let Cells::Found { count, place } = found else {
-        let end = lines::put_set_up(output, 0, 7);
-        return Printed::Bytes(end);
-    };
-    let end = run::set_up_and_run(input, place, output, &mut values[..count], &classes[..count], &mut readers[..count], &mut claimants[..count], &mut exclusives[..count], &mut logs[..2048]);
+    let end = run::print(input, output, values, classes, readers, claimants, exclusives, logs);
     Printed::Bytes(end)
 }

@@ -74,7 +74,7 @@ pub(crate) fn number_of(answer: Answer) -> u8
 // setup N
 pub(crate) fn put_set_up(output: &mut [u8], at: usize, n: u8) -> usize
     requires { ⌜ at + 10 ≤ length (now output) ⌝ }
-    ensures { λ r. ⌜ out r (now (output .exit)) ≡ put (now (output .entry)) at (setUpLine n) ⌝ }
+    ensures { λ r. ⌜ (out r (now (output .exit)) ≡ put (now (output .entry)) at (setUpLine n)) × (r ≤ at + 10) ⌝ }
 {
     let a = put_text(output, at, b"setup ");
     put_word(output, a, n as u32, NEWLINE)
@@ -131,7 +131,7 @@ fn put_cell(output: &mut [u8], at: usize, cell: u32, value: u32) -> usize
 // A line for each cell.
 pub(crate) fn put_cells(output: &mut [u8], at: usize, values: &[u32]) -> usize
     requires { ⌜ (length (now values) ≤ 1024) × (at + 18 * length (now values) ≤ length (now output)) ⌝ }
-    ensures { λ r. ⌜ out r (now (output .exit)) ≡ put (now (output .entry)) at (cellLines 0 (now (values .entry))) ⌝ }
+    ensures { λ r. ⌜ (out r (now (output .exit)) ≡ put (now (output .entry)) at (cellLines 0 (now (values .entry)))) × (r ≤ at + 18 * length (now (values .entry))) ⌝ }
 {
     let mut end = at;
     let mut i = 0;

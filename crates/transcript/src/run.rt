@@ -1,18 +1,21 @@
 // Set-up, and the calls.
+use crate::Cells;
 use crate::Next;
 use crate::Turn;
 use crate::items::next_at;
+use crate::leading;
 use crate::lines;
 use model::Call;
 use model::Session;
 use model::Sessions;
 ghost use mathlib.Core.Path.{_≡_};
+ghost use mathlib.Core.Bool.{true};
 ghost use Prim.Native.Nat.{_+_, _*_, _≤_, _<_};
 ghost use lib.ListN.{length};
 ghost use Rattle.store.specs.Lent.{storeOf};
 ghost use Rattle.transcript.specs.Items.{itemsAt};
-ghost use Rattle.transcript.specs.Output.{out, put, turned, turn, Fitted};
-ghost use Rattle.transcript.specs.Transcript.{callsText, given, setUpText};
+ghost use Rattle.transcript.specs.Output.{out, put, turned, turn, Fitted, longEnough};
+ghost use Rattle.transcript.specs.Transcript.{callsText, given, setUpText, transcript};
 
 // One call with its line.
 fn take_turn(
@@ -52,7 +55,7 @@ fn run_calls(
     logs: &mut [u32],
 ) -> usize
     requires { ⌜ (from ≤ length (now input)) × (length (now input) ≤ 65536) × (409600 ≤ length (now output)) × (length (now values) ≤ 1024) ⌝ }
-    ensures { λ r. ⌜ out r (now (output .exit)) ≡ put (now (output .entry)) 0 (callsText 1 (storeOf (now (values .entry)) (now (classes .entry)) (now (readers .entry)) (now (claimants .entry)) (now (exclusives .entry)) (now (logs .entry)) sessions) (itemsAt (now (input .entry)) from)) ⌝ }
+    ensures { λ r. ⌜ (out r (now (output .exit)) ≡ put (now (output .entry)) 0 (callsText 1 (storeOf (now (values .entry)) (now (classes .entry)) (now (readers .entry)) (now (claimants .entry)) (now (exclusives .entry)) (now (logs .entry)) sessions) (itemsAt (now (input .entry)) from))) × (r ≤ 409600) ⌝ }
 {
     let mut sessions = sessions;
     let mut place = from;
@@ -86,7 +89,7 @@ pub(crate) fn set_up_and_run(
     logs: &mut [u32],
 ) -> usize
     requires { ⌜ (from ≤ length (now input)) × (length (now input) ≤ 65536) × (409600 ≤ length (now output)) ⌝ ∗ ⌜ Fitted (now values) (now classes) (now readers) (now claimants) (now exclusives) (now logs) ⌝ }
-    ensures { λ r. ⌜ out r (now (output .exit)) ≡ put (now (output .entry)) 0 (setUpText (given (now (values .entry)) (now (classes .entry))) (itemsAt (now (input .entry)) from)) ⌝ }
+    ensures { λ r. ⌜ (out r (now (output .exit)) ≡ put (now (output .entry)) 0 (setUpText (given (now (values .entry)) (now (classes .entry))) (itemsAt (now (input .entry)) from))) × (r ≤ 409600) ⌝ }
 {
     let records = [Session { phase: 0, count: 0, next: 0 }; 16];
     let reply = store::set_up(Sessions { records }, &values[..], classes, readers, claimants, exclusives, logs);
@@ -97,4 +100,28 @@ pub(crate) fn set_up_and_run(
         return lines::put_set_up(output, 0, n);
     }
     run_calls(input, from, output, sessions, values, classes, readers, claimants, exclusives, logs)
+}
+
+// The whole text.
+pub(crate) fn print(
+    input: &[u8],
+    output: &mut [u8],
+    values: &mut [u32],
+    classes: &mut [u8],
+    readers: &mut [u16],
+    claimants: &mut [u8],
+    exclusives: &mut [u8],
+    logs: &mut [u32],
+) -> usize
+    requires { ⌜ longEnough (length (now output)) (length (now values)) (length (now classes)) (length (now readers)) (length (now claimants)) (length (now exclusives)) (length (now logs)) ≡ true ⌝ }
+    ensures { λ r. ⌜ (out r (now (output .exit)) ≡ put (now (output .entry)) 0 (transcript (now (input .entry)))) × (r ≤ 409600) ⌝ }
+{
+    if 65536 < input.len() {
+        return lines::put_text(output, 0, b"size\n");
+    }
+    let found = leading::read_cells(input, values, classes);
+    let Cells::Found { count, place } = found else {
+        return lines::put_set_up(output, 0, 7);
+    };
+    set_up_and_run(input, place, output, &mut values[..count], &classes[..count], &mut readers[..count], &mut claimants[..count], &mut exclusives[..count], &mut logs[..2048])
 }

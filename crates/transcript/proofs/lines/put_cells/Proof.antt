@@ -15,7 +15,7 @@ use Rattle.transcript.proofs.lines.put_cells.Tie as tie
 
 abbrev Inv-loop : tie.InvT-loop
 Inv-loop output₀ at values end₀ i₀ output end i =
-    (i ≤ length values) × (length output ≡ length output₀) × (end + 18 * length values ≤ length output₀ + 18 * i) × (put output end (cellLines i (drop i values)) ≡ put output₀ at (cellLines 0 values))
+    (i ≤ length values) × (length output ≡ length output₀) × (end ≤ at + 18 * i) × (put output end (cellLines i (drop i values)) ≡ put output₀ at (cellLines 0 values))
 
 abbrev μ-loop : tie.MeasureT-loop
 μ-loop output₀ at values end₀ i₀ output end i = length values - i
@@ -56,7 +56,7 @@ same-length c = search needs
 returns : tie.Need-returns Inv-loop μ-loop
 returns c =
     let inv = c .before .loop .inv in
-    sym (put-nothing _ _) ∙ ap (put _ _) (sym (cells-none _ _ (c .loop-test .left))) ∙ inv .3
+    (sym (put-nothing _ _) ∙ ap (put _ _) (sym (cells-none _ _ (c .loop-test .left))) ∙ inv .3, omega (arith, inv .0, inv .2))
 
 pub put-cells-spec : {M : Type 1} → statement M
 put-cells-spec =

@@ -22,7 +22,10 @@ same-length c = search needs
 
 returns : tie.Need-returns
 unfolding setUpLine
-returns c = then _ _ _ _ (c .before .before .before .before .before .before .put-text .ensures) (c .before .before .put-word .ensures)
+returns c =
+    let a = c .before .before .before .before .before .before .put-text .ensures in
+    let e = c .before .before .put-word .ensures in
+    (then _ _ _ _ a e, omega (arith, ends-at _ _ _ a, ends-at _ _ _ e, length-word 2 (c .before .before .before .before .before .before .before .before .before .before .args .n) 10 (omega arith)))
 
 pub put-set-up-spec : {M : Type 1} → statement M
 put-set-up-spec =

@@ -74,7 +74,9 @@ returns c =
     let inv = c .before .before .before .before .before .before .before .before .before .before .before .loop .inv in
     let here = items-by _ _ _ (c .before .before .before .before .before .before .before .before .before .before .next-at .ensures) in
     let left = ap (callsText _ _) here ∙ stops _ _ _ _ _ (c .before .before .before .before .before .before .before .before .before .match .keys2) in
-    then _ _ _ _ (c .before .before .before .before .before .before .before .put-stop .ensures .0) (c .before .before .put-cells .ensures) ∙ ap (put _ _) (sym left) ∙ inv .9
+    let stop = c .before .before .before .before .before .before .before .put-stop .ensures in
+    let cells = c .before .before .put-cells .ensures in
+    (then _ _ _ _ (stop .0) (cells .0) ∙ ap (put _ _) (sym left) ∙ inv .9, omega (arith, c .before .before .before .before .before .before .before .before .before .before .before .before .before .before .before .before .before .before .before .before .pre .1, c .before .before .before .before .before .before .before .before .before .before .before .before .before .before .before .before .before .before .before .before .pre .3, inv .0, inv .1, inv .2, inv .4, stop .1, cells .1))
 
 take-turn-requires : tie.Need-take-turn-requires Inv-loop μ-loop
 take-turn-requires c κs =

@@ -1,0 +1,129 @@
+-- Set-up: whatever stands in the locks, logs and records that are handed to it, it answers and leaves what the text takes; and the whole text from there.
+use Prim.Native.Nat.{ℕ, zero, suc, _+_, _≤_, _<_}
+use native.Mathlib.Omega.{arith}
+use mathlib.Core.Path.{_≡_, refl, sym, _∙_, ap}
+use mathlib.Core.Bool.{Bool, true, false, cond, _&&_, and-false}
+use mathlib.Core.List.{List, [], _∷_, _++_}
+use lib.Dec.{leb, eqb}
+use lib.ListN.{length, take, drop, replicate, length-replicate}
+use lib.Seq.{sets, sets-eq}
+use borrow.Author.Tests.{le-leb, lt-leb, eq-eqb, ne-eqb, leb-true}
+use Rattle.model.specs.declared.Answer.{Answer}
+use Rattle.model.specs.declared.Sessions.{Sessions}
+use Rattle.model.specs.Buffers.{Store, size, lengthsFit, allFit, fresh}
+use Rattle.model.specs.Step.{number, Outcome, outcome, setUpAnswer, setUp, setUpTaken}
+use Rattle.model.proofs.Demand3.{set-up-fresh}
+use Rattle.store.specs.Lent.{storeOf}
+use Rattle.transcript.specs.declared.Printed.the-variants.{Bytes, Short}
+use Rattle.transcript.specs.Items.{Item, itemsAt, values, classes, later}
+use Rattle.transcript.specs.Lines.{sizeLine, setUpLine}
+use Rattle.transcript.specs.Output.{Out, out, put, Leading, Fitted, longEnough, replayed, replaying}
+use Rattle.transcript.specs.Transcript.{given, callsText, afterSetUp, setUpText, itemsText, transcript}
+use Rattle.transcript.proofs.Puts.{ends-at}
+
+-- ---- set-up on lent buffers
+
+module _ (vs ks readers claimants exclusives logs : List ℕ) (ss : Sessions) (f : Fitted vs ks readers claimants exclusives logs) where
+  same-lengths : lengthsFit (storeOf vs ks readers claimants exclusives logs ss .lent) ≡ lengthsFit (given vs ks .lent)
+  unfolding lengthsFit size given
+  same-lengths = simp (f .read, f .claimed, f .marked, f .logged, length-replicate)
+
+  same-answer : setUpAnswer (storeOf vs ks readers claimants exclusives logs ss .lent) ≡ setUpAnswer (given vs ks .lent)
+  unfolding setUpAnswer given
+  same-answer = rw same-lengths
+
+  same-fresh : fresh (storeOf vs ks readers claimants exclusives logs ss .lent) ≡ fresh (given vs ks .lent)
+  unfolding fresh size given
+  same-fresh = refl
+
+  module _ {a : Answer} {φ : Store} (e : outcome a φ ≡ setUpTaken (storeOf vs ks readers claimants exclusives logs ss)) where
+    said : a ≡ setUpAnswer (given vs ks .lent)
+    unfolding setUpTaken
+    said = ap (λ (r : Outcome). r .answer) e ∙ same-answer
+
+    left : number a ≡ 100 → φ ≡ setUp (given vs ks)
+    unfolding setUpTaken
+    left h =
+        let mine = ap (λ (r : Outcome). r .answer) e in
+        ap (λ (r : Outcome). r .store) e
+        ∙ set-up-fresh (storeOf vs ks readers claimants exclusives logs ss) (sym (ap number mine) ∙ h)
+        ∙ same-fresh
+        ∙ sym (set-up-fresh (given vs ks) (sym (ap number said) ∙ h))
+
+    -- a refused set-up is all that is printed
+    pub refused-text : (n : ℕ) (items : List Item) → n ≡ number a → (n ≡ 100 → ⊥) → setUpLine n ≡ setUpText (given vs ks) items
+    unfolding setUpText afterSetUp
+    refused-text n items k h =
+        let same : n ≡ number (setUpAnswer (given vs ks .lent)) = k ∙ ap number said in
+        rw (← same, ne-eqb n 100 h)
+
+    -- an accepted one is followed by the calls
+    pub accepted-text : (n : ℕ) (items : List Item) → n ≡ number a → n ≡ 100 → callsText 1 φ items ≡ setUpText (given vs ks) items
+    unfolding setUpText afterSetUp
+    accepted-text n items k h =
+        let done : number (setUpAnswer (given vs ks .lent)) ≡ 100 = sym (ap number said) ∙ sym k ∙ h in
+        ap (λ (x : Store). callsText 1 x items) (left (sym k ∙ h)) ∙ rw (eq-eqb _ _ done)
+
+-- ---- the whole text
+
+-- more than 65,536 bytes
+pub size-text : (input : List ℕ) → 65536 < length input → sizeLine ≡ transcript input
+unfolding transcript
+size-text input h = simp (lt-leb _ _ h)
+
+-- more than 1,024 cells
+over : (vs ks : List ℕ) → 1025 ≤ length vs → lengthsFit (given vs ks .lent) ≡ false
+unfolding lengthsFit size given
+over vs ks h = simp (lt-leb (length vs) 1024 h, and-false)
+
+pub too-many-text : (input : List ℕ) → length input ≤ 65536 → 1025 ≤ length (values (itemsAt input 0)) → setUpLine 7 ≡ transcript input
+unfolding transcript itemsText setUpText afterSetUp setUpAnswer
+too-many-text input h k = simp (le-leb _ _ h, over (values (itemsAt input 0)) (classes (itemsAt input 0)) k)
+
+-- the cells that were read, and the items from the field that closes them
+pub leading-text : (input vs ks : List ℕ) (n place : ℕ) → length input ≤ 65536 → Leading input vs ks n place → setUpText (given (take n vs) (take n ks)) (itemsAt input place) ≡ transcript input
+unfolding transcript itemsText
+leading-text input vs ks n place h l = simp (le-leb _ _ h, l .cells, l .kinds, l .closed)
+
+-- ---- what is lent
+
+pub record Roomy (o v k r c e l : ℕ) : Type 0 where
+  pub output : 409600 ≤ o
+  pub values : 1024 ≤ v
+  pub classes : 1024 ≤ k
+  pub readers : 1024 ≤ r
+  pub claimants : 1024 ≤ c
+  pub exclusives : 1024 ≤ e
+  pub logs : 2048 ≤ l
+
+both : (a b : Bool) → a && b ≡ true → (a ≡ true) × (b ≡ true)
+both true b e = (refl, e)
+both false b e = absurd (let z : _≡_ {A = ℕ} 0 1 = ap (λ (x : Bool). cond x 1 0) e in omega arith)
+
+pub roomy : (o v k r c e l : ℕ) → longEnough o v k r c e l ≡ true → Roomy o v k r c e l
+unfolding longEnough
+roomy o v k r c e l h =
+    let o′ = both (leb 409600 o) _ h in
+    let v′ = both (leb 1024 v) _ (o′ .1) in
+    let k′ = both (leb 1024 k) _ (v′ .1) in
+    let r′ = both (leb 1024 r) _ (k′ .1) in
+    let c′ = both (leb 1024 c) _ (r′ .1) in
+    let e′ = both (leb 1024 e) _ (c′ .1) in
+    record {
+      output = leb-true _ _ (o′ .0);
+      values = leb-true _ _ (v′ .0);
+      classes = leb-true _ _ (k′ .0);
+      readers = leb-true _ _ (r′ .0);
+      claimants = leb-true _ _ (c′ .0);
+      exclusives = leb-true _ _ (e′ .0);
+      logs = leb-true _ _ (e′ .1);
+    }
+
+-- the text at the front of an output that is long enough
+pub printed-text : (input o : List ℕ) {a : ℕ} {p : List ℕ} (b : Bool) → b ≡ true → a ≤ length o → out a p ≡ put o 0 (transcript input) → replayed (Bytes a) p ≡ replaying b input o
+unfolding put replaying
+printed-text input o {a} {p} true t h e =
+    let place : a ≡ length (transcript input) = ends-at o 0 (transcript input) e in
+    let text : p ≡ sets o 0 (transcript input) = ap (λ (x : Out). x .output) e in
+    ap (λ (n : ℕ). replayed (Bytes n) p) place ∙ ap (replayed (Bytes (length (transcript input)))) (text ∙ sets-eq (transcript input) o 0 (omega arith))
+printed-text input o false t h e = absurd (let z : _≡_ {A = ℕ} 0 1 = ap (λ (x : Bool). cond x 1 0) t in omega arith)
