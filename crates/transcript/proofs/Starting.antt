@@ -6,7 +6,7 @@ use mathlib.Core.Bool.{Bool, true, false, cond, _&&_, and-false}
 use mathlib.Core.List.{List, [], _∷_, _++_}
 use lib.Dec.{leb, eqb}
 use lib.ListN.{length, take, drop, replicate, length-replicate}
-use lib.Seq.{sets, sets-eq}
+use lib.Seq.{sets, sets-eq, length-take-le}
 use borrow.Author.Tests.{le-leb, lt-leb, eq-eqb, ne-eqb, leb-true}
 use Rattle.model.specs.declared.Answer.{Answer}
 use Rattle.model.specs.declared.Sessions.{Sessions}
@@ -17,7 +17,7 @@ use Rattle.store.specs.Lent.{storeOf}
 use Rattle.transcript.specs.declared.Printed.the-variants.{Bytes, Short}
 use Rattle.transcript.specs.Items.{Item, itemsAt, values, classes, later}
 use Rattle.transcript.specs.Lines.{sizeLine, setUpLine}
-use Rattle.transcript.specs.Output.{Out, out, put, Leading, Fitted, longEnough, replayed, replaying}
+use Rattle.transcript.specs.Output.{Out, out, put, Leading, Fitted, longEnough, Roomy, replayed, replaying}
 use Rattle.transcript.specs.Transcript.{given, callsText, afterSetUp, setUpText, itemsText, transcript}
 use Rattle.transcript.proofs.Puts.{ends-at}
 
@@ -87,14 +87,20 @@ leading-text input vs ks n place h l = simp (le-leb _ _ h, l .cells, l .kinds, l
 
 -- ---- what is lent
 
-pub record Roomy (o v k r c e l : ℕ) : Type 0 where
-  pub output : 409600 ≤ o
-  pub values : 1024 ≤ v
-  pub classes : 1024 ≤ k
-  pub readers : 1024 ≤ r
-  pub claimants : 1024 ≤ c
-  pub exclusives : 1024 ≤ e
-  pub logs : 2048 ≤ l
+-- the parts that set-up is handed
+pub fitted : (vs ks readers claimants exclusives logs : List ℕ) (n o : ℕ) → n ≤ 1024 → Roomy o (length vs) (length ks) (length readers) (length claimants) (length exclusives) (length logs)
+    → Fitted (take n vs) (take n ks) (take n readers) (take n claimants) (take n exclusives) (take 2048 logs)
+fitted vs ks readers claimants exclusives logs n o h r =
+    let first : (xs : List ℕ) → 1024 ≤ length xs → length (take n xs) ≡ n = λ xs k. length-take-le n xs (omega arith) in
+    let v = first vs (r .values) in
+    record {
+      few = omega arith;
+      classed = first ks (r .classes) ∙ sym v;
+      read = first readers (r .readers) ∙ sym v;
+      claimed = first claimants (r .claimants) ∙ sym v;
+      marked = first exclusives (r .exclusives) ∙ sym v;
+      logged = length-take-le 2048 logs (r .logs);
+    }
 
 both : (a b : Bool) → a && b ≡ true → (a ≡ true) × (b ≡ true)
 both true b e = (refl, e)
@@ -123,7 +129,13 @@ roomy o v k r c e l h =
 pub printed-text : (input o : List ℕ) {a : ℕ} {p : List ℕ} (b : Bool) → b ≡ true → a ≤ length o → out a p ≡ put o 0 (transcript input) → replayed (Bytes a) p ≡ replaying b input o
 unfolding put replaying
 printed-text input o {a} {p} true t h e =
-    let place : a ≡ length (transcript input) = ends-at o 0 (transcript input) e in
+    let none : 0 + length (transcript input) ≡ length (transcript input) = omega arith in
+    let place : a ≡ length (transcript input) = ends-at o 0 (transcript input) e ∙ none in
     let text : p ≡ sets o 0 (transcript input) = ap (λ (x : Out). x .output) e in
-    ap (λ (n : ℕ). replayed (Bytes n) p) place ∙ ap (replayed (Bytes (length (transcript input)))) (text ∙ sets-eq (transcript input) o 0 (omega arith))
+    ap (λ (n : ℕ). replayed (Bytes n) p) place ∙ ap (replayed (Bytes (length (transcript input)))) (text ∙ sets-eq (transcript input) o 0 (omega arith) ∙ ap (λ (n : ℕ). transcript input ++ drop n o) none)
 printed-text input o false t h e = absurd (let z : _≡_ {A = ℕ} 0 1 = ap (λ (x : Bool). cond x 1 0) t in omega arith)
+
+-- too little lent
+pub short : (input o : List ℕ) (b : Bool) → b ≡ false → replayed Short o ≡ replaying b input o
+unfolding replaying
+short input o b f = rw f

@@ -75,6 +75,16 @@ unfoldable pub longEnough : ℕ → ℕ → ℕ → ℕ → ℕ → ℕ → ℕ 
 longEnough output vs ks readers claimants exclusives logs =
     leb 409600 output && (leb 1024 vs && (leb 1024 ks && (leb 1024 readers && (leb 1024 claimants && (leb 1024 exclusives && leb 2048 logs)))))
 
+-- the same as facts
+pub record Roomy (o v k r c e l : ℕ) : Type 0 where
+  pub output : 409600 ≤ o
+  pub values : 1024 ≤ v
+  pub classes : 1024 ≤ k
+  pub readers : 1024 ≤ r
+  pub claimants : 1024 ≤ c
+  pub exclusives : 1024 ≤ e
+  pub logs : 2048 ≤ l
+
 pub record Replayed : Type 0 where
   pub answer : Printed
   pub output : List ℕ

@@ -66,9 +66,9 @@ pub fn replay(
 ) -> Printed
     ensures { λ r. ⌜ replayed r (now (output .exit)) ≡ replaying (longEnough (length (now (output .entry))) (length (now (values .entry))) (length (now (classes .entry))) (length (now (readers .entry))) (length (now (claimants .entry))) (length (now (exclusives .entry))) (length (now (logs .entry)))) (now (input .entry)) (now (output .entry)) ⌝ }
 {
-    if !long_enough(output.len(), values.len(), classes.len(), readers.len(), claimants.len(), exclusives.len(), logs.len()) {
-        return Printed::Short;
+    if long_enough(output.len(), values.len(), classes.len(), readers.len(), claimants.len(), exclusives.len(), logs.len()) {
+        let end = run::print(input, output, values, classes, readers, claimants, exclusives, logs);
+        return Printed::Bytes(end);
     }
-    let end = run::print(input, output, values, classes, readers, claimants, exclusives, logs);
-    Printed::Bytes(end)
+    Printed::Short
 }

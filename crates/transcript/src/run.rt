@@ -9,12 +9,11 @@ use model::Call;
 use model::Session;
 use model::Sessions;
 ghost use mathlib.Core.Path.{_≡_};
-ghost use mathlib.Core.Bool.{true};
 ghost use Prim.Native.Nat.{_+_, _*_, _≤_, _<_};
 ghost use lib.ListN.{length};
 ghost use Rattle.store.specs.Lent.{storeOf};
 ghost use Rattle.transcript.specs.Items.{itemsAt};
-ghost use Rattle.transcript.specs.Output.{out, put, turned, turn, Fitted, longEnough};
+ghost use Rattle.transcript.specs.Output.{out, put, turned, turn, Leading, Fitted, Roomy};
 ghost use Rattle.transcript.specs.Transcript.{callsText, given, setUpText, transcript};
 
 // One call with its line.
@@ -102,6 +101,25 @@ pub(crate) fn set_up_and_run(
     run_calls(input, from, output, sessions, values, classes, readers, claimants, exclusives, logs)
 }
 
+// The text after the leading cells, `count` of them, which stand at the front of `values` and `classes`.
+fn run_cells(
+    input: &[u8],
+    count: usize,
+    place: usize,
+    output: &mut [u8],
+    values: &mut [u32],
+    classes: &[u8],
+    readers: &mut [u16],
+    claimants: &mut [u8],
+    exclusives: &mut [u8],
+    logs: &mut [u32],
+) -> usize
+    requires { ⌜ length (now input) ≤ 65536 ⌝ ∗ ⌜ Leading (now input) (now values) (now classes) count place ⌝ ∗ ⌜ Roomy (length (now output)) (length (now values)) (length (now classes)) (length (now readers)) (length (now claimants)) (length (now exclusives)) (length (now logs)) ⌝ }
+    ensures { λ r. ⌜ (out r (now (output .exit)) ≡ put (now (output .entry)) 0 (transcript (now (input .entry)))) × (r ≤ 409600) ⌝ }
+{
+    set_up_and_run(input, place, output, &mut values[..count], &classes[..count], &mut readers[..count], &mut claimants[..count], &mut exclusives[..count], &mut logs[..2048])
+}
+
 // The whole text.
 pub(crate) fn print(
     input: &[u8],
@@ -113,7 +131,7 @@ pub(crate) fn print(
     exclusives: &mut [u8],
     logs: &mut [u32],
 ) -> usize
-    requires { ⌜ longEnough (length (now output)) (length (now values)) (length (now classes)) (length (now readers)) (length (now claimants)) (length (now exclusives)) (length (now logs)) ≡ true ⌝ }
+    requires { ⌜ Roomy (length (now output)) (length (now values)) (length (now classes)) (length (now readers)) (length (now claimants)) (length (now exclusives)) (length (now logs)) ⌝ }
     ensures { λ r. ⌜ (out r (now (output .exit)) ≡ put (now (output .entry)) 0 (transcript (now (input .entry)))) × (r ≤ 409600) ⌝ }
 {
     if 65536 < input.len() {
@@ -123,5 +141,5 @@ pub(crate) fn print(
     let Cells::Found { count, place } = found else {
         return lines::put_set_up(output, 0, 7);
     };
-    set_up_and_run(input, place, output, &mut values[..count], &classes[..count], &mut readers[..count], &mut claimants[..count], &mut exclusives[..count], &mut logs[..2048])
+    run_cells(input, count, place, output, values, &classes[..], readers, claimants, exclusives, logs)
 }
