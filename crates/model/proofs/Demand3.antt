@@ -1,9 +1,10 @@
 -- Demand 3: the theorem. What it claims is `Demand3` of specs/Isolation.antt.
 use native.Mathlib.Omega.{arith}
 use mathlib.Core.Path.{_≡_, sym, subst}
+use mathlib.Core.Bool.{true}
 use mathlib.Core.List.{List, reverse}
 use Rattle.model.specs.declared.Call.{Call}
-use Rattle.model.specs.Buffers.{Store, allFit, lengthsFit, fresh}
+use Rattle.model.specs.Buffers.{Buffers, Store, allFit, lengthsFit, fresh}
 use Rattle.model.specs.Isolation.{Demand3}
 use Rattle.model.specs.Step.{number, setUpAnswer, setUp}
 use Rattle.model.proofs.Invariant.{Inv}
@@ -16,13 +17,17 @@ use Rattle.model.proofs.Writers.{writing, isolation}
 pub demand3-from : (σ : Store) → Inv (σ .lent .values) σ blank → (calls : List Call) → Demand3 σ calls
 demand3-from σ I calls = record { isolated = isolation σ I (reverse calls); locks = writing σ I (reverse calls) }
 
--- set-up answered 100: what it left
-pub set-up-fresh : (σ : Store) → number (setUpAnswer (σ .lent)) ≡ 100 → setUp σ ≡ fresh (σ .lent)
-unfolding setUpAnswer setUp
-set-up-fresh σ h =
-    test (lengthsFit (σ .lent))
-    (λ y. test (allFit (σ .lent .values) (σ .lent .classes)) (λ z. rw (y, z)) (λ z. absurd (let e : 8 ≡ 100 = rw (y, z) at h in omega arith)))
+-- set-up answered 100: what it tested, and what it left
+pub set-up-passed : (B : Buffers) → number (setUpAnswer B) ≡ 100 → (lengthsFit B ≡ true) × (allFit (B .values) (B .classes) ≡ true)
+unfolding setUpAnswer
+set-up-passed B h =
+    test (lengthsFit B)
+    (λ y. test (allFit (B .values) (B .classes)) (λ z. (y, z)) (λ z. absurd (let e : 8 ≡ 100 = rw (y, z) at h in omega arith)))
     (λ y. absurd (let e : 7 ≡ 100 = rw y at h in omega arith))
+
+pub set-up-fresh : (σ : Store) → number (setUpAnswer (σ .lent)) ≡ 100 → setUp σ ≡ fresh (σ .lent)
+unfolding setUp
+set-up-fresh σ h = let p = set-up-passed (σ .lent) h in rw (p .0, p .1)
 
 -- demand 3: any store that set-up answers 100, and any list of calls from what it leaves
 pub demand3 : (σ : Store) → number (setUpAnswer (σ .lent)) ≡ 100 → (calls : List Call) → Demand3 (setUp σ) calls

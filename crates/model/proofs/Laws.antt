@@ -17,7 +17,7 @@ use Rattle.model.specs.Buffers.{Locks, idle, sessionAt, withSession, wor
 use Rattle.model.specs.Isolation.{at}
 use Rattle.model.specs.Readers.{odd, assign}
 use Rattle.model.specs.Search.{some?, orElse, find, lower, lowest, below, tally}
-use Rattle.model.proofs.Tools.{same, split, test, which, nothing, clash, both-l, both-r, and-false, orElse-none}
+use Rattle.model.proofs.Tools.{same, split, test, which, nothing, clash, both-l, both-r, and-false, orElse-none, half-assign}
 
 -- ---- find
 
@@ -162,14 +162,17 @@ module _ (at : ℕ → Bool) (f : Lock → Lock) (cell : ℕ → ℕ) (L : Locks
         (λ e. let a : at c ≡ false = rw e h in rw (h, lock-sweep k, a, and-false, and-false))
         (λ ne. rw (h, ne-eqb (cell k) c (λ e. ne (sym e)), orElse-none) (lock-sweep k)))
 
-assign-assign : (x s : ℕ) (b : Bool) → assign (assign x s b) s b ≡ assign x s b
+-- the last of two assignments to one digit counts
+pub assign-over : (x s : ℕ) (a b : Bool) → assign (assign x s a) s b ≡ assign x s b
 unfolding assign
-assign-assign x zero true = omega arith
-assign-assign x zero false = omega arith
-assign-assign x (suc s) b =
-    let h : (assign (x / 2) s b * 2 + x % 2) / 2 ≡ assign (x / 2) s b = omega arith in
-    let m : (assign (x / 2) s b * 2 + x % 2) % 2 ≡ x % 2 = omega arith in
-    rw (h, m, assign-assign (x / 2) s b)
+assign-over x zero true b = rw (half-assign (x / 2) 1 (omega arith))
+assign-over x zero false b = rw (half-assign (x / 2) 0 (omega arith))
+assign-over x (suc s) a b =
+    let m : (assign (x / 2) s a * 2 + x % 2) % 2 ≡ x % 2 = omega arith in
+    rw (half-assign (assign (x / 2) s a) (x % 2) (omega arith), m, assign-over (x / 2) s a b)
+
+assign-assign : (x s : ℕ) (b : Bool) → assign (assign x s b) s b ≡ assign x s b
+assign-assign x s b = assign-over x s b b
 
 pub leave-leave : (s : ℕ) (l : Lock) → leave s (leave s l) ≡ leave s l
 unfolding leave
@@ -237,7 +240,7 @@ module _ (logs : List ℕ) (s k c v : ℕ) (ls : s < 16) (lk : k < 32) (len : le
   abbrev grown : List ℕ
   grown = sets logs (128 * s + 4 * k) (c ∷ v ∷ v ∷ 0 ∷ [])
 
-  grown-word : (j : ℕ) → j < 4 → word grown s k j ≡ getD (c ∷ v ∷ v ∷ 0 ∷ []) j 0
+  pub grown-word : (j : ℕ) → j < 4 → word grown s k j ≡ getD (c ∷ v ∷ v ∷ 0 ∷ []) j 0
   unfolding word
   grown-word j l =
       let e : 128 * s + (4 * k + j) ≡ 128 * s + 4 * k + j = omega arith in

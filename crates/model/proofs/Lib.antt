@@ -20,3 +20,5 @@ pub mod Demand3
 pub mod Orders
 pub mod Histories
 pub mod OddBuffers
+pub mod Caps
+pub mod Sets

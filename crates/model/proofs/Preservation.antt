@@ -9,6 +9,7 @@ use lib.Dec.{leb, ltb, eqb}
 use lib.ListN.{length, getD}
 use borrow.Author.Tests.{eqb-true, eqb-false, eq-eqb, ne-eqb, ltb-true, leb-true, not-false}
 use Rattle.model.specs.declared.Session.{Session}
+use Rattle.model.specs.declared.Lock.{Lock}
 use Rattle.model.specs.declared.Call.{Call}
 use Rattle.model.specs.declared.Call.the-variants.{Begin, Read, Write, Seal, Advance, Abandon, Peek}
 use Rattle.model.specs.declared.Plan.{Plan}
@@ -86,6 +87,19 @@ guarded P B s x fits p a b c d f =
     split P (lengthsFit B)
     (λ _. split P (ltb s 16) (λ l. split P (recordFits B s x) (λ k. split P fits (λ h. f (ltb-true s 16 l) k h) (λ _. d)) (λ _. c)) (λ _. b))
     (λ _. a)
+
+-- a call on a cell below n, and a new cell with room in the log and no claimant
+pub cell-known {ℓ} : (P : Plan → Type ℓ) (B : Buffers) (c : ℕ) (p : Plan) → P (Refuse 3) → (c < size B → P p) → P (known B c p)
+unfolding known
+cell-known P B c p r3 f = split P (ltb c (size B)) (λ l. f (ltb-true c (size B) l)) (λ _. r3)
+
+pub cell-new {ℓ} : (P : Plan → Type ℓ) (x : Session) (l : Lock) (p : Plan) → P (Refuse 5) → P RollBack → (x .count < 32 → l .claimant ≡ 16 → P p) → P (newCell x l p)
+unfolding newCell claimed
+cell-new P x l p r5 r6 f =
+    split P (ltb (x .count) 32)
+    (λ n. split P (not (eqb (l .claimant) 16)) (λ _. r6)
+    (λ q. f (ltb-true (x .count) 32 n) (eqb-true (l .claimant) 16 (not-false (eqb (l .claimant) 16) q))))
+    (λ _. r5)
 
 module _ {start : List ℕ} {σ : Store} {T : Ledger} (I : Inv start σ T) (s : ℕ) (k : recordFits (σ .lent) s (recordOf σ s) ≡ true) where
   inside : (recordOf σ s .phase ≡ 0 → ⊥) → (c : ℕ) (e : Entry) → look σ s c ≡ some e → c < length start
@@ -172,13 +186,11 @@ module _ {first : List ℕ} {σ : Store} {T : Ledger} (I : Inv first σ T) where
       Kept k (Refuse 7) → Kept k (Refuse 1) → Kept k (Refuse 9) → Kept k (Refuse 2) → Kept k (Refuse 3)
       → (s < 16 → recordOf σ s .phase ≡ 1 → c < length first → Kept k p)
       → Kept k (guard (σ .lent) s (recordOf σ s) (eqb (recordOf σ s .phase) 1) (known (σ .lent) c p))
-  unfolding known size
+  unfolding size
   on-cell k c p r7 r1 r9 r2 r3 f =
       let s = sessionOf k in
       guarded (Kept k) (σ .lent) s (recordOf σ s) (eqb (recordOf σ s .phase) 1) (known (σ .lent) c p) r7 r1 r9 r2
-      (λ lt _ h.
-      split (Kept k) (ltb c (size (σ .lent)))
-      (λ l. f lt (eqb-true (recordOf σ s .phase) 1 h) (omega (arith, ltb-true c (size (σ .lent)) l, I .shape .values))) (λ _. r3))
+      (λ lt _ h. cell-known (Kept k) (σ .lent) c p r3 (λ l. f lt (eqb-true (recordOf σ s .phase) 1 h) (omega (arith, I .shape .values))))
 
   keep-peek : (s c : ℕ) → Kept (Peek s c) (plan (Peek s c) (σ .lent) (recordOf σ s))
   unfolding plan observe news over amendBy after answer peekPlan
@@ -196,14 +208,7 @@ module _ {first : List ℕ} {σ : Store} {T : Ledger} (I : Inv first σ T) where
       Kept k (Refuse 5) → Kept k RollBack
       → (recordOf σ s .count < 32 → lockAt (σ .lent .locks) c .claimant ≡ 16 → Kept k p)
       → Kept k (newCell (recordOf σ s) (lockAt (σ .lent .locks) c) p)
-  unfolding newCell claimed
-  new-cell k c p r5 r6 f =
-      let s = sessionOf k in
-      let l = lockAt (σ .lent .locks) c in
-      split (Kept k) (ltb (recordOf σ s .count) 32)
-      (λ n. split (Kept k) (not (eqb (l .claimant) 16)) (λ _. r6)
-      (λ q. f (ltb-true (recordOf σ s .count) 32 n) (eqb-true (l .claimant) 16 (not-false (eqb (l .claimant) 16) q))))
-      (λ _. r5)
+  new-cell k c p r5 r6 f = cell-new (Kept k) (recordOf σ (sessionOf k)) (lockAt (σ .lent .locks) c) p r5 r6 f
 
   keep-read : (s c : ℕ) → Kept (Read s c) (plan (Read s c) (σ .lent) (recordOf σ s))
   unfolding plan observe news over amendBy after answer readPlan slot

@@ -34,7 +34,7 @@ member-zero zero = refl
 member-zero (suc s) = member-zero s
 
 module _ (B : Buffers) where
-  first : (s : ℕ) → recordOf (fresh B) s ≡ idle
+  pub first : (s : ℕ) → recordOf (fresh B) s ≡ idle
   unfolding sessionAt fresh
   first s = always {A = Session} 16 s idle
 

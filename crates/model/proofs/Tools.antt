@@ -68,7 +68,7 @@ upd-other f s a x h = rw (ne-eqb x s h)
 
 -- ---- bits
 
-half-assign : (y r : ℕ) → r < 2 → (y * 2 + r) / 2 ≡ y
+pub half-assign : (y r : ℕ) → r < 2 → (y * 2 + r) / 2 ≡ y
 half-assign y r h = omega arith
 
 pub member-assign-same : (x s : ℕ) (b : Bool) → member (assign x s b) s ≡ b

@@ -75,27 +75,38 @@ changeLogs σ W =
 abbrev pub recordOf : Store → ℕ → Session
 recordOf σ s = sessionAt (σ .sessions) s
 
+-- all that a call of session s leaves, by its plan
 unfoldable pub after : ℕ → Plan → Store → Store
+-- turned down: all as before
 after s (Refuse k) σ = σ
+-- begin: the session runs, with count 0 and next 0
 after s Start σ = change σ s (σ .lent .locks) (σ .lent .values) (σ .lent .logs) running
+-- read: of a cell in the log nothing changes; a new one has the session among its readers, and an entry
 after s (Tell v) σ = σ
 after s (Enter c) σ =
     change σ s (lockOn c (join s) (σ .lent .locks)) (σ .lent .values)
     (appended (σ .lent .logs) s (recordOf σ s .count) c (getD (σ .lent .values) c 0)) (withEntry (recordOf σ s))
+-- write: the entry, which may be new, has the value and is written
 after s (Update k v) σ = changeLogs σ (updated (σ .lent .logs) s k v)
 after s (EnterUpdate c v) σ =
     change σ s (lockOn c (join s) (σ .lent .locks)) (σ .lent .values)
     (updated (appended (σ .lent .logs) s (recordOf σ s .count) c (getD (σ .lent .values) c 0)) s (recordOf σ s .count) v) (withEntry (recordOf σ s))
+-- rolled back, on a conflict or by abandon: at each entry's cell the session is gone, and it is idle; log words stay
 after s RollBack σ = change σ s (rolledBack (σ .lent) s (recordOf σ s)) (σ .lent .values) (σ .lent .logs) idle
 after s Cancel σ = change σ s (rolledBack (σ .lent) s (recordOf σ s)) (σ .lent .values) (σ .lent .logs) idle
+-- seal: read locks go; with nothing written the session is idle, else it is in phase 2 with next 0; the log stays
 after s CommitReads σ = change σ s (readsDropped (σ .lent) s (recordOf σ s)) (σ .lent .values) (σ .lent .logs) idle
 after s BeginPromotion σ = change σ s (readsDropped (σ .lent) s (recordOf σ s)) (σ .lent .values) (σ .lent .logs) (moveTo 2 0 (recordOf σ s))
+-- advance, phase 2: claimant, and with the mark where nobody else reads, when the cell is handled
 after s (Wait c) σ = changeLocks σ (lockOn c (claim s) (σ .lent .locks))
 after s (Own c) σ =
     change σ s (lockOn c (own s) (σ .lent .locks)) (σ .lent .values) (σ .lent .logs) (handled (σ .lent) s c (recordOf σ s))
+-- advance, phase 3: the present value is put in the store; the cell is handled
 after s (Publish c v) σ = change σ s (σ .lent .locks) (set (σ .lent .values) c v) (σ .lent .logs) (handled (σ .lent) s c (recordOf σ s))
+-- advance, phase 4: the lock is free of the session; the cell is handled
 after s (Release c) σ =
     change σ s (lockOn c (vacate s) (σ .lent .locks)) (σ .lent .values) (σ .lent .logs) (handled (σ .lent) s c (recordOf σ s))
+-- peek changes nothing
 after s (ShowStore c) σ = σ
 after s (ShowLog k) σ = σ
 
@@ -105,6 +116,7 @@ after s (ShowLog k) σ = σ
 unfoldable pub releasing : Buffers → ℕ → ℕ → Session → Answer
 releasing B s c x = cond (some? (targetIn (B .logs) s (x .count) (suc c))) Moved Committed
 
+-- what a call of session s answers, by its plan
 unfoldable pub answer : ℕ → Plan → Store → Answer
 answer s (Refuse k) σ = Refused k
 answer s Start σ = Done

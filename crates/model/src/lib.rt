@@ -1,5 +1,8 @@
 // The types of the store: what a session keeps between calls, a lock, a call, what a call decides and what it answers.
 // The definitions over them, document 01's steps and demand 3, are in specs/.
+ghost use mathlib.Core.Path.{_≡_};
+ghost use Prim.Native.Nat.{suc, _<_};
+ghost use Rattle.model.specs.Buffers.{idle, running, withEntry, moveTo};
 
 // A session's record: phase (0 idle, 1 running, 2 promoting, 3 publishing, 4 releasing), entry count, next cell.
 pub struct Session {
@@ -66,4 +69,50 @@ pub enum Plan {
 pub struct Reply {
     pub answer: Answer,
     pub sessions: Sessions,
+}
+
+impl Session {
+    // Begin: running, with no entry.
+    pub fn begun(self) -> Session
+        ensures { λ r. ⌜ r ≡ running ⌝ }
+    {
+        Session { phase: 1, count: 0, next: 0 }
+    }
+
+    // Going idle: count and next are 0.
+    pub fn rested(self) -> Session
+        ensures { λ r. ⌜ r ≡ idle ⌝ }
+    {
+        Session { phase: 0, count: 0, next: 0 }
+    }
+
+    // One entry more.
+    pub fn with_entry(self) -> Session
+        requires { ⌜ self .count < 32 ⌝ }
+        ensures { λ r. ⌜ r ≡ withEntry self ⌝ }
+    {
+        Session { phase: self.phase, count: self.count + 1, next: self.next }
+    }
+
+    // Sealed with a cell written: promotion begins.
+    pub fn sealed(self) -> Session
+        ensures { λ r. ⌜ r ≡ moveTo 2 0 self ⌝ }
+    {
+        Session { phase: 2, count: self.count, next: 0 }
+    }
+
+    // A cell is handled and another is left: next is past the one handled.
+    pub fn moved(self, next: u16) -> Session
+        ensures { λ r. ⌜ r ≡ moveTo (self .phase) next self ⌝ }
+    {
+        Session { phase: self.phase, count: self.count, next }
+    }
+
+    // The last cell is handled: the phase rises.
+    pub fn raised(self) -> Session
+        requires { ⌜ self .phase < 4 ⌝ }
+        ensures { λ r. ⌜ r ≡ moveTo (suc (self .phase)) 0 self ⌝ }
+    {
+        Session { phase: self.phase + 1, count: self.count, next: 0 }
+    }
 }

@@ -1,0 +1,190 @@
+/* The same list of calls on the proved store and on the plain C store, in one process: answers compared, then nanoseconds a call.
+   Under callgrind the counts of each call's function are read off the profile (benches/instructions).
+   usage: store_bench WORKLOAD ENTRIES CELLS SESSIONS CYCLES */
+#include "plain_store.h"
+
+#include <stdio.h>
+#include <stdlib.h>
+#include <string.h>
+#include <time.h>
+
+/* UNPROVED: the store as `benches/build unproved` makes it of crates that are not proved yet, with slices behind pointers. */
+#ifdef UNPROVED
+typedef struct {
+    void *words;
+    size_t len;
+} slice;
+#endif
+
+#ifdef UNPROVED
+uint32_t run_calls(slice *calls, slice *answers, slice *values, slice *classes, slice *readers, slice *claimants, slice *exclusives, slice *logs);
+#else
+uint32_t run_calls(const uint32_t *calls, size_t, uint32_t *answers, size_t, uint32_t *values, size_t, const uint8_t *classes, size_t, uint16_t *readers, size_t,
+                   uint8_t *claimants, size_t, uint8_t *exclusives, size_t, uint32_t *logs, size_t);
+#endif
+
+enum { BEGIN = 1, READ, WRITE, SEAL, ADVANCE, ABANDON, PEEK };
+enum { MAX_CALLS = 1 << 20 };
+
+static uint32_t calls[4 * MAX_CALLS];
+static uint32_t answers[2][2 * MAX_CALLS];
+static size_t count;
+
+static uint32_t values[2][PLAIN_MAX_CELLS];
+static uint8_t classes[PLAIN_MAX_CELLS];
+static uint16_t readers[2][PLAIN_MAX_CELLS];
+static uint8_t claimants[2][PLAIN_MAX_CELLS];
+static uint8_t exclusives[2][PLAIN_MAX_CELLS];
+static uint32_t logs[2][PLAIN_LOG_WORDS];
+
+static void add(uint32_t kind, uint32_t session, uint32_t cell, uint32_t value)
+{
+    if (count == MAX_CALLS) {
+        return;
+    }
+    uint32_t *c = calls + 4 * count++;
+    c[0] = kind;
+    c[1] = session;
+    c[2] = cell;
+    c[3] = value;
+}
+
+/* The plain store's run of the list, in the shape of run_calls. */
+__attribute__((noinline)) static uint32_t plain_run(size_t n)
+{
+    plain_session sessions[PLAIN_SESSIONS];
+    memset(sessions, 0, sizeof sessions);
+    plain_lent lent = {values[1], n, classes, n, readers[1], n, claimants[1], n, exclusives[1], n, logs[1], PLAIN_LOG_WORDS};
+    plain_answer up = plain_set_up(&lent, sessions);
+    for (size_t i = 0; i < count; i++) {
+        uint32_t *c = calls + 4 * i;
+        plain_answer a;
+        switch (c[0]) {
+        case BEGIN:
+            a = plain_begin(&lent, sessions, (uint8_t)c[1]);
+            break;
+        case READ:
+            a = plain_read(&lent, sessions, (uint8_t)c[1], c[2]);
+            break;
+        case WRITE:
+            a = plain_write(&lent, sessions, (uint8_t)c[1], c[2], c[3]);
+            break;
+        case SEAL:
+            a = plain_seal(&lent, sessions, (uint8_t)c[1]);
+            break;
+        case ADVANCE:
+            a = plain_advance(&lent, sessions, (uint8_t)c[1]);
+            break;
+        case ABANDON:
+            a = plain_abandon(&lent, sessions, (uint8_t)c[1]);
+            break;
+        default:
+            a = plain_peek_number(&lent, sessions, (uint8_t)c[1], c[2]);
+        }
+        answers[1][2 * i] = a.number;
+        answers[1][2 * i + 1] = a.value;
+    }
+    return up.number;
+}
+
+__attribute__((noinline)) static uint32_t proved_run(size_t n)
+{
+#ifdef UNPROVED
+    slice c = {calls, 4 * count}, a = {answers[0], 2 * count}, v = {values[0], n}, k = {classes, n}, r = {readers[0], n};
+    slice o = {claimants[0], n}, x = {exclusives[0], n}, l = {logs[0], PLAIN_LOG_WORDS};
+    return run_calls(&c, &a, &v, &k, &r, &o, &x, &l);
+#else
+    return run_calls(calls, 4 * count, answers[0], 2 * count, values[0], n, classes, n, readers[0], n, claimants[0], n, exclusives[0], n, logs[0], PLAIN_LOG_WORDS);
+#endif
+}
+
+/* Cells of a session's transaction: spread over the store, each session its own, in an order that is neither up nor down. */
+static uint32_t cell_of(uint32_t s, uint32_t i, uint32_t n, uint32_t sessions, uint32_t entries)
+{
+    uint32_t share = n / sessions;
+    uint32_t j = (i * 7 + 3) % entries;
+    return s * share + (share >= entries ? j * (share / entries) : j % share);
+}
+
+static void workload(const char *name, uint32_t entries, uint32_t n, uint32_t sessions, uint32_t cycles)
+{
+    for (uint32_t k = 0; k < cycles; k++) {
+        for (uint32_t s = 0; s < sessions; s++) {
+            add(BEGIN, s, 0, 0);
+        }
+        for (uint32_t i = 0; i < entries; i++) {
+            for (uint32_t s = 0; s < sessions; s++) {
+                int write = !strcmp(name, "write") || (!strcmp(name, "commit") && i % 2 == 1) || !strcmp(name, "update");
+                add(write ? WRITE : READ, s, cell_of(s, i, n, sessions, entries), k & 0xff);
+            }
+        }
+        if (!strcmp(name, "known")) {
+            for (uint32_t i = 0; i < 4 * entries; i++) {
+                for (uint32_t s = 0; s < sessions; s++) {
+                    add(i % 2 ? WRITE : READ, s, cell_of(s, i % entries, n, sessions, entries), i);
+                }
+            }
+        }
+        if (!strcmp(name, "commit") || !strcmp(name, "update") || !strcmp(name, "reads")) {
+            for (uint32_t s = 0; s < sessions; s++) {
+                add(SEAL, s, 0, 0);
+            }
+            if (strcmp(name, "reads")) {
+                uint32_t dirty = !strcmp(name, "commit") ? entries / 2 : entries;
+                for (uint32_t i = 0; i < 3 * dirty; i++) {
+                    for (uint32_t s = 0; s < sessions; s++) {
+                        add(ADVANCE, s, 0, 0);
+                    }
+                }
+            }
+        } else {
+            for (uint32_t s = 0; s < sessions; s++) {
+                add(ABANDON, s, 0, 0);
+            }
+        }
+    }
+}
+
+static double now(void)
+{
+    struct timespec t;
+    clock_gettime(CLOCK_MONOTONIC, &t);
+    return (double)t.tv_sec * 1e9 + (double)t.tv_nsec;
+}
+
+int main(int argc, char **argv)
+{
+    if (argc != 6) {
+        return 2;
+    }
+    uint32_t n = (uint32_t)atoi(argv[3]);
+    for (uint32_t i = 0; i < n; i++) {
+        classes[i] = 15;
+        values[0][i] = values[1][i] = i;
+    }
+    workload(argv[1], (uint32_t)atoi(argv[2]), n, (uint32_t)atoi(argv[4]), (uint32_t)atoi(argv[5]));
+    double best[2] = {1e18, 1e18};
+    for (int k = 0; k < 5; k++) {
+        double a = now();
+        uint32_t p = proved_run(n);
+        double b = now();
+        uint32_t q = plain_run(n);
+        double c = now();
+        if (p != q || memcmp(answers[0], answers[1], count * 8) || memcmp(values[0], values[1], sizeof values[0]) ||
+            memcmp(readers[0], readers[1], sizeof readers[0]) || memcmp(claimants[0], claimants[1], sizeof claimants[0]) ||
+            memcmp(exclusives[0], exclusives[1], sizeof exclusives[0]) || memcmp(logs[0], logs[1], sizeof logs[0])) {
+            printf("DIFFER\n");
+            return 1;
+        }
+        best[0] = b - a < best[0] ? b - a : best[0];
+        best[1] = c - b < best[1] ? c - b : best[1];
+    }
+    uint32_t kinds[256] = {0};
+    for (size_t i = 0; i < count; i++) {
+        kinds[answers[0][2 * i] & 255]++;
+    }
+    printf("%-7s entries %2s cells %4s sessions %2s calls %7zu ns %6.1f C %6.1f ratio %.2f  [100:%u 101:%u 102:%u 103:%u 104:%u 105:%u 6:%u]\n", argv[1], argv[2], argv[3],
+           argv[4], count, best[0] / (double)count, best[1] / (double)count, best[0] / best[1], kinds[100], kinds[101], kinds[102], kinds[103],
+           kinds[104], kinds[105], kinds[6]);
+    return 0;
+}

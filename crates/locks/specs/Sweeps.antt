@@ -1,0 +1,47 @@
+-- The locks as three lent lists, and what rolling back and sealing leave of them, seen from the session's own part of the log.
+use mathlib.Core.Path.{_≡_}
+use Prim.Native.Nat.{ℕ, _+_, _*_, _/_, _%_, _≤_, _<_}
+use mathlib.Core.Bool.{Bool, true, false, cond, not}
+use mathlib.Core.List.{List}
+use lib.ListN.{length, getD, set}
+use Rattle.model.specs.Search.{below}
+use Rattle.model.specs.Readers.{member, withReader, withoutReader}
+use Rattle.model.specs.Buffers.{Locks, cellAt, entryAt, publishes, publishesIn, sweep, leave, withdraw}
+
+abbrev pub locksOf : List ℕ → List ℕ → List ℕ → Locks
+locksOf readers claimants exclusives = record { readers = readers; claimants = claimants; exclusives = exclusives }
+
+-- what a sweep of m entries asks: the session is one of sixteen, the entries lie in the part, each cell has a lock
+pub record Swept (s : ℕ) (log : List ℕ) (m : ℕ) (n : ℕ) : Type 0 where
+  pub session : s < 16
+  pub count : 4 * m ≤ length log
+  pub cells : below n (cellAt log 0) m ≡ true
+
+-- rolling back, on a part and m entries of it
+unfoldable pub rolledBackIn : List ℕ → ℕ → ℕ → Locks → Locks
+rolledBackIn log m s L = sweep (λ c. true) (withdraw s) (cellAt log 0) m L
+
+-- the reader sets R' are those that the first k of m entries leave of R, whatever claimants and marks stand beside them; and that all m leave
+abbrev pub DroppedSoFar : List ℕ → ℕ → ℕ → ℕ → List ℕ → List ℕ → Type 0
+DroppedSoFar log m k s R R' =
+    (C E : List ℕ) → length C ≡ length R → length E ≡ length R
+    → locksOf R' C E ≡ sweep (λ c. not (publishesIn log 0 m c)) (leave s) (cellAt log 0) k (locksOf R C E)
+
+abbrev pub DropsReads : List ℕ → ℕ → ℕ → List ℕ → List ℕ → Type 0
+DropsReads log m s R R' = DroppedSoFar log m m s R R'
+
+-- a set of cells below 1,024 as sixteen words of 64 binary digits
+unfoldable pub marked : List ℕ → ℕ → Bool
+marked seen c = member (getD seen (c / 64) 0) (c % 64)
+
+unfoldable pub mark : List ℕ → ℕ → List ℕ
+mark seen c = set seen (c / 64) (withReader (c % 64) (getD seen (c / 64) 0))
+
+-- one entry of the sweep at sealing: a cell seen before is passed over; of the others those that publish keep their readers
+unfoldable pub droppedSeen : List ℕ → ℕ → List ℕ → List ℕ
+droppedSeen log k seen = cond (marked seen (cellAt log 0 k)) seen (mark seen (cellAt log 0 k))
+
+unfoldable pub droppedAt : List ℕ → ℕ → ℕ → List ℕ → List ℕ → List ℕ
+droppedAt log k s seen R =
+    cond (marked seen (cellAt log 0 k)) R
+    (cond (publishes (entryAt log 0 k)) R (set R (cellAt log 0 k) (withoutReader s (getD R (cellAt log 0 k) 0))))

@@ -1,0 +1,203 @@
+// Locks: reader sets, a lock's changes by value, and the locks of all cells on three lent slices (document 01, "What the caller lends", Locks).
+// Whatever takes and gives a `Lock` by value serves any other way of keeping locks.
+ghost use mathlib.Core.Path.{_≡_};
+ghost use mathlib.Core.Bool.{Bool, true, false, cond};
+ghost use Prim.Native.Nat.{ℕ, _+_, _*_, _<_, _≤_};
+ghost use lib.Dec.{eqb};
+ghost use lib.ListN.{length, getD, set};
+ghost use Rattle.model.specs.Readers.{withReader, withoutReader, otherReaders};
+ghost use Rattle.model.specs.Buffers.{cellAt, entryAt, publishes, lockAt, setLock, lockOn, join, leave, vacate, withdraw, claim, own};
+ghost use Rattle.locks.specs.Sweeps.{locksOf, Swept, rolledBackIn, DropsReads, marked, mark, droppedSeen, droppedAt};
+
+use model::Lock;
+
+// ---- reader sets
+
+// A session joins the readers.
+pub fn with_reader(readers: u16, session: u8) -> u16
+    requires { ⌜ session < 16 ⌝ }
+    ensures { λ r. ⌜ r ≡ withReader session readers ⌝ }
+{
+    readers | (1u16 << session)
+}
+
+// A session leaves the readers.
+pub fn without_reader(readers: u16, session: u8) -> u16
+    requires { ⌜ session < 16 ⌝ }
+    ensures { λ r. ⌜ r ≡ withoutReader session readers ⌝ }
+{
+    readers & !(1u16 << session)
+}
+
+// No other session reads: of the set with the session's own bit put in, one means this session alone.
+pub fn alone(readers: u16, session: u8) -> bool
+    requires { ⌜ session < 16 ⌝ }
+    ensures { λ r. ⌜ r ≡ eqb (otherReaders session readers) 0 ⌝ }
+{
+    let set = with_reader(readers, session);
+    u16::count_ones(set) == 1
+}
+
+// ---- one lock by value
+
+// The session joins the readers.
+pub fn joined(l: Lock, session: u8) -> Lock
+    requires { ⌜ session < 16 ⌝ }
+    ensures { λ r. ⌜ r ≡ join session l ⌝ }
+{
+    Lock { readers: with_reader(l.readers, session), claimant: l.claimant, exclusive: l.exclusive }
+}
+
+// The session leaves the readers.
+pub fn left(l: Lock, session: u8) -> Lock
+    requires { ⌜ session < 16 ⌝ }
+    ensures { λ r. ⌜ r ≡ leave session l ⌝ }
+{
+    Lock { readers: without_reader(l.readers, session), claimant: l.claimant, exclusive: l.exclusive }
+}
+
+// The session leaves the readers, and claim and mark go.
+pub fn vacated(l: Lock, session: u8) -> Lock
+    requires { ⌜ session < 16 ⌝ }
+    ensures { λ r. ⌜ r ≡ vacate session l ⌝ }
+{
+    Lock { readers: without_reader(l.readers, session), claimant: 16, exclusive: 0 }
+}
+
+// The session leaves the readers, and claim and mark go where the claim is its own.
+pub fn withdrawn(l: Lock, session: u8) -> Lock
+    requires { ⌜ session < 16 ⌝ }
+    ensures { λ r. ⌜ r ≡ withdraw session l ⌝ }
+{
+    let claimant = l.claimant;
+    if claimant == session {
+        return vacated(l, session);
+    }
+    left(l, session)
+}
+
+// The session is claimant.
+pub fn claimed(l: Lock, session: u8) -> Lock
+    ensures { λ r. ⌜ r ≡ claim session l ⌝ }
+{
+    Lock { readers: l.readers, claimant: session, exclusive: l.exclusive }
+}
+
+// The session is claimant, with the mark.
+pub fn owned(l: Lock, session: u8) -> Lock
+    ensures { λ r. ⌜ r ≡ own session l ⌝ }
+{
+    Lock { readers: l.readers, claimant: session, exclusive: 1 }
+}
+
+// ---- the locks of all cells
+
+// The lock of a cell; an empty one past the last cell.
+pub fn at(readers: &[u16], claimants: &[u8], exclusives: &[u8], cell: u32) -> Lock
+    requires { ⌜ (length (now claimants) ≡ length (now readers)) × (length (now exclusives) ≡ length (now readers)) ⌝ }
+    ensures { λ r. ⌜ r ≡ lockAt (locksOf (now (readers .entry)) (now (claimants .entry)) (now (exclusives .entry))) cell ⌝ }
+{
+    let c = cell as usize;
+    if readers.len() <= c {
+        return Lock { readers: 0, claimant: 16, exclusive: 0 };
+    }
+    Lock { readers: readers[c], claimant: claimants[c], exclusive: exclusives[c] }
+}
+
+// A cell's lock anew.
+pub fn put(readers: &mut [u16], claimants: &mut [u8], exclusives: &mut [u8], cell: u32, l: Lock)
+    requires { ⌜ (cell < length (now readers)) × (cell < length (now claimants)) × (cell < length (now exclusives)) ⌝ }
+    ensures { λ _. ⌜ locksOf (now (readers .exit)) (now (claimants .exit)) (now (exclusives .exit)) ≡ setLock cell l (locksOf (now (readers .entry)) (now (claimants .entry)) (now (exclusives .entry))) ⌝ }
+{
+    let c = cell as usize;
+    readers[c] = l.readers;
+    claimants[c] = l.claimant;
+    exclusives[c] = l.exclusive;
+}
+
+// The session withdraws from one cell.
+fn withdraw_at(readers: &mut [u16], claimants: &mut [u8], exclusives: &mut [u8], cell: u32, session: u8)
+    requires { ⌜ (session < 16) × (cell < length (now readers)) × (length (now claimants) ≡ length (now readers)) × (length (now exclusives) ≡ length (now readers)) ⌝ }
+    ensures { λ _. ⌜ locksOf (now (readers .exit)) (now (claimants .exit)) (now (exclusives .exit)) ≡ lockOn cell (withdraw session) (locksOf (now (readers .entry)) (now (claimants .entry)) (now (exclusives .entry))) ⌝ }
+{
+    leave_at(readers, cell, session);
+    let c = cell as usize;
+    if claimants[c] == session {
+        claimants[c] = 16;
+        exclusives[c] = 0;
+    }
+}
+
+// Rolling back: the session withdraws from the cell of each entry.
+pub fn roll_back(log: &[u32], count: usize, readers: &mut [u16], claimants: &mut [u8], exclusives: &mut [u8], session: u8)
+    requires { ⌜ (Swept session (now log) count (length (now readers))) × (length (now claimants) ≡ length (now readers)) × (length (now exclusives) ≡ length (now readers)) ⌝ }
+    ensures { λ _. ⌜ locksOf (now (readers .exit)) (now (claimants .exit)) (now (exclusives .exit)) ≡ rolledBackIn (now (log .entry)) count session (locksOf (now (readers .entry)) (now (claimants .entry)) (now (exclusives .entry))) ⌝ }
+{
+    let mut i = 0;
+    while i < count {
+        let cell = log::cell_at(log, i);
+        withdraw_at(readers, claimants, exclusives, cell, session);
+        i += 1;
+    }
+}
+
+// ---- the readers of the cells that are not written
+
+// Whether a cell is in a set of cells.
+fn is_marked(seen: &[u64; 16], cell: u32) -> bool
+    requires { ⌜ cell < 1024 ⌝ }
+    ensures { λ r. ⌜ r ≡ marked (now (seen .entry)) cell ⌝ }
+{
+    let w = (cell / 64) as usize;
+    let word = seen[w];
+    (word >> (cell % 64)) % 2 == 1
+}
+
+// A cell is put into a set of cells.
+fn put_mark(seen: &mut [u64; 16], cell: u32)
+    requires { ⌜ cell < 1024 ⌝ }
+    ensures { λ _. ⌜ now (seen .exit) ≡ mark (now (seen .entry)) cell ⌝ }
+{
+    let w = (cell / 64) as usize;
+    let word = seen[w];
+    seen[w] = word | (1u64 << (cell % 64));
+}
+
+// The session leaves the readers of one cell.
+fn leave_at(readers: &mut [u16], cell: u32, session: u8)
+    requires { ⌜ (session < 16) × (cell < length (now readers)) ⌝ }
+    ensures { λ _. ⌜ now (readers .exit) ≡ set (now (readers .entry)) cell (withoutReader session (getD (now (readers .entry)) cell 0)) ⌝ }
+{
+    let c = cell as usize;
+    let set = readers[c];
+    readers[c] = without_reader(set, session);
+}
+
+// The session leaves the readers of entry k's cell where the entry is the first of its cell and does not publish.
+fn drop_at(log: &[u32], k: usize, readers: &mut [u16], seen: &mut [u64; 16], session: u8)
+    requires { ⌜ (session < 16) × (4 * k + 3 < length (now log)) × (cellAt (now log) 0 k < 1024) × (cellAt (now log) 0 k < length (now readers)) ⌝ }
+    ensures { λ _. ⌜ (now (seen .exit) ≡ droppedSeen (now (log .entry)) k (now (seen .entry))) × (now (readers .exit) ≡ droppedAt (now (log .entry)) k session (now (seen .entry)) (now (readers .entry))) ⌝ }
+{
+    let cell = log::cell_at(log, k);
+    if is_marked(&*seen, cell) {
+        return;
+    }
+    put_mark(seen, cell);
+    if log::publishes(log, k) {
+        return;
+    }
+    leave_at(readers, cell, session);
+}
+
+// Sealing: the session leaves the readers of each cell entered but not written.
+pub fn drop_reads(log: &[u32], count: usize, readers: &mut [u16], session: u8)
+    requires { ⌜ (Swept session (now log) count (length (now readers))) × (length (now readers) ≤ 1024) ⌝ }
+    ensures { λ _. ⌜ (DropsReads (now (log .entry)) count session (now (readers .entry)) (now (readers .exit))) ⌝ }
+{
+    let mut seen = [0u64; 16];
+    let mut i = 0;
+    while i < count {
+        drop_at(log, i, readers, &mut seen, session);
+        i += 1;
+    }
+}

@@ -1,0 +1,104 @@
+-- Laws of the searches over the entries of a log: what one entry more makes of them, and how a loop's answer is the model's.
+use Prim.Native.Nat.{ℕ, zero, suc, _+_, _*_, _-_, _<_, _≤_}
+use mathlib.Core.Bool.{true, false}
+use mathlib.Core.List.{List}
+use mathlib.Core.Option.{Option, none, some}
+use mathlib.Core.Path.{_≡_, refl, sym, ap, _∙_}
+use native.Mathlib.Numerals.{add-one}
+use native.Mathlib.Omega.{arith}
+use lib.ListN.{getD, set}
+use borrow.Author.Tests.{lt-ltb, le-ltb, eq-eqb, ne-eqb}
+use Rattle.model.specs.Buffers.{word, cellAt, slotIn, appended, updated}
+use Rattle.model.specs.Search.{orElse, find, below}
+use Rattle.model.proofs.Laws.{find-some}
+use Rattle.model.proofs.Tools.{same, which, and-false}
+use Rattle.log.specs.Slots.{found}
+
+-- ---- the words of a part
+
+pub word-at : (log : List ℕ) (k j : ℕ) → word log 0 k j ≡ getD log (4 * k + j) 0
+unfolding word
+word-at log k j = ap (λ (i : ℕ). getD log i 0) (omega arith)
+
+pub cell-word : (log : List ℕ) (k : ℕ) → cellAt log 0 k ≡ getD log (4 * k) 0
+unfolding cellAt word
+cell-word log k = ap (λ (i : ℕ). getD log i 0) (omega arith)
+
+-- ---- the stores of an append and an update, at the code's indices
+
+pub append-stores : (log : List ℕ) (k c v : ℕ)
+    → set (set (set (set log (4 * k) c) (4 * k + 1) v) (4 * k + 2) v) (4 * k + 3) 0 ≡ appended log 0 k c v
+unfolding appended
+append-stores log k c v =
+    let e : 128 * 0 + 4 * k ≡ 4 * k = omega arith in
+    let e₁ : 4 * k + 1 ≡ suc (4 * k) = omega arith in
+    let e₂ : 4 * k + 2 ≡ suc (suc (4 * k)) = omega arith in
+    let e₃ : 4 * k + 3 ≡ suc (suc (suc (4 * k))) = omega arith in
+    rw (e, e₁, e₂, e₃)
+
+pub update-stores : (log : List ℕ) (k v : ℕ) → set (set log (4 * k + 2) v) (4 * k + 2 + 1) 1 ≡ updated log 0 k v
+unfolding updated
+update-stores log k v =
+    let e : 128 * 0 + (4 * k + 2) ≡ 4 * k + 2 = omega arith in
+    let e₁ : 4 * k + 2 + 1 ≡ suc (4 * k + 2) = omega arith in
+    rw (e, e₁)
+
+-- ---- find
+
+module _ (cell : ℕ → ℕ) (c : ℕ) where
+  pub find-miss : (k : ℕ) → find cell k c ≡ none → (cell k ≡ c → ⊥) → find cell (suc k) c ≡ none
+  unfolding find orElse
+  find-miss k h m = simp (h, ne-eqb (cell k) c m)
+
+  pub find-here : (k : ℕ) → find cell k c ≡ none → cell k ≡ c → find cell (suc k) c ≡ some k
+  unfolding find orElse
+  find-here k h e = simp (h, eq-eqb (cell k) c e)
+
+  -- what is found among k entries is found among more
+  pub find-up : (k m : ℕ) {i : ℕ} → k ≤ m → find cell k c ≡ some i → find cell m c ≡ some i
+  unfolding find orElse
+  find-up k zero l h = let e : k ≡ 0 = omega arith in rw e at h
+  find-up k (suc m) l h = same k (suc m) (λ e. rw e at h) (λ n. simp (find-up k m (omega arith) h))
+
+  -- before the entry that is found there is none
+  pub find-before : (m : ℕ) {k : ℕ} → find cell m c ≡ some k → find cell k c ≡ none
+  find-before m {k} h =
+      which (find cell k c) (λ e. e)
+      (λ i e.
+      let w = find-some cell c m h in
+      let u = find-some cell c k e in
+      let z : _≡_ {A = Option ℕ} (some i) (some k) = sym (find-up k m (omega arith) e) ∙ h in
+      let q : i ≡ k = cc in
+      absurd (omega arith))
+
+-- ---- below
+
+pub below-stop : (n : ℕ) (cell : ℕ → ℕ) (k m : ℕ) → n ≤ cell k → k < m → below n cell m ≡ false
+unfolding below
+below-stop n cell k zero h l = absurd (omega arith)
+below-stop n cell k (suc m) h l =
+    same k m (λ e. let g : n ≤ cell m = rw e at h in simp (le-ltb (cell m) n g)) (λ d. simp (below-stop n cell k m h (omega arith), and-false))
+
+pub below-more : (n : ℕ) (cell : ℕ → ℕ) (k : ℕ) → below n cell k ≡ true → cell k < n → below n cell (suc k) ≡ true
+unfolding below
+below-more n cell k h l = simp (h, lt-ltb (cell k) n l)
+
+-- ---- how the loops end
+
+module _ (log : List ℕ) (count c : ℕ) where
+  pub slot-here : (i : ℕ) → slotIn log 0 i c ≡ none → cellAt log 0 i ≡ c → i < count → found count i ≡ slotIn log 0 count c
+  unfolding slotIn found
+  slot-here i h e l =
+      simp (lt-ltb i count l) (sym (find-up (cellAt log 0) c (suc i) count (omega arith) (find-here (cellAt log 0) c i h e)))
+
+  pub slot-nowhere : slotIn log 0 count c ≡ none → found count count ≡ slotIn log 0 count c
+  unfolding found
+  slot-nowhere h = simp (h, le-ltb count count (omega arith))
+
+pub slot-step : (log : List ℕ) (c i : ℕ) → slotIn log 0 i c ≡ none → (cellAt log 0 i ≡ c → ⊥) → slotIn log 0 (i + 1) c ≡ none
+unfolding slotIn
+slot-step log c i h m = rw add-one (find-miss (cellAt log 0) c i h m)
+
+pub slot-start : (log : List ℕ) (c : ℕ) → slotIn log 0 0 c ≡ none
+unfolding slotIn find
+slot-start log c = refl

@@ -1,0 +1,176 @@
+// One session's own part of the log: 128 words, 32 entries of four words (document 01, "What the caller lends", Logs).
+// Entries are looked at where they lie; contracts are the model's definitions at session 0 of the part.
+ghost use mathlib.Core.Path.{_≡_};
+ghost use mathlib.Core.Bool.{Bool, true, false};
+ghost use Prim.Native.Nat.{ℕ, _+_, _*_, _<_, _≤_};
+ghost use lib.ListN.{length};
+ghost use Rattle.model.specs.Search.{some?, below};
+ghost use Rattle.model.specs.Buffers.{cellAt, entryAt, slotIn, publishes, targetIn, appended, updated};
+ghost use Rattle.log.specs.Slots.{found, better, lowestOwn, targetSlot, firstPublishes};
+
+// The cell of entry k.
+pub fn cell_at(log: &[u32], k: usize) -> u32
+    requires { ⌜ 4 * k + 3 < length (now log) ⌝ }
+    ensures { λ r. ⌜ r ≡ cellAt (now (log .entry)) 0 k ⌝ }
+{
+    log[4 * k]
+}
+
+// The present value of entry k.
+pub fn current(log: &[u32], k: usize) -> u32
+    requires { ⌜ 4 * k + 3 < length (now log) ⌝ }
+    ensures { λ r. ⌜ r ≡ entryAt (now (log .entry)) 0 k .current ⌝ }
+{
+    log[4 * k + 2]
+}
+
+// Whether entry k is written, by its fourth word's lowest bit.
+pub fn dirty(log: &[u32], k: usize) -> bool
+    requires { ⌜ 4 * k + 3 < length (now log) ⌝ }
+    ensures { λ r. ⌜ r ≡ entryAt (now (log .entry)) 0 k .dirty ⌝ }
+{
+    log[4 * k + 3] % 2 == 1
+}
+
+// Whether entry k counts as written from the seal on.
+pub fn publishes(log: &[u32], k: usize) -> bool
+    requires { ⌜ 4 * k + 3 < length (now log) ⌝ }
+    ensures { λ r. ⌜ r ≡ publishes (entryAt (now (log .entry)) 0 k) ⌝ }
+{
+    dirty(log, k)
+}
+
+// The place of the first entry of a cell among the first count, or count where there is none.
+pub fn find(log: &[u32], count: usize, cell: u32) -> usize
+    requires { ⌜ 4 * count ≤ length (now log) ⌝ }
+    ensures { λ r. ⌜ found count r ≡ slotIn (now (log .entry)) 0 count cell ⌝ }
+{
+    let mut i = 0;
+    while i < count {
+        if cell_at(log, i) == cell {
+            return i;
+        }
+        i += 1;
+    }
+    count
+}
+
+// Whether the cell of each of the first count entries is below n.
+pub fn all_below(log: &[u32], count: usize, n: u32) -> bool
+    requires { ⌜ 4 * count ≤ length (now log) ⌝ }
+    ensures { λ r. ⌜ r ≡ below n (cellAt (now (log .entry)) 0) count ⌝ }
+{
+    let mut i = 0;
+    while i < count {
+        if n <= cell_at(log, i) {
+            return false;
+        }
+        i += 1;
+    }
+    true
+}
+
+// The lower of the cell held so far and entry i's, where that is not below from and publishes.
+fn lower(log: &[u32], i: usize, from: u32, held: u32) -> u32
+    requires { ⌜ 4 * i + 3 < length (now log) ⌝ }
+    ensures { λ r. ⌜ r ≡ better (now (log .entry)) from i held ⌝ }
+{
+    let cell = cell_at(log, i);
+    if cell < from {
+        return held;
+    }
+    if held <= cell {
+        return held;
+    }
+    if publishes(log, i) {
+        return cell;
+    }
+    held
+}
+
+// The lowest cell not below from and below n of the first count entries that publish, each judged by itself; n where there is none.
+fn lowest_own(log: &[u32], count: usize, n: u32, from: u32) -> u32
+    requires { ⌜ 4 * count ≤ length (now log) ⌝ }
+    ensures { λ r. ⌜ r ≡ lowestOwn (now (log .entry)) n from count ⌝ }
+{
+    let mut i = 0;
+    let mut held = n;
+    let cell = loop {
+        if count <= i {
+            break held;
+        }
+        held = lower(log, i, from, held);
+        i += 1;
+    };
+    cell
+}
+
+// The first entry of the lowest written cell not below from, or count where there is none: the entry that an advance handles.
+// A cell is found among the entries that publish by themselves. If its first entry does, that is the one; if not, the search goes on above it.
+pub fn target(log: &[u32], count: usize, n: u32, from: u32) -> usize
+    requires { ⌜ (4 * count ≤ length (now log)) × (n ≤ 1024) × (below n (cellAt (now log) 0) count ≡ true) ⌝ }
+    ensures { λ r. ⌜ found count r ≡ targetSlot (now (log .entry)) count from ⌝ }
+{
+    let mut start = from;
+    let slot = loop {
+        let cell = lowest_own(log, count, n, start);
+        if n <= cell {
+            break count;
+        }
+        let k = find(log, count, cell);
+        if publishes(log, k) {
+            break k;
+        }
+        start = cell + 1;
+    };
+    slot
+}
+
+// Whether any cell is written: the first entry of some cell publishes.
+pub fn any_publishes(log: &[u32], count: usize) -> bool
+    requires { ⌜ 4 * count ≤ length (now log) ⌝ }
+    ensures { λ r. ⌜ r ≡ some? (targetIn (now (log .entry)) 0 count 0) ⌝ }
+{
+    let mut i = 0;
+    while i < count {
+        if first_publishes(log, i) {
+            return true;
+        }
+        i += 1;
+    }
+    false
+}
+
+// Whether entry i publishes and is the first of its cell.
+fn first_publishes(log: &[u32], i: usize) -> bool
+    requires { ⌜ 4 * i + 3 < length (now log) ⌝ }
+    ensures { λ r. ⌜ r ≡ firstPublishes (now (log .entry)) i ⌝ }
+{
+    if publishes(log, i) {
+        let cell = cell_at(log, i);
+        return i <= find(log, i, cell);
+    }
+    false
+}
+
+// A new entry at k: found and present are the value, not written.
+pub fn append(log: &mut [u32], k: usize, cell: u32, value: u32)
+    requires { ⌜ 4 * k + 3 < length (now log) ⌝ }
+    ensures { λ _. ⌜ now (log .exit) ≡ appended (now (log .entry)) 0 k cell value ⌝ }
+{
+    let i = 4 * k;
+    log[i] = cell;
+    log[i + 1] = value;
+    log[i + 2] = value;
+    log[i + 3] = 0;
+}
+
+// The present value of entry k, which is then written.
+pub fn update(log: &mut [u32], k: usize, value: u32)
+    requires { ⌜ 4 * k + 3 < length (now log) ⌝ }
+    ensures { λ _. ⌜ now (log .exit) ≡ updated (now (log .entry)) 0 k value ⌝ }
+{
+    let i = 4 * k + 2;
+    log[i] = value;
+    log[i + 1] = 1;
+}

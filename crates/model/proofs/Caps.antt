@@ -1,0 +1,346 @@
+-- No value in the store and none that a call answers is ever above its cell's cap: `WithinCaps` of specs/Companions.antt. The invariant is that
+-- the store's values and the current values of all entries in use are within the caps: a write is tested against the cap of its cell, and
+-- whatever else comes into a log, the store or an answer comes out of one of the two.
+use Prim.Native.Nat.{ℕ, zero, suc, _+_, _*_, _≤_, _<_}
+use native.Mathlib.Omega.{arith}
+use mathlib.Core.Path.{_≡_, refl, sym, _∙_, ap, subst}
+use mathlib.Core.Bool.{Bool, true, false, cond, not, _&&_, _||_}
+use mathlib.Core.List.{List, [], _∷_, reverse}
+use lib.Dec.{leb, ltb, eqb}
+use lib.ListN.{length, getD, set}
+use lib.Seq.{sets}
+use borrow.Author.Tests.{eqb-true, leb-true}
+use Rattle.model.specs.declared.Session.{Session}
+use Rattle.model.specs.declared.Call.{Call}
+use Rattle.model.specs.declared.Call.the-variants.{Begin, Read, Write, Seal, Advance, Abandon, Peek}
+use Rattle.model.specs.declared.Plan.{Plan}
+use Rattle.model.specs.declared.Plan.the-variants.{Refuse, Start, Tell, Enter, Update, EnterUpdate, RollBack, Cancel, CommitReads, BeginPromotion, Wait, Own, Publish, Release, ShowStore, ShowLog}
+use Rattle.model.specs.Buffers.{Locks, Buffers, Store, idle, running, sessionAt, withSession, withEntry, moveTo, word, cellAt, entryAt, slotIn, entryOf, lookIn, targetIn, currentOf, appended, updated, lockAt, lockOn, join, cap, fits, allFit, lengthsFit, fresh}
+use Rattle.model.specs.Companions.{capOf, ReadWithin, WithinCaps}
+use Rattle.model.specs.History.{run, history, cellOf}
+use Rattle.model.specs.Isolation.{All}
+use Rattle.model.specs.Readers.{otherReaders}
+use Rattle.model.specs.Search.{some?, find}
+use Rattle.model.specs.Step.{number, valueOf, handled, change, changeLogs, recordOf, after, releasing, answer, guard, known, claimed, readPlan, writeSlot, writePlan, sealPlan, promotePlan, advancePlan, peekPlan, plan, sessionOf, planOf, step, reply, setUpAnswer, setUp}
+use Rattle.model.proofs.Demand3.{set-up-passed, set-up-fresh}
+use Rattle.model.proofs.Laws.{find-some, getD-sets-other, grown-word}
+use Rattle.model.proofs.Preservation.{choose, guarded, cell-known, cell-new}
+use Rattle.model.proofs.Runs.{first}
+use Rattle.model.proofs.Tools.{same, split, test, which, clash, both-l, both-r, and-false}
+
+-- ---- the invariant
+
+-- entry k is in use: of a session that is not idle, below its count
+abbrev pub InUse : Session → ℕ → Type 0
+InUse x k = (x .phase ≡ 0 → ⊥) × (k < x .count)
+
+-- the current value of entry k of session s is within the bound of its cell
+abbrev pub EntryWithin : (ℕ → ℕ) → List ℕ → ℕ → ℕ → Type 0
+EntryWithin bound logs s k = entryAt logs s k .current ≤ bound (cellAt logs s k)
+
+pub record Capped (σ : Store) : Type 0 where
+  pub stored : (c : ℕ) → getD (σ .lent .values) c 0 ≤ capOf σ c
+  pub logged : (s k : ℕ) → InUse (recordOf σ s) k → EntryWithin (capOf σ) (σ .lent .logs) s k
+
+-- ---- lists and logs
+
+-- element j after element i is made a: what holds of it before, and of a where j is i
+set-either {ℓ κ} : {A : Type ℓ} (P : A → Type κ) (l : List A) (i j : ℕ) (a d : A) → (j ≡ i → P a) → P (getD l j d) → P (getD (set l i a) j d)
+set-either P [] i j a d f h = h
+set-either P (x ∷ l) zero zero a d f h = f refl
+set-either P (x ∷ l) zero (suc j) a d f h = h
+set-either P (x ∷ l) (suc i) zero a d f h = h
+set-either P (x ∷ l) (suc i) (suc j) a d f h = set-either P l i j a d (λ e. f (ap suc e)) h
+
+-- entries lie one after the other through all the logs: entry j of session t is entry k of session s where 32 × t + j is 32 × s + k, and else has
+-- none of its words; so no bound on the other sessions' counts is needed
+word-same : (logs : List ℕ) (s k t j i : ℕ) → 32 * t + j ≡ 32 * s + k → word logs t j i ≡ word logs s k i
+unfolding word
+word-same logs s k t j i e = ap (λ (p : ℕ). getD logs p 0) (let q : 128 * t + (4 * j + i) ≡ 128 * s + (4 * k + i) = omega arith in q)
+
+word-apart : (logs vs : List ℕ) (s k t j i : ℕ) → (32 * t + j ≡ 32 * s + k → ⊥) → i < 4 → length vs ≤ 4 → word (sets logs (128 * s + 4 * k) vs) t j i ≡ word logs t j i
+unfolding word
+word-apart logs vs s k t j i n l h = getD-sets-other vs logs (128 * s + 4 * k) (128 * t + (4 * j + i)) (λ m p e. n (omega arith))
+
+entered-cell : (logs : List ℕ) (s k c v : ℕ) → s < 16 → k < 32 → length logs ≡ 2048 → cellAt (appended logs s k c v) s k ≡ c
+unfolding cellAt appended
+entered-cell logs s k c v ls lk len = grown-word logs s k c v ls lk len 0 (omega arith)
+
+module _ (bound : ℕ → ℕ) (logs : List ℕ) (s k : ℕ) where
+  appended-within : (c v : ℕ) → s < 16 → k < 32 → length logs ≡ 2048 → v ≤ bound c
+      → (t j : ℕ) → ((32 * t + j ≡ 32 * s + k → ⊥) → EntryWithin bound logs t j) → EntryWithin bound (appended logs s k c v) t j
+  unfolding cellAt entryAt appended
+  appended-within c v ls lk len h t j f =
+      let vs = c ∷ v ∷ v ∷ 0 ∷ [] in
+      same (32 * t + j) (32 * s + k)
+      (λ e.
+      let new : (i : ℕ) → i < 4 → word (sets logs (128 * s + 4 * k) vs) t j i ≡ getD vs i 0 =
+      λ i l. word-same (sets logs (128 * s + 4 * k) vs) s k t j i e ∙ grown-word logs s k c v ls lk len i l in
+      rw (new 2 (omega arith), new 0 (omega arith)) h)
+      (λ n.
+      let old : (i : ℕ) → i < 4 → word (sets logs (128 * s + 4 * k) vs) t j i ≡ word logs t j i = λ i l. word-apart logs vs s k t j i n l (omega arith) in
+      rw (old 2 (omega arith), old 0 (omega arith)) (f n))
+
+  updated-within : (v : ℕ) → v ≤ bound (cellAt logs s k) → (t j : ℕ) → EntryWithin bound logs t j → EntryWithin bound (updated logs s k v) t j
+  unfolding cellAt entryAt updated word
+  updated-within v h t j old =
+      let q : getD (sets logs (128 * s + (4 * k + 2)) (v ∷ 1 ∷ [])) (128 * t + (4 * j + 0)) 0 ≡ getD logs (128 * t + (4 * j + 0)) 0 =
+      getD-sets-other (v ∷ 1 ∷ []) logs (128 * s + (4 * k + 2)) (128 * t + (4 * j + 0)) (λ m p e. omega arith) in
+      rw q
+      (set-either (λ x. x ≤ bound (word logs t j 0)) (set logs (128 * s + (4 * k + 2)) v) (suc (128 * s + (4 * k + 2))) (128 * t + (4 * j + 2)) 1 0
+      (λ e. absurd (omega arith))
+      (set-either (λ x. x ≤ bound (word logs t j 0)) logs (128 * s + (4 * k + 2)) (128 * t + (4 * j + 2)) v 0
+      (λ e. rw (word-same logs s k t j 0 (omega arith)) h) old))
+
+-- ---- what a plan leaves
+
+-- session s acts: the values, the entries in use before, and those of its new record are within the caps
+change-keeps : (σ : Store) (s : ℕ) (L : Locks) (vs W : List ℕ) (x : Session) → ((c : ℕ) → getD vs c 0 ≤ capOf σ c)
+    → ((t k : ℕ) → InUse (recordOf σ t) k → EntryWithin (capOf σ) W t k) → ((k : ℕ) → InUse x k → EntryWithin (capOf σ) W s k)
+    → Capped (change σ s L vs W x)
+unfolding sessionAt withSession
+change-keeps σ s L vs W x h old new =
+    record {
+      stored = h;
+      logged = λ t k. set-either (λ (y : Session). InUse y k → EntryWithin (capOf σ) W t k) (σ .sessions .records) s t x idle (λ e. rw e (new k)) (old t k);
+    }
+
+-- a value written into an entry
+update-keeps : {σ : Store} → Capped σ → (s k v : ℕ) → v ≤ capOf σ (cellAt (σ .lent .logs) s k) → Capped (changeLogs σ (updated (σ .lent .logs) s k v))
+update-keeps {σ} I s k v h = record { stored = I .stored; logged = λ t j u. updated-within (capOf σ) (σ .lent .logs) s k v h t j (I .logged t j u) }
+
+handled-in-use : (B : Buffers) (s c : ℕ) (x : Session) → (x .phase ≡ 0 → ⊥) → (k : ℕ) → InUse (handled B s c x) k → InUse x k
+unfolding handled
+handled-in-use B s c x n k =
+    split (λ (y : Session). InUse y k → InUse x k) (some? (targetIn (B .logs) s (x .count) (suc c))) (λ _ u. (n, u .1))
+    (λ _. split (λ (y : Session). InUse y k → InUse x k) (eqb (x .phase) 4) (λ _ u. absurd (u .0 refl)) (λ _ u. (n, u .1)))
+
+module _ {σ : Store} (I : Capped σ) (s : ℕ) where
+  -- values and logs stay, and no more entries are in use
+  shrink-keeps : (L : Locks) (x : Session) → ((k : ℕ) → InUse x k → InUse (recordOf σ s) k) → Capped (change σ s L (σ .lent .values) (σ .lent .logs) x)
+  shrink-keeps L x f = change-keeps σ s L (σ .lent .values) (σ .lent .logs) x (I .stored) (I .logged) (λ k u. I .logged s k (f k u))
+
+  idle-keeps : (L : Locks) → Capped (change σ s L (σ .lent .values) (σ .lent .logs) idle)
+  idle-keeps L = shrink-keeps L idle (λ k u. absurd (u .0 refl))
+
+  module _ (n : recordOf σ s .phase ≡ 0 → ⊥) where
+    -- what the log has for a cell
+    current-within : (c : ℕ) → currentOf (lookIn (σ .lent .logs) s (recordOf σ s .count) c) ≤ capOf σ c
+    unfolding lookIn slotIn entryOf
+    current-within c =
+        which (find (cellAt (σ .lent .logs) s) (recordOf σ s .count) c) (λ p. rw p (omega arith))
+        (λ k p. let f = find-some (cellAt (σ .lent .logs) s) c (recordOf σ s .count) p in rw p (rw (f .1) at (I .logged s k (n, f .0))))
+
+    enter-keeps : length (σ .lent .logs) ≡ 2048 → s < 16 → recordOf σ s .count < 32 → (c : ℕ) → Capped (after s (Enter c) σ)
+    unfolding after
+    enter-keeps len lt room c =
+        let v = getD (σ .lent .values) c 0 in
+        let m = recordOf σ s .count in
+        let w = appended-within (capOf σ) (σ .lent .logs) s m c v lt room len (I .stored c) in
+        change-keeps σ s (lockOn c (join s) (σ .lent .locks)) (σ .lent .values) (appended (σ .lent .logs) s m c v) (withEntry (recordOf σ s)) (I .stored)
+        (λ t j u. w t j (λ _. I .logged t j u)) (λ j u. w s j (λ ne. I .logged s j (n, omega (arith, u .1))))
+
+    publish-keeps : (c v : ℕ) → v ≤ capOf σ c → Capped (after s (Publish c v) σ)
+    unfolding after
+    publish-keeps c v h =
+        change-keeps σ s (σ .lent .locks) (set (σ .lent .values) c v) (σ .lent .logs) (handled (σ .lent) s c (recordOf σ s))
+        (λ d. set-either (λ x. x ≤ capOf σ d) (σ .lent .values) c d v 0 (λ e. rw e h) (I .stored d)) (I .logged)
+        (λ k u. I .logged s k (handled-in-use (σ .lent) s c (recordOf σ s) n k u))
+
+-- ---- the calls
+
+logs-long : (B : Buffers) → lengthsFit B ≡ true → length (B .logs) ≡ 2048
+unfolding lengthsFit
+logs-long B h =
+    test (eqb (length (B .logs)) 2048) (eqb-true (length (B .logs)) 2048) (λ q. absurd (clash (lengthsFit B) h (rw (q, and-false))))
+
+-- what `guarded` tells of a call that is not turned down, and the logs' length
+fitting {ℓ} : (P : Plan → Type ℓ) (B : Buffers) (s : ℕ) (x : Session) (fit : Bool) (p : Plan) → ((k : ℕ) → P (Refuse k))
+    → (length (B .logs) ≡ 2048 → s < 16 → fit ≡ true → P p) → P (guard B s x fit p)
+unfolding guard
+fitting P B s x fit p r f =
+    test (lengthsFit B)
+    (λ h. guarded P B s x fit p (r 7) (r 1) (r 9) (r 2) (λ lt _ q. f (logs-long B h) lt q))
+    (λ h. rw h (r 7))
+
+module _ {σ : Store} (I : Capped σ) where
+  -- what a plan leaves and what it answers are within the caps
+  abbrev Kept : Call → Plan → Type 0
+  Kept k p = Capped (after (sessionOf k) p σ) × (valueOf (answer (sessionOf k) p σ) ≤ capOf σ (cellOf k))
+
+  keep-refusal : (k : Call) (m : ℕ) → Kept k (Refuse m)
+  unfolding after answer
+  keep-refusal k m = (I, omega arith)
+
+  keep-rollback : (k : Call) → Kept k RollBack
+  unfolding after answer
+  keep-rollback k = (idle-keeps I (sessionOf k) _, omega arith)
+
+  -- a call of a running session on a cell
+  on-cell : (k : Call) (p : Plan) → let s = sessionOf k in let c = cellOf k in
+      (length (σ .lent .logs) ≡ 2048 → s < 16 → (recordOf σ s .phase ≡ 0 → ⊥) → Kept k p)
+      → Kept k (guard (σ .lent) s (recordOf σ s) (eqb (recordOf σ s .phase) 1) (known (σ .lent) c p))
+  on-cell k p f =
+      let s = sessionOf k in
+      fitting (Kept k) (σ .lent) s (recordOf σ s) (eqb (recordOf σ s .phase) 1) (known (σ .lent) (cellOf k) p) (keep-refusal k)
+      (λ len lt h. cell-known (Kept k) (σ .lent) (cellOf k) p (keep-refusal k 3) (λ _. f len lt (λ e. let w = eqb-true (recordOf σ s .phase) 1 h in omega arith)))
+
+  keep-read : (s c : ℕ) → Kept (Read s c) (plan (Read s c) (σ .lent) (recordOf σ s))
+  unfolding plan readPlan after answer lookIn entryOf
+  keep-read s c =
+      on-cell (Read s c) (readPlan (σ .lent) s (recordOf σ s) c (slotIn (σ .lent .logs) s (recordOf σ s .count) c))
+      (λ len lt n.
+      choose (Kept (Read s c)) (readPlan (σ .lent) s (recordOf σ s) c) (slotIn (σ .lent .logs) s (recordOf σ s .count) c)
+      (λ _. cell-new (Kept (Read s c)) (recordOf σ s) (lockAt (σ .lent .locks) c) (Enter c) (keep-refusal (Read s c) 5) (keep-rollback (Read s c))
+      (λ room _. (enter-keeps I s n len lt room c, I .stored c)))
+      (λ j p. (I, rw p at (current-within I s n c))))
+
+  keep-write : (s c v : ℕ) → Kept (Write s c v) (plan (Write s c v) (σ .lent) (recordOf σ s))
+  unfolding plan writePlan writeSlot after answer slotIn
+  keep-write s c v =
+      let k = getD (σ .lent .classes) c 0 in
+      let call = Write s c v in
+      let m = recordOf σ s .count in
+      on-cell call (cond (ltb k 16) (writePlan (σ .lent) s (recordOf σ s) c v (cap k)) (Refuse 8))
+      (λ len lt n.
+      split (Kept call) (ltb k 16)
+      (λ _. split (Kept call) (leb v (cap k))
+      (λ h.
+      let le : v ≤ capOf σ c = leb-true v (cap k) h in
+      choose (Kept call) (writeSlot (σ .lent) (recordOf σ s) c v) (slotIn (σ .lent .logs) s m c)
+      (λ _. cell-new (Kept call) (recordOf σ s) (lockAt (σ .lent .locks) c) (EnterUpdate c v) (keep-refusal call 5) (keep-rollback call)
+      (λ room _. (update-keeps (enter-keeps I s n len lt room c) s m v (rw (entered-cell (σ .lent .logs) s m c (getD (σ .lent .values) c 0) lt room len) le), omega arith)))
+      (λ j p. (update-keeps I s j v (rw (find-some (cellAt (σ .lent .logs) s) c m p .1) le), omega arith)))
+      (λ _. keep-refusal call 4))
+      (λ _. keep-refusal call 8))
+
+  keep-peek : (s c : ℕ) → Kept (Peek s c) (plan (Peek s c) (σ .lent) (recordOf σ s))
+  unfolding plan peekPlan after answer
+  keep-peek s c =
+      on-cell (Peek s c) (peekPlan (σ .lent) s c (slotIn (σ .lent .logs) s (recordOf σ s .count) c))
+      (λ _ _ _.
+      choose (Kept (Peek s c)) (peekPlan (σ .lent) s c) (slotIn (σ .lent .logs) s (recordOf σ s .count) c) (λ _. keep-refusal (Peek s c) 14)
+      (λ k _. split (Kept (Peek s c)) (entryAt (σ .lent .logs) s k .dirty) (λ _. (I, omega arith)) (λ _. (I, omega arith))))
+
+  keep-begin : (s : ℕ) → Kept (Begin s) (plan (Begin s) (σ .lent) (recordOf σ s))
+  unfolding plan after answer
+  keep-begin s =
+      fitting (Kept (Begin s)) (σ .lent) s (recordOf σ s) (eqb (recordOf σ s .phase) 0) Start (keep-refusal (Begin s))
+      (λ _ _ _. (shrink-keeps I s (σ .lent .locks) running (λ k u. absurd (omega (arith, u .1))), omega arith))
+
+  keep-abandon : (s : ℕ) → Kept (Abandon s) (plan (Abandon s) (σ .lent) (recordOf σ s))
+  unfolding plan after answer
+  keep-abandon s =
+      fitting (Kept (Abandon s)) (σ .lent) s (recordOf σ s) (eqb (recordOf σ s .phase) 1 || eqb (recordOf σ s .phase) 2) Cancel (keep-refusal (Abandon s))
+      (λ _ _ _. (idle-keeps I s _, omega arith))
+
+  keep-seal : (s : ℕ) → Kept (Seal s) (plan (Seal s) (σ .lent) (recordOf σ s))
+  unfolding plan sealPlan after answer
+  keep-seal s =
+      let x = recordOf σ s in
+      fitting (Kept (Seal s)) (σ .lent) s x (eqb (x .phase) 1) (sealPlan (targetIn (σ .lent .logs) s (x .count) 0)) (keep-refusal (Seal s))
+      (λ _ _ h.
+      choose (Kept (Seal s)) sealPlan (targetIn (σ .lent .logs) s (x .count) 0) (λ _. (idle-keeps I s _, omega arith))
+      (λ c _. (shrink-keeps I s _ (moveTo 2 0 x) (λ k u. (λ e. let w = eqb-true (x .phase) 1 h in omega arith, u .1)), omega arith)))
+
+  keep-advance : (s : ℕ) → Kept (Advance s) (plan (Advance s) (σ .lent) (recordOf σ s))
+  unfolding plan advancePlan promotePlan after answer releasing
+  keep-advance s =
+      let x = recordOf σ s in
+      let call = Advance s in
+      fitting (Kept call) (σ .lent) s x (leb 2 (x .phase)) (advancePlan (σ .lent) s x (targetIn (σ .lent .logs) s (x .count) (x .next))) (keep-refusal call)
+      (λ _ _ h.
+      let n : x .phase ≡ 0 → ⊥ = λ e. let w = leb-true 2 (x .phase) h in omega arith in
+      choose (Kept call) (advancePlan (σ .lent) s x) (targetIn (σ .lent .logs) s (x .count) (x .next)) (λ _. keep-refusal call 9)
+      (λ c _.
+      let handle-keeps : (L : Locks) → Capped (change σ s L (σ .lent .values) (σ .lent .logs) (handled (σ .lent) s c x)) =
+      λ L. shrink-keeps I s L (handled (σ .lent) s c x) (handled-in-use (σ .lent) s c x n) in
+      split (Kept call) (eqb (x .phase) 2)
+      (λ _.
+      let l = lockAt (σ .lent .locks) c in
+      split (Kept call) (claimed l && not (eqb (l .claimant) s)) (λ _. keep-rollback call)
+      (λ _. split (Kept call) (eqb (otherReaders s (l .readers)) 0) (λ _. (handle-keeps _, omega arith))
+      (λ _. (record { stored = I .stored; logged = I .logged }, omega arith))))
+      (λ _. split (Kept call) (eqb (x .phase) 3) (λ _. (publish-keeps I s n c _ (current-within I s n c), omega arith))
+      (λ _. (handle-keeps _, split (λ a. valueOf a ≤ capOf σ 0) (some? (targetIn (σ .lent .logs) s (x .count) (suc c))) (λ _. omega arith) (λ _. omega arith))))))
+
+  keep : (k : Call) → Kept k (planOf k σ)
+  unfolding planOf
+  keep (Begin s) = keep-begin s
+  keep (Read s c) = keep-read s c
+  keep (Write s c v) = keep-write s c v
+  keep (Seal s) = keep-seal s
+  keep (Advance s) = keep-advance s
+  keep (Abandon s) = keep-abandon s
+  keep (Peek s c) = keep-peek s c
+
+  pub keeps-capped : (k : Call) → Capped (step k σ)
+  unfolding step
+  keeps-capped k = keep k .0
+
+  pub answers-within : (k : Call) → valueOf (reply k σ) ≤ capOf σ (cellOf k)
+  unfolding reply
+  answers-within k = keep k .1
+
+-- ---- classes never change
+
+classes-after : (s : ℕ) (p : Plan) (σ : Store) → after s p σ .lent .classes ≡ σ .lent .classes
+unfolding after
+classes-after s (Refuse k) σ = refl
+classes-after s Start σ = refl
+classes-after s (Tell v) σ = refl
+classes-after s (Enter c) σ = refl
+classes-after s (Update k v) σ = refl
+classes-after s (EnterUpdate c v) σ = refl
+classes-after s RollBack σ = refl
+classes-after s Cancel σ = refl
+classes-after s CommitReads σ = refl
+classes-after s BeginPromotion σ = refl
+classes-after s (Wait c) σ = refl
+classes-after s (Own c) σ = refl
+classes-after s (Publish c v) σ = refl
+classes-after s (Release c) σ = refl
+classes-after s (ShowStore c) σ = refl
+classes-after s (ShowLog k) σ = refl
+
+pub classes-run : (σ : Store) (ks : List Call) → run σ ks .lent .classes ≡ σ .lent .classes
+unfolding run step
+classes-run σ [] = refl
+classes-run σ (k ∷ ks) = classes-after (sessionOf k) (planOf k (run σ ks)) (run σ ks) ∙ classes-run σ ks
+
+cap-run : (σ : Store) (ks : List Call) (c : ℕ) → capOf (run σ ks) c ≡ capOf σ c
+cap-run σ ks c = ap (λ (l : List ℕ). cap (getD l c 0)) (classes-run σ ks)
+
+-- ---- every list of calls
+
+-- from any store with the invariant
+module _ {σ : Store} (I : Capped σ) where
+  pub capped-run : (ks : List Call) → Capped (run σ ks)
+  unfolding run
+  capped-run [] = I
+  capped-run (k ∷ ks) = keeps-capped (capped-run ks) k
+
+  reads-within : (ks : List Call) → All (ReadWithin σ) (history σ ks)
+  unfolding history
+  reads-within [] = tt
+  reads-within (k ∷ ks) = (λ _. omega (arith, answers-within (capped-run ks) k, cap-run σ ks (cellOf k)), reads-within ks)
+
+  pub within-from : (ks : List Call) → WithinCaps σ ks
+  within-from ks = record { stored = λ c. omega (arith, capped-run ks .stored c, cap-run σ ks c); told = reads-within ks }
+
+-- what set-up tested
+pub all-fit : (vs ks : List ℕ) → allFit vs ks ≡ true → (c : ℕ) → getD vs c 0 ≤ cap (getD ks c 0)
+unfolding allFit fits
+all-fit [] ks h c = omega arith
+all-fit (v ∷ vs) [] h c = absurd (clash false h refl)
+all-fit (v ∷ vs) (k ∷ ks) h zero = leb-true v (cap k) (both-r (ltb k 16) (leb v (cap k)) (both-l (fits k v) (allFit vs ks) h))
+all-fit (v ∷ vs) (k ∷ ks) h (suc c) = all-fit vs ks (both-r (fits k v) (allFit vs ks) h) c
+
+pub capped-fresh : (B : Buffers) → allFit (B .values) (B .classes) ≡ true → Capped (fresh B)
+unfolding fresh
+capped-fresh B h = record { stored = all-fit (B .values) (B .classes) h; logged = λ s k u. absurd (u .0 (ap (λ (x : Session). x .phase) (first B s))) }
+
+-- any store that set-up answers 100, and any list of calls from what it leaves
+pub within-caps : (σ : Store) → number (setUpAnswer (σ .lent)) ≡ 100 → (calls : List Call) → WithinCaps (setUp σ) (reverse calls)
+within-caps σ h calls =
+    subst (λ (φ : Store). WithinCaps φ (reverse calls)) (sym (set-up-fresh σ h)) (within-from (capped-fresh (σ .lent) (set-up-passed (σ .lent) h .1)) (reverse calls))
