@@ -2,6 +2,7 @@ pub mod Answers
 pub mod CellLines
 pub mod Decimals
 pub mod Forward
+pub mod Isolated
 pub mod Puts
 pub mod Scanning
 pub mod Starting

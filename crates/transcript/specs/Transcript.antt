@@ -1,11 +1,13 @@
 -- The replay's text, from input bytes to output bytes (document 01, "Call fields"). What it prints of the calls is `history` and `run` of the
 -- model, of which demand 3 speaks.
-use Prim.Native.Nat.{ℕ}
+use Prim.Native.Nat.{ℕ, _≤_}
+use mathlib.Core.Path.{_≡_}
 use mathlib.Core.Bool.{cond}
 use mathlib.Core.List.{List, _++_, reverse}
 use lib.Dec.{leb, eqb}
 use lib.ListN.{length, replicate}
 use Rattle.model.specs.declared.Answer.{Answer}
+use Rattle.model.specs.declared.Call.{Call}
 use Rattle.model.specs.Buffers.{Store, idle}
 use Rattle.model.specs.Step.{number, setUpAnswer, setUp}
 use Rattle.model.specs.History.{run, history}
@@ -44,3 +46,17 @@ itemsText items = setUpText (given (values items) (classes items)) (later items)
 -- up to 65,536 bytes are taken
 unfoldable pub transcript : List ℕ → List ℕ
 transcript input = cond (leb (length input) 65536) (itemsText (itemsAt input 0)) sizeLine
+
+-- ---- what demand 3 is told about
+
+-- the store that is handed to set-up for an input, and the calls that the input lists
+abbrev pub givenBy : List ℕ → Store
+givenBy input = given (values (itemsAt input 0)) (classes (itemsAt input 0))
+
+abbrev pub callsOf : List ℕ → List Call
+callsOf input = calls (later (itemsAt input 0))
+
+-- an input whose calls are printed: of up to 65,536 bytes, and set up with 100
+pub record Accepted (input : List ℕ) : Type 0 where
+  pub short : length input ≤ 65536
+  pub setUp : number (setUpAnswer (givenBy input .lent)) ≡ 100
