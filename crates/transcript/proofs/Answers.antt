@@ -1,6 +1,6 @@
 -- The words of an answer: its number, and after 101 the value.
 use Prim.Native.Nat.{ℕ}
-use mathlib.Core.Path.{_≡_, refl, sym, _∙_, ap}
+use mathlib.Core.Path.{_≡_, refl}
 use mathlib.Core.List.{[], _∷_, _++_}
 use denote.Enum.Declared.{tagOf}
 use types.Run.{OneOf, miss}

@@ -1,19 +1,14 @@
 -- Decimal numbers: the two equations that define them, free of the count of divisions, and how many digits there are.
-use Prim.Native.Nat.{ℕ, zero, suc, _+_, _*_, _/_, _%_, _^_, _≤_, _<_}
+use Prim.Native.Nat.{ℕ, zero, suc, _+_, _/_, _%_, _^_, _≤_, _<_}
 use native.Mathlib.Omega.{arith}
 use mathlib.Core.Path.{_≡_, refl, sym, _∙_, ap}
-use mathlib.Core.Bool.{Bool, true, false, cond}
-use mathlib.Core.List.{List, [], _∷_, _++_}
+use mathlib.Core.List.{[], _∷_, _++_}
 use lib.Dec.{ltb}
 use lib.ListN.{length, length-append}
+use Rattle.model.proofs.Tools.{test}
 use borrow.Author.Tests.{lt-ltb, le-ltb, ltb-true, ltb-false}
 use Rattle.transcript.specs.Decimal.{digit, digits, decimal}
 use Rattle.transcript.specs.Lines.{word, space, newline, cellLine}
-
--- a test, with what it came to
-pub test {ℓ} : {P : Type ℓ} (b : Bool) → (b ≡ true → P) → (b ≡ false → P) → P
-test true f g = f refl
-test false f g = g refl
 
 -- one digit below 10, however many divisions are left
 one-digit : (k n : ℕ) → n < 10 → digits k n ≡ digit n ∷ []
@@ -30,7 +25,7 @@ enough (suc j) (suc k) n a b =
     test (ltb n 10)
     (λ h. simp h)
     (λ h. let big : 10 ≤ n = ltb-false n 10 h in
-        simp (h, enough j k (n / 10) (omega arith) (omega arith)))
+    simp (h, enough j k (n / 10) (omega arith) (omega arith)))
 
 pub decimal-digit : (n : ℕ) → n < 10 → decimal n ≡ digit n ∷ []
 unfolding decimal
@@ -58,9 +53,9 @@ length-decimal (suc k) n h =
     test (ltb n 10)
     (λ small. omega (arith, length-digit n (ltb-true n 10 small)))
     (λ big.
-      let tenth : n / 10 < 10 ^ suc k = omega arith in
-      let shorter = length-decimal k (n / 10) tenth in
-      omega (arith, length-more n (ltb-false n 10 big)))
+    let tenth : n / 10 < 10 ^ suc k = omega arith in
+    let shorter = length-decimal k (n / 10) tenth in
+    omega (arith, length-more n (ltb-false n 10 big)))
 
 pub length-word : (k n end : ℕ) → n < 10 ^ suc k → length (word n end) ≤ suc (suc k)
 unfolding word

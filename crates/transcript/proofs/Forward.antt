@@ -1,10 +1,10 @@
 -- The text of the calls, call by call in their order: the model's `history` and `run`, which have the newest call first, taken from the oldest on.
 use Prim.Native.Nat.{ℕ, suc}
-use mathlib.Core.Path.{_≡_, refl, sym, _∙_, ap}
+use mathlib.Core.Path.{_≡_, refl, _∙_, ap}
 use mathlib.Core.List.{List, [], _∷_, _++_, append-assoc, reverse, reverse-cons, reverse-append}
 use Rattle.model.specs.declared.Call.{Call}
 use Rattle.model.specs.Buffers.{Store}
-use Rattle.model.specs.History.{Event, run, history}
+use Rattle.model.specs.History.{run, history}
 use Rattle.model.specs.Step.{step, reply}
 use Rattle.transcript.specs.Items.{Item, cell, asked, refused, calls}
 use Rattle.transcript.specs.Lines.{fieldLine, answerLine, answerLines, cellLines, endLine}

@@ -7,7 +7,7 @@ use mathlib.Core.Path.{_≡_, refl, sym, _∙_, ap, subst}
 use mathlib.Core.Bool.{Bool, true, false, cond, _&&_}
 use mathlib.Core.List.{List, [], _∷_, _++_, append-nil, append-assoc}
 use lib.Dec.{T, leb, eqb}
-use lib.ListN.{length, getD, take, set, length-append}
+use lib.ListN.{length, take, set, length-append}
 use lib.Seq.{take-suc-set, length-take-le}
 use borrow.Author.Tests.{leb-true}
 use denote.Enum.Declared.{tagOf}
@@ -17,7 +17,7 @@ use Rattle.field.specs.declared.Kind.the-variants as kind
 use Rattle.field.specs.declared.Call.{Call as Numbers}
 use Rattle.field.specs.declared.Layout.{Layout}
 use Rattle.field.specs.declared.TagLayout.{TagLayout}
-use Rattle.field.specs.declared.TagLayout.the-variants.{Known, Unknown}
+use Rattle.field.specs.declared.TagLayout.the-variants.{Known}
 use Rattle.field.specs.declared.Reading.{Reading}
 use Rattle.field.specs.declared.Reading.the-variants as reading
 use Rattle.field.specs.Field.{readingAt}
@@ -26,7 +26,7 @@ use Rattle.field.proofs.Readings.{at-end}
 use Rattle.field.proofs.RoundTrip.{found}
 use Rattle.transcript.specs.declared.Next.{Next}
 use Rattle.transcript.specs.declared.Next.the-variants as next
-use Rattle.transcript.specs.Items.{nextOfField, nextOf, Item, cell, asked, refused, following, itemsWithin, itemsAt, values, classes, later}
+use Rattle.transcript.specs.Items.{nextOfField, nextOf, Item, cell, asked, following, itemsWithin, itemsAt, values, classes, later}
 use Rattle.transcript.specs.Output.{Leading}
 use Rattle.transcript.proofs.Next.{the-type}
 

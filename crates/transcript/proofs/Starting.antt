@@ -1,23 +1,25 @@
 -- Set-up: whatever stands in the locks, logs and records that are handed to it, it answers and leaves what the text takes; and the whole text from there.
-use Prim.Native.Nat.{ℕ, zero, suc, _+_, _≤_, _<_}
+use Prim.Native.Nat.{ℕ, _+_, _≤_, _<_}
 use native.Mathlib.Omega.{arith}
 use mathlib.Core.Path.{_≡_, refl, sym, _∙_, ap}
-use mathlib.Core.Bool.{Bool, true, false, cond, _&&_, and-false}
-use mathlib.Core.List.{List, [], _∷_, _++_}
-use lib.Dec.{leb, eqb}
-use lib.ListN.{length, take, drop, replicate, length-replicate}
+use mathlib.Core.Bool.{Bool, true, false, and-false}
+use mathlib.Core.List.{List, _++_}
+use lib.Dec.{leb}
+use lib.ListN.{length, take, drop, length-replicate, length-append}
 use lib.Seq.{sets, sets-eq, length-take-le}
 use borrow.Author.Tests.{le-leb, lt-leb, eq-eqb, ne-eqb, leb-true}
 use Rattle.model.specs.declared.Answer.{Answer}
 use Rattle.model.specs.declared.Sessions.{Sessions}
-use Rattle.model.specs.Buffers.{Store, size, lengthsFit, allFit, fresh}
+use Rattle.model.specs.Buffers.{Store, size, lengthsFit, fresh}
 use Rattle.model.specs.Step.{number, Outcome, outcome, setUpAnswer, setUp, setUpTaken}
 use Rattle.model.proofs.Demand3.{set-up-fresh}
+use Rattle.model.proofs.Tools.{clash, both-l, both-r}
 use Rattle.store.specs.Lent.{storeOf}
+use Rattle.transcript.specs.declared.Printed.{Printed}
 use Rattle.transcript.specs.declared.Printed.the-variants.{Bytes, Short}
-use Rattle.transcript.specs.Items.{Item, itemsAt, values, classes, later}
+use Rattle.transcript.specs.Items.{Item, itemsAt, values, classes}
 use Rattle.transcript.specs.Lines.{sizeLine, setUpLine}
-use Rattle.transcript.specs.Output.{Out, out, put, Leading, Fitted, longEnough, Roomy, replayed, replaying}
+use Rattle.transcript.specs.Output.{Out, out, put, Leading, Fitted, longEnough, Roomy, Replayed, replayed, replaying}
 use Rattle.transcript.specs.Transcript.{given, callsText, afterSetUp, setUpText, itemsText, transcript}
 use Rattle.transcript.proofs.Puts.{ends-at}
 
@@ -102,27 +104,22 @@ fitted vs ks readers claimants exclusives logs n o h r =
       logged = length-take-le 2048 logs (r .logs);
     }
 
-both : (a b : Bool) → a && b ≡ true → (a ≡ true) × (b ≡ true)
-both true b e = (refl, e)
-both false b e = absurd (let z : _≡_ {A = ℕ} 0 1 = ap (λ (x : Bool). cond x 1 0) e in omega arith)
-
 pub roomy : (o v k r c e l : ℕ) → longEnough o v k r c e l ≡ true → Roomy o v k r c e l
 unfolding longEnough
 roomy o v k r c e l h =
-    let o′ = both (leb 409600 o) _ h in
-    let v′ = both (leb 1024 v) _ (o′ .1) in
-    let k′ = both (leb 1024 k) _ (v′ .1) in
-    let r′ = both (leb 1024 r) _ (k′ .1) in
-    let c′ = both (leb 1024 c) _ (r′ .1) in
-    let e′ = both (leb 1024 e) _ (c′ .1) in
+    let from-v = both-r (leb 409600 o) _ h in
+    let from-k = both-r (leb 1024 v) _ from-v in
+    let from-r = both-r (leb 1024 k) _ from-k in
+    let from-c = both-r (leb 1024 r) _ from-r in
+    let from-e = both-r (leb 1024 c) _ from-c in
     record {
-      output = leb-true _ _ (o′ .0);
-      values = leb-true _ _ (v′ .0);
-      classes = leb-true _ _ (k′ .0);
-      readers = leb-true _ _ (r′ .0);
-      claimants = leb-true _ _ (c′ .0);
-      exclusives = leb-true _ _ (e′ .0);
-      logs = leb-true _ _ (e′ .1);
+      output = leb-true _ _ (both-l _ _ h);
+      values = leb-true _ _ (both-l _ _ from-v);
+      classes = leb-true _ _ (both-l _ _ from-k);
+      readers = leb-true _ _ (both-l _ _ from-r);
+      claimants = leb-true _ _ (both-l _ _ from-c);
+      exclusives = leb-true _ _ (both-l _ _ from-e);
+      logs = leb-true _ _ (both-r (leb 1024 e) _ from-e);
     }
 
 -- the text at the front of an output that is long enough
@@ -133,9 +130,21 @@ printed-text input o {a} {p} true t h e =
     let place : a ≡ length (transcript input) = ends-at o 0 (transcript input) e ∙ none in
     let text : p ≡ sets o 0 (transcript input) = ap (λ (x : Out). x .output) e in
     ap (λ (n : ℕ). replayed (Bytes n) p) place ∙ ap (replayed (Bytes (length (transcript input)))) (text ∙ sets-eq (transcript input) o 0 (omega arith) ∙ ap (λ (n : ℕ). transcript input ++ drop n o) none)
-printed-text input o false t h e = absurd (let z : _≡_ {A = ℕ} 0 1 = ap (λ (x : Bool). cond x 1 0) t in omega arith)
+printed-text input o false t h e = absurd (clash false t refl)
 
 -- too little lent
 pub short : (input o : List ℕ) (b : Bool) → b ≡ false → replayed Short o ≡ replaying b input o
 unfolding replaying
 short input o b f = rw f
+
+-- what was printed lies inside the output
+pub within : (b : Bool) (input o p : List ℕ) (r : Printed) (n : ℕ) → replayed r p ≡ replaying b input o → r ≡ Bytes n → n ≤ length p
+unfolding replaying
+within true input o p r n e h =
+    let text : p ≡ transcript input ++ drop (length (transcript input)) o = ap (λ (x : Replayed). x .output) e in
+    let said : r ≡ Bytes (length (transcript input)) = ap (λ (x : Replayed). x .answer) e in
+    let many : n ≡ length (transcript input) = cc in
+    omega (arith, simp length-append at (ap length text))
+within false input o p r n e h =
+    let said : r ≡ Short = ap (λ (x : Replayed). x .answer) e in
+    absurd (let z : _≡_ {A = ℕ} 0 1 = cc in omega arith)

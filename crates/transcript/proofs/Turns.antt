@@ -1,7 +1,7 @@
 -- One call: what the store's step and the line's writer ensure is the call's turn, and after it the rest of the text is that of the items behind it.
-use Prim.Native.Nat.{ℕ, suc, _+_}
+use Prim.Native.Nat.{ℕ, _+_}
 use native.Mathlib.Numerals.{add-one}
-use mathlib.Core.Path.{_≡_, refl, sym, _∙_, ap}
+use mathlib.Core.Path.{_≡_, sym, _∙_, ap}
 use mathlib.Core.List.{List, [], _∷_, _++_}
 use denote.Enum.Declared.{tagOf}
 use types.Run.{OneOf, miss}

@@ -1,6 +1,6 @@
 -- The lines that the replay prints, as ASCII codes (document 01, "Call fields"). Numbers are in decimal, words are parted by one space (32), and
 -- each line ends with a newline (10).
-use Prim.Native.Nat.{ℕ, zero, suc}
+use Prim.Native.Nat.{ℕ, suc}
 use mathlib.Core.List.{List, [], _∷_, _++_}
 use Rattle.model.specs.declared.Answer.{Answer}
 use Rattle.model.specs.declared.Answer.the-variants.{Done, Value, Sealed, Moved, Waiting, Committed, Refused}

@@ -16,13 +16,35 @@ fn next_of(kind: Kind, numbers: field::Call, length: usize) -> Next
     let session = numbers.session;
     let cell = numbers.cell as u32;
     match kind {
-        Kind::Begin => Next::Call { call: Call::Begin(session), length },
-        Kind::Read => Next::Call { call: Call::Read(session, cell), length },
-        Kind::Write => Next::Call { call: Call::Write(session, cell, numbers.value), length },
-        Kind::Seal => Next::Call { call: Call::Seal(session), length },
-        Kind::Advance => Next::Call { call: Call::Advance(session), length },
-        Kind::Abandon => Next::Call { call: Call::Abandon(session), length },
-        Kind::StartingCell => Next::Cell { class: numbers.class, value: numbers.value, length },
+        Kind::Begin => Next::Call {
+            call: Call::Begin(session),
+            length,
+        },
+        Kind::Read => Next::Call {
+            call: Call::Read(session, cell),
+            length,
+        },
+        Kind::Write => Next::Call {
+            call: Call::Write(session, cell, numbers.value),
+            length,
+        },
+        Kind::Seal => Next::Call {
+            call: Call::Seal(session),
+            length,
+        },
+        Kind::Advance => Next::Call {
+            call: Call::Advance(session),
+            length,
+        },
+        Kind::Abandon => Next::Call {
+            call: Call::Abandon(session),
+            length,
+        },
+        Kind::StartingCell => Next::Cell {
+            class: numbers.class,
+            value: numbers.value,
+            length,
+        },
     }
 }
 

@@ -16,7 +16,12 @@ pub(crate) fn read_cells(input: &[u8], values: &mut [u32], classes: &mut [u8]) -
     let mut count = 0;
     loop {
         let next = next_at(input, place);
-        let Next::Cell { class, value, length } = next else {
+        let Next::Cell {
+            class,
+            value,
+            length,
+        } = next
+        else {
             return Cells::Found { count, place };
         };
         if count == 1024 {

@@ -13,10 +13,19 @@ ghost use Rattle.transcript.specs.Output.{longEnough, replayed, replayin
 
 // What stands at a place of the input: a starting cell or a call, with the field's length; the end; or the number with which a field is refused.
 pub enum Next {
-    Cell { class: u8, value: u32, length: usize },
-    Call { call: Call, length: usize },
+    Cell {
+        class: u8,
+        value: u32,
+        length: usize,
+    },
+    Call {
+        call: Call,
+        length: usize,
+    },
     End,
-    Refused { number: u8 },
+    Refused {
+        number: u8,
+    },
 }
 
 // How many starting cells lead the input, and the place of the field that closes them; or that there are more than 1,024.
@@ -49,7 +58,13 @@ fn long_enough(
 ) -> bool
     ensures { λ r. ⌜ r ≡ longEnough output values classes readers claimants exclusives logs ⌝ }
 {
-    (409600 <= output) & (1024 <= values) & (1024 <= classes) & (1024 <= readers) & (1024 <= claimants) & (1024 <= exclusives) & (2048 <= logs)
+    (409600 <= output)
+        & (1024 <= values)
+        & (1024 <= classes)
+        & (1024 <= readers)
+        & (1024 <= claimants)
+        & (1024 <= exclusives)
+        & (2048 <= logs)
 }
 
 // Prints the replay of `input` at the front of `output`. The other buffers are work space. Without 409,600 bytes of output, 1,024 elements of each of
@@ -66,8 +81,25 @@ pub fn replay(
 ) -> Printed
     ensures { λ r. ⌜ replayed r (now (output .exit)) ≡ replaying (longEnough (length (now (output .entry))) (length (now (values .entry))) (length (now (classes .entry))) (length (now (readers .entry))) (length (now (claimants .entry))) (length (now (exclusives .entry))) (length (now (logs .entry)))) (now (input .entry)) (now (output .entry)) ⌝ }
 {
-    if long_enough(output.len(), values.len(), classes.len(), readers.len(), claimants.len(), exclusives.len(), logs.len()) {
-        let end = run::print(input, output, values, classes, readers, claimants, exclusives, logs);
+    if long_enough(
+        output.len(),
+        values.len(),
+        classes.len(),
+        readers.len(),
+        claimants.len(),
+        exclusives.len(),
+        logs.len(),
+    ) {
+        let end = run::print(
+            input,
+            output,
+            values,
+            classes,
+            readers,
+            claimants,
+            exclusives,
+            logs,
+        );
         return Printed::Bytes(end);
     }
     Printed::Short

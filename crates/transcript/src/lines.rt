@@ -97,7 +97,11 @@ pub(crate) fn put_stop(output: &mut [u8], at: usize, place: usize, next: Next) -
 {
     match next {
         Next::Refused { number } => put_field(output, at, place as u32, number),
-        Next::Cell { class: _, value: _, length: _ } => put_field(output, at, place as u32, 11),
+        Next::Cell {
+            class: _,
+            value: _,
+            length: _,
+        } => put_field(output, at, place as u32, 11),
         Next::End => at,
         Next::Call { call: _, length: _ } => at,
     }

@@ -33,11 +33,23 @@ fn take_turn(
     requires { ⌜ (ordinal < 100000) × (at + 21 ≤ length (now output)) ⌝ }
     ensures { λ r. ⌜ (turned (out (r .at) (now (output .exit))) (storeOf (now (values .exit)) (now (classes .entry)) (now (readers .exit)) (now (claimants .exit)) (now (exclusives .exit)) (now (logs .exit)) (r .sessions)) ≡ turn call ordinal (now (output .entry)) at (storeOf (now (values .entry)) (now (classes .entry)) (now (readers .entry)) (now (claimants .entry)) (now (exclusives .entry)) (now (logs .entry)) sessions)) × (r .at ≤ at + 21) ⌝ }
 {
-    let reply = store::step(call, sessions, values, classes, readers, claimants, exclusives, logs);
+    let reply = store::step(
+        call,
+        sessions,
+        values,
+        classes,
+        readers,
+        claimants,
+        exclusives,
+        logs,
+    );
     let answer = reply.answer;
     let after = reply.sessions;
     let end = lines::put_answer(output, at, ordinal, answer);
-    Turn { at: end, sessions: after }
+    Turn {
+        at: end,
+        sessions: after,
+    }
 }
 
 // The calls from a place on, each with its line, then the line of what ends them and the cells.
@@ -66,7 +78,19 @@ fn run_calls(
             let end = lines::put_stop(output, at, place, next);
             return lines::put_cells(output, end, &values[..]);
         };
-        let t = take_turn(call, ordinal, output, at, sessions, values, classes, readers, claimants, exclusives, logs);
+        let t = take_turn(
+            call,
+            ordinal,
+            output,
+            at,
+            sessions,
+            values,
+            classes,
+            readers,
+            claimants,
+            exclusives,
+            logs,
+        );
         let after = t.sessions;
         sessions = after;
         at = t.at;
@@ -90,15 +114,38 @@ pub(crate) fn set_up_and_run(
     requires { ⌜ (from ≤ length (now input)) × (length (now input) ≤ 65536) × (409600 ≤ length (now output)) ⌝ ∗ ⌜ Fitted (now values) (now classes) (now readers) (now claimants) (now exclusives) (now logs) ⌝ }
     ensures { λ r. ⌜ (out r (now (output .exit)) ≡ put (now (output .entry)) 0 (setUpText (given (now (values .entry)) (now (classes .entry))) (itemsAt (now (input .entry)) from))) × (r ≤ 409600) ⌝ }
 {
-    let records = [Session { phase: 0, count: 0, next: 0 }; 16];
-    let reply = store::set_up(Sessions { records }, &values[..], classes, readers, claimants, exclusives, logs);
+    let records = [Session {
+        phase: 0,
+        count: 0,
+        next: 0,
+    }; 16];
+    let reply = store::set_up(
+        Sessions { records },
+        &values[..],
+        classes,
+        readers,
+        claimants,
+        exclusives,
+        logs,
+    );
     let answer = reply.answer;
     let sessions = reply.sessions;
     let n = lines::number_of(answer);
     if n != 100 {
         return lines::put_set_up(output, 0, n);
     }
-    run_calls(input, from, output, sessions, values, classes, readers, claimants, exclusives, logs)
+    run_calls(
+        input,
+        from,
+        output,
+        sessions,
+        values,
+        classes,
+        readers,
+        claimants,
+        exclusives,
+        logs,
+    )
 }
 
 // The text after the leading cells, `count` of them, which stand at the front of `values` and `classes`.
@@ -117,7 +164,17 @@ fn run_cells(
     requires { ⌜ length (now input) ≤ 65536 ⌝ ∗ ⌜ Leading (now input) (now values) (now classes) count place ⌝ ∗ ⌜ Roomy (length (now output)) (length (now values)) (length (now classes)) (length (now readers)) (length (now claimants)) (length (now exclusives)) (length (now logs)) ⌝ }
     ensures { λ r. ⌜ (out r (now (output .exit)) ≡ put (now (output .entry)) 0 (transcript (now (input .entry)))) × (r ≤ 409600) ⌝ }
 {
-    set_up_and_run(input, place, output, &mut values[..count], &classes[..count], &mut readers[..count], &mut claimants[..count], &mut exclusives[..count], &mut logs[..2048])
+    set_up_and_run(
+        input,
+        place,
+        output,
+        &mut values[..count],
+        &classes[..count],
+        &mut readers[..count],
+        &mut claimants[..count],
+        &mut exclusives[..count],
+        &mut logs[..2048],
+    )
 }
 
 // The whole text.
@@ -141,5 +198,16 @@ pub(crate) fn print(
     let Cells::Found { count, place } = found else {
         return lines::put_set_up(output, 0, 7);
     };
-    run_cells(input, count, place, output, values, &classes[..], readers, claimants, exclusives, logs)
+    run_cells(
+        input,
+        count,
+        place,
+        output,
+        values,
+        &classes[..],
+        readers,
+        claimants,
+        exclusives,
+        logs,
+    )
 }

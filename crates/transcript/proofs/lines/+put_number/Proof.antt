@@ -1,11 +1,8 @@
 -- `transcript::lines::put_number` meets its contract: it goes as `decimal` does. The measure is the number. Assumes nothing.
 use borrow.Author.Needs.{needs}
-use Prim.Native.Nat.{ℕ, _<_, _≤_, _+_, _/_, _%_}
+use Prim.Native.Nat.{ℕ, _<_, _+_}
 use native.Mathlib.Omega.{arith}
-use mathlib.Core.Path.{_≡_, sym, _∙_, ap}
-use mathlib.Core.List.{[], _∷_, _++_}
-use lib.ListN.{length, length-append}
-use Rattle.transcript.specs.Decimal.{decimal}
+use mathlib.Core.Path.{sym, _∙_, ap}
 use Rattle.transcript.specs.Output.{put}
 use Rattle.transcript.proofs.Decimals.{decimal-digit, decimal-more, length-digit, length-more}
 use Rattle.transcript.proofs.Puts.{ends-at, then}

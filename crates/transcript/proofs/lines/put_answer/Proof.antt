@@ -2,7 +2,7 @@
 use Prim.Native.Nat.{ℕ}
 use native.Mathlib.Omega.{arith}
 use mathlib.Core.Path.{sym, _∙_, ap}
-use Rattle.transcript.specs.Lines.{word, space, newline, answerLine}
+use Rattle.transcript.specs.Lines.{word, newline, answerLine}
 use Rattle.transcript.specs.Output.{put}
 use Rattle.transcript.proofs.Answers.{plain-words, value-words}
 use Rattle.transcript.proofs.Decimals.{length-word}
@@ -34,14 +34,16 @@ returns : tie.Need-returns
 unfolding answerLine
 returns c =
     let a = c .before .before .before .before .before .before .before .put-word .ensures in
-    let e = c .before .before .put-word2 .ensures in
-    (then _ _ _ _ a (e ∙ ap (put _ _) (ap (λ (n : ℕ). word n newline) (c .before .before .before .before .before .before .before .before .before .number-of .ensures) ∙ sym (plain-words _ (c .before .before .before .before .match .keys2)))),
-    omega
-    (arith,
-    ends-at _ _ _ a,
-    ends-at _ _ _ e,
-    length-word 4 (c .before .before .before .before .before .before .before .before .before .before .before .args .ordinal) 32 (omega arith),
-    length-word 2 (c .before .before .before .before .before .before .before .before .before .number-of .result) 10 (omega arith)))
+    let e = c .before .before .put-word2 .ensures in (
+      then _ _ _ _ a (e ∙ ap (put _ _) (ap (λ (n : ℕ). word n newline) (c .before .before .before .before .before .before .before .before .before .number-of .ensures) ∙ sym (plain-words _ (c .before .before .before .before .match .keys2)))),
+      omega (
+        arith,
+        ends-at _ _ _ a,
+        ends-at _ _ _ e,
+        length-word 4 (c .before .before .before .before .before .before .before .before .before .before .before .args .ordinal) 32 (omega arith),
+        length-word 2 (c .before .before .before .before .before .before .before .before .before .number-of .result) 10 (omega arith),
+      ),
+    )
 
 cast-put-word-2 : tie.Need-cast-put-word-2
 cast-put-word-2 c = search needs
@@ -52,13 +54,14 @@ put-word-requires-3 c κs =
 
 put-word-requires-4 : tie.Need-put-word-requires-4
 put-word-requires-4 c κs =
-    omega
-    (arith,
-    ends-at _ _ _ (c .before .before .before .before .before .before .before .before .before .before .put-word .ensures),
-    ends-at _ _ _ (c .before .before .before .put-word3 .ensures),
-    length-word 4 (c .before .before .before .before .before .before .before .before .before .before .before .before .before .before .args .ordinal) 32 (omega arith),
-    length-word 2 (c .before .before .before .before .before .before .before .before .before .before .before .before .number-of .result) 32 (omega arith),
-    length-word 9 (c .before .before .before .before .before .before .answer .given .0 .0) 10 (omega arith))
+    omega (
+      arith,
+      ends-at _ _ _ (c .before .before .before .before .before .before .before .before .before .before .put-word .ensures),
+      ends-at _ _ _ (c .before .before .before .put-word3 .ensures),
+      length-word 4 (c .before .before .before .before .before .before .before .before .before .before .before .before .before .before .args .ordinal) 32 (omega arith),
+      length-word 2 (c .before .before .before .before .before .before .before .before .before .before .before .before .number-of .result) 32 (omega arith),
+      length-word 9 (c .before .before .before .before .before .before .answer .given .0 .0) 10 (omega arith),
+    )
 
 same-length-2 : tie.Need-same-length-2
 same-length-2 c = search needs
@@ -68,16 +71,18 @@ unfolding answerLine
 returns-2 c =
     let a = c .before .before .before .before .before .before .before .before .before .before .before .before .before .put-word .ensures in
     let b = c .before .before .before .before .before .before .put-word3 .ensures in
-    let e = c .before .before .put-word4 .ensures in
-    (then _ _ _ _ a (then _ _ _ _ b e ∙ ap (put _ _) (value-words _ _ _ (c .before .before .before .before .before .before .before .before .before .before .before .before .before .before .before .number-of .ensures) (c .before .before .before .before .before .before .before .before .before .answer .given .1))),
-    omega
-    (arith,
-    ends-at _ _ _ a,
-    ends-at _ _ _ b,
-    ends-at _ _ _ e,
-    length-word 4 (c .before .before .before .before .before .before .before .before .before .before .before .before .before .before .before .before .before .args .ordinal) 32 (omega arith),
-    length-word 2 (c .before .before .before .before .before .before .before .before .before .before .before .before .before .before .before .number-of .result) 32 (omega arith),
-    length-word 9 (c .before .before .before .before .before .before .before .before .before .answer .given .0 .0) 10 (omega arith)))
+    let e = c .before .before .put-word4 .ensures in (
+      then _ _ _ _ a (then _ _ _ _ b e ∙ ap (put _ _) (value-words _ _ _ (c .before .before .before .before .before .before .before .before .before .before .before .before .before .before .before .number-of .ensures) (c .before .before .before .before .before .before .before .before .before .answer .given .1))),
+      omega (
+        arith,
+        ends-at _ _ _ a,
+        ends-at _ _ _ b,
+        ends-at _ _ _ e,
+        length-word 4 (c .before .before .before .before .before .before .before .before .before .before .before .before .before .before .before .before .before .args .ordinal) 32 (omega arith),
+        length-word 2 (c .before .before .before .before .before .before .before .before .before .before .before .before .before .before .before .number-of .result) 32 (omega arith),
+        length-word 9 (c .before .before .before .before .before .before .before .before .before .answer .given .0 .0) 10 (omega arith),
+      ),
+    )
 
 pub put-answer-spec : {M : Type 1} → statement M
 put-answer-spec =

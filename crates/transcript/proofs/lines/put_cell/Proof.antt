@@ -1,6 +1,5 @@
 -- `transcript::lines::put_cell` meets its contract: two bytes, then two numbers. Assumes nothing.
 use native.Mathlib.Omega.{arith}
-use mathlib.Core.Path.{sym, _∙_, ap}
 use Rattle.transcript.specs.Lines.{cellLine}
 use Rattle.transcript.proofs.Decimals.{length-word}
 use Rattle.transcript.proofs.Puts.{ends-at, then}

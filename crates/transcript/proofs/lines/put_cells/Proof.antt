@@ -1,8 +1,8 @@
 -- `transcript::lines::put_cells` meets its contract. The loop's invariant: what is written and the lines of the cells that are left are the whole.
 -- Assumes nothing.
-use Prim.Native.Nat.{ℕ, _+_, _-_, _*_, _≤_}
+use Prim.Native.Nat.{_+_, _-_, _*_, _≤_}
 use native.Mathlib.Omega.{arith}
-use mathlib.Core.Path.{_≡_, refl, sym, _∙_, ap}
+use mathlib.Core.Path.{_≡_, sym, _∙_, ap}
 use lib.ListN.{length, drop, getD}
 use Rattle.transcript.specs.Lines.{cellLines}
 use Rattle.transcript.specs.Output.{put}

@@ -1,6 +1,5 @@
 -- `transcript::lines::put_field` meets its contract: the word, then two numbers. Assumes nothing.
 use native.Mathlib.Omega.{arith}
-use mathlib.Core.Path.{sym, _∙_, ap}
 use Rattle.transcript.specs.Lines.{fieldLine}
 use Rattle.transcript.proofs.Decimals.{length-word}
 use Rattle.transcript.proofs.Puts.{ends-at, then}
@@ -29,15 +28,17 @@ unfolding fieldLine
 returns c =
     let a = c .before .before .before .before .before .before .before .before .before .before .put-text .ensures in
     let b = c .before .before .before .before .before .before .put-word .ensures in
-    let e = c .before .before .put-word2 .ensures in
-    (then _ _ _ _ a (then _ _ _ _ b e),
-    omega
-    (arith,
-    ends-at _ _ _ a,
-    ends-at _ _ _ b,
-    ends-at _ _ _ e,
-    length-word 4 (c .before .before .before .before .before .before .before .before .before .before .before .before .before .before .args .place) 32 (omega arith),
-    length-word 2 (c .before .before .before .before .before .before .before .before .before .before .before .before .before .before .args .n) 10 (omega arith)))
+    let e = c .before .before .put-word2 .ensures in (
+      then _ _ _ _ a (then _ _ _ _ b e),
+      omega (
+        arith,
+        ends-at _ _ _ a,
+        ends-at _ _ _ b,
+        ends-at _ _ _ e,
+        length-word 4 (c .before .before .before .before .before .before .before .before .before .before .before .before .before .before .args .place) 32 (omega arith),
+        length-word 2 (c .before .before .before .before .before .before .before .before .before .before .before .before .before .before .args .n) 10 (omega arith),
+      ),
+    )
 
 pub put-field-spec : {M : Type 1} → statement M
 put-field-spec =

@@ -1,6 +1,5 @@
 -- `transcript::lines::put_set_up` meets its contract: the word, then the number. Assumes nothing.
 use native.Mathlib.Omega.{arith}
-use mathlib.Core.Path.{sym, _∙_, ap}
 use Rattle.transcript.specs.Lines.{setUpLine}
 use Rattle.transcript.proofs.Decimals.{length-word}
 use Rattle.transcript.proofs.Puts.{ends-at, then}

@@ -1,6 +1,6 @@
 -- `transcript::lines::put_stop` meets its contract: a line, or nothing. Assumes nothing.
 use native.Mathlib.Omega.{arith}
-use mathlib.Core.Path.{sym, _∙_, ap}
+use mathlib.Core.Path.{sym}
 use Rattle.transcript.specs.Lines.{stopLine}
 use Rattle.transcript.proofs.Puts.{put-nothing}
 use borrow.Author.Needs.{needs}

@@ -1,6 +1,6 @@
 -- `transcript::lines::put_text` meets its contract. The loop's invariant: the first i bytes of the text are put. Assumes nothing.
 use Prim.Native.Nat.{ℕ, _+_, _-_, _≤_}
-use mathlib.Core.Path.{_≡_, refl, sym, _∙_, ap}
+use mathlib.Core.Path.{_≡_, _∙_, ap}
 use native.Mathlib.Omega.{arith}
 use native.Mathlib.Numerals.{add-one}
 use mathlib.Core.List.{[], _∷_, _++_}

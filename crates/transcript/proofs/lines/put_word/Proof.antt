@@ -1,10 +1,7 @@
 -- `transcript::lines::put_word` meets its contract: the digits, then one byte. Assumes nothing.
 use native.Mathlib.Omega.{arith}
-use mathlib.Core.Path.{sym, _∙_, ap}
-use Prim.Native.Nat.{_+_}
-use mathlib.Core.Path.{_≡_}
 use mathlib.Core.List.{[], _∷_}
-use lib.ListN.{length, length-append}
+use lib.ListN.{length-append}
 use Rattle.transcript.specs.Decimal.{decimal}
 use Rattle.transcript.specs.Lines.{word}
 use Rattle.transcript.proofs.Puts.{ends-at, then}

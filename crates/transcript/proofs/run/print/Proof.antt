@@ -1,6 +1,6 @@
 -- `transcript::run::print` meets its contract: too long an input, too many cells, or the cells and what follows. Assumes nothing.
 use native.Mathlib.Omega.{arith}
-use mathlib.Core.Path.{_≡_, refl, sym, _∙_, ap, subst}
+use mathlib.Core.Path.{refl, _∙_, ap, subst}
 use Rattle.transcript.specs.Lines.{sizeLine}
 use Rattle.transcript.specs.Output.{put, ReadCells}
 use Rattle.transcript.proofs.Puts.{ends-at}
@@ -54,18 +54,21 @@ returns-2 c =
 run-cells-requires : tie.Need-run-cells-requires
 run-cells-requires c κs =
     let pre = c .before .before .before .before .before .before .before .before .before .before .before .before .before .before .before .before .before .before .before .before .before .before .before .before .before .before .pre in
-    let read = subst (ReadCells _ _ _) (c .before .before .before .before .before .before .before .before .found .given .1) (c .before .before .before .before .before .before .before .before .before .before .before .before .before .before .read-cells .ensures) in
-    (c .before .before .before .before .before .before .before .before .before .before .before .before .before .before .before .before .before .if1 .left,
-    (read,
-    record {
-      output = pre .output;
-      values = omega arith;
-      classes = omega arith;
-      readers = pre .readers;
-      claimants = pre .claimants;
-      exclusives = pre .exclusives;
-      logs = pre .logs;
-    }))
+    let read = subst (ReadCells _ _ _) (c .before .before .before .before .before .before .before .before .found .given .1) (c .before .before .before .before .before .before .before .before .before .before .before .before .before .before .read-cells .ensures) in (
+      c .before .before .before .before .before .before .before .before .before .before .before .before .before .before .before .before .before .if1 .left,
+      (
+        read,
+        record {
+          output = pre .output;
+          values = omega arith;
+          classes = omega arith;
+          readers = pre .readers;
+          claimants = pre .claimants;
+          exclusives = pre .exclusives;
+          logs = pre .logs;
+        },
+      ),
+    )
 
 same-length-5 : tie.Need-same-length-5
 same-length-5 c = search needs

@@ -8,7 +8,7 @@ use Rattle.store.specs.Lent.{storeOf}
 use Rattle.transcript.specs.Items.{itemsAt, following}
 use Rattle.transcript.specs.Output.{put}
 use Rattle.transcript.specs.Transcript.{callsText}
-use Rattle.transcript.proofs.Puts.{ends-at, then}
+use Rattle.transcript.proofs.Puts.{then}
 use Rattle.transcript.proofs.Scanning.{Advances, advances, items-by}
 use Rattle.transcript.proofs.Turns.{turned-text, stops}
 use borrow.Author.Needs.{needs}
@@ -105,17 +105,18 @@ loop-again c =
     let seen = sym (c .before .before .before .before .before .before .before .before .before .before .before .before .before .before .before .before .before .before .before .before .before .next .given .1) ∙ c .before .before .before .before .before .before .before .before .before .before .before .before .before .before .before .before .before .before .before .before .before .before .before .next-at .ensures in
     let step = subst (Advances _ _) (sym seen) (advances _ _) in
     let here = items-by _ _ _ seen in
-    let turn = c .before .before .before .before .before .before .before .before .before .before .before .before .before .take-turn .ensures in
-    (omega (arith, step .inside),
-    omega (arith, inv .1, step .four),
-    omega (arith, inv .2, turn .1),
-    search needs,
-    search needs,
-    search needs,
-    search needs,
-    search needs,
-    search needs,
-    turned-text _ _ _ _ _ _ (turn .0) ∙ ap (put _ _) (ap (callsText _ _) (sym here)) ∙ inv .9)
+    let turn = c .before .before .before .before .before .before .before .before .before .before .before .before .before .take-turn .ensures in (
+      omega (arith, step .inside),
+      omega (arith, inv .1, step .four),
+      omega (arith, inv .2, turn .1),
+      search needs,
+      search needs,
+      search needs,
+      search needs,
+      search needs,
+      search needs,
+      turned-text _ _ _ _ _ _ (turn .0) ∙ ap (put _ _) (ap (callsText _ _) (sym here)) ∙ inv .9,
+    )
 
 pub run-calls-spec : {M : Type 1} → statement M
 run-calls-spec =

@@ -1,5 +1,4 @@
 -- `transcript::run::take_turn` meets its contract: the store's step, then the answer's line. Assumes nothing.
-use native.Mathlib.Omega.{arith}
 use Rattle.transcript.proofs.Turns.{turning}
 use borrow.Author.Needs.{needs}
 use Rattle.transcript.proofs.run.take_turn.Statement.{statement}
