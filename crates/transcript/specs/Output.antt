@@ -75,6 +75,10 @@ unfoldable pub longEnough : ℕ → ℕ → ℕ → ℕ → ℕ → ℕ → ℕ 
 longEnough output vs ks readers claimants exclusives logs =
     leb 409600 output && (leb 1024 vs && (leb 1024 ks && (leb 1024 readers && (leb 1024 claimants && (leb 1024 exclusives && leb 2048 logs)))))
 
+abbrev pub lentEnough : List ℕ → List ℕ → List ℕ → List ℕ → List ℕ → List ℕ → List ℕ → Bool
+lentEnough output vs ks readers claimants exclusives logs =
+    longEnough (length output) (length vs) (length ks) (length readers) (length claimants) (length exclusives) (length logs)
+
 -- the same as facts
 pub record Roomy (o v k r c e l : ℕ) : Type 0 where
   pub output : 409600 ≤ o

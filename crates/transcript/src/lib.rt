@@ -7,12 +7,14 @@ mod run;
 use model::Call;
 use model::Sessions;
 ghost use mathlib.Core.Path.{_≡_};
+ghost use mathlib.Core.Bool.{true};
 ghost use Prim.Native.Nat.{_≤_};
 ghost use lib.ListN.{length};
-ghost use Rattle.transcript.specs.Output.{longEnough, replayed, replaying};
+ghost use Rattle.transcript.specs.Transcript.{transcript};
+ghost use Rattle.transcript.specs.Output.{longEnough, lentEnough, replayed, replaying};
 
 // What stands at a place of the input: a starting cell or a call, with the field's length; the end; or the number with which a field is refused.
-pub enum Next {
+pub(crate) enum Next {
     Cell {
         class: u8,
         value: u32,
@@ -29,13 +31,13 @@ pub enum Next {
 }
 
 // How many starting cells lead the input, and the place of the field that closes them; or that there are more than 1,024.
-pub enum Cells {
+pub(crate) enum Cells {
     Found { count: usize, place: usize },
     TooMany,
 }
 
 // The place after a call's line, and the records that the call hands back.
-pub struct Turn {
+pub(crate) struct Turn {
     pub at: usize,
     pub sessions: Sessions,
 }
@@ -79,7 +81,8 @@ pub fn replay(
     exclusives: &mut [u8],
     logs: &mut [u32],
 ) -> Printed
-    ensures { λ r. ⌜ replayed r (now (output .exit)) ≡ replaying (longEnough (length (now (output .entry))) (length (now (values .entry))) (length (now (classes .entry))) (length (now (readers .entry))) (length (now (claimants .entry))) (length (now (exclusives .entry))) (length (now (logs .entry)))) (now (input .entry)) (now (output .entry)) ⌝ }
+    ensures text { λ r. ⌜ replayed r (now (output .exit)) ≡ replaying (lentEnough (now (output .entry)) (now (values .entry)) (now (classes .entry)) (now (readers .entry)) (now (claimants .entry)) (now (exclusives .entry)) (now (logs .entry))) (now (input .entry)) (now (output .entry)) ⌝ }
+    ensures bound { λ _. ⌜ (lentEnough (now (output .entry)) (now (values .entry)) (now (classes .entry)) (now (readers .entry)) (now (claimants .entry)) (now (exclusives .entry)) (now (logs .entry)) ≡ true → length (transcript (now (input .entry))) ≤ 409600) ⌝ }
 {
     if long_enough(
         output.len(),

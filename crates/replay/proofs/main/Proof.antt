@@ -52,10 +52,10 @@ returns : tie.Need-returns
 returns c = search needs
 
 array-share-prefix-output : tie.Need-array-share-prefix-output
-array-share-prefix-output c = within _ _ _ _ _ _ (c .before .before .before .before .before .before .before .before .before .before .replay .ensures) (c .before .printed .given .1)
+array-share-prefix-output c = within _ _ _ _ _ _ (c .before .before .before .before .before .before .before .before .before .before .replay .ensures .0) (c .before .printed .given .1)
 
 slice-aggregate-write-all : tie.Need-slice-aggregate-write-all
-slice-aggregate-write-all c = sym (length-take-le _ _ (within _ _ _ _ _ _ (c .before .before .before .before .before .before .before .before .before .before .before .replay .ensures) (c .before .before .printed .given .1)))
+slice-aggregate-write-all c = sym (length-take-le _ _ (within _ _ _ _ _ _ (c .before .before .before .before .before .before .before .before .before .before .before .replay .ensures .0) (c .before .before .printed .given .1)))
 
 write-all-requires : tie.Need-write-all-requires
 write-all-requires c κs = search needs
