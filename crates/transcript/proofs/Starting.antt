@@ -19,7 +19,8 @@ use Rattle.transcript.specs.declared.Printed.{Printed}
 use Rattle.transcript.specs.declared.Printed.the-variants.{Bytes, Short}
 use Rattle.transcript.specs.Items.{Item, itemsAt, values, classes}
 use Rattle.transcript.specs.Lines.{sizeLine, setUpLine}
-use Rattle.transcript.specs.Output.{Out, out, put, Leading, Fitted, longEnough, Roomy, Replayed, replayed, replaying}
+use Rattle.transcript.specs.Replay.{longEnough, Replayed, replayed, replaying}
+use Rattle.transcript.specs.Output.{Out, out, put, Leading, Fitted, Roomy}
 use Rattle.transcript.specs.Transcript.{given, callsText, afterSetUp, setUpText, itemsText, transcript}
 use Rattle.transcript.proofs.Puts.{ends-at}
 

@@ -12,8 +12,8 @@ use Rattle.model.specs.Step.{Outcome, outcome, taken, step, reply}
 use Rattle.transcript.specs.declared.Next.{Next}
 use Rattle.transcript.specs.declared.Next.the-variants as next
 use Rattle.transcript.specs.Items.{Item, asked, following}
-use Rattle.transcript.specs.Lines.{answerLine, cellLines, stopLine}
-use Rattle.transcript.specs.Output.{Out, out, put, Turned, turned, turn}
+use Rattle.transcript.specs.Lines.{answerLine, cellLines}
+use Rattle.transcript.specs.Output.{Out, out, put, Turned, turned, turn, stopLine}
 use Rattle.transcript.specs.Transcript.{callsText}
 use Rattle.transcript.proofs.Forward.{text-asked, text-end, text-refused, text-late-cell}
 use Rattle.transcript.proofs.Next.{the-type}

@@ -45,7 +45,7 @@ unfoldable pub itemsWithin : ℕ → List ℕ → ℕ → List Item
 itemsWithin zero bytes place = []
 itemsWithin (suc more) bytes place = following place (nextOf (readingAt bytes place)) (itemsWithin more bytes)
 
--- there are not more items than bytes (proofs/Reading.antt: items-step)
+-- there are not more items than bytes (proofs/Scanning.antt: items-step)
 unfoldable pub itemsAt : List ℕ → ℕ → List Item
 itemsAt bytes place = itemsWithin (length bytes) bytes place
 

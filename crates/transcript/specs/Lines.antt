@@ -7,8 +7,6 @@ use Rattle.model.specs.declared.Answer.the-variants.{Done, Value, Sealed, Moved
 use Rattle.model.specs.Step.{number}
 use Rattle.model.specs.History.{Event}
 use Rattle.transcript.specs.Decimal.{decimal}
-use Rattle.transcript.specs.declared.Next.{Next}
-use Rattle.transcript.specs.declared.Next.the-variants as next
 use Rattle.transcript.specs.Items.{Item, cell, asked, refused}
 
 -- a number and what parts it from the next word or ends the line
@@ -66,10 +64,3 @@ endLine [] = []
 endLine (cell place class value ∷ items) = fieldLine place 11
 endLine (asked k ∷ items) = endLine items
 endLine (refused place number ∷ items) = fieldLine place number
-
--- the same of what stands at a place
-unfoldable pub stopLine : ℕ → Next → List ℕ
-stopLine place (next.Cell class value n) = fieldLine place 11
-stopLine place (next.Call k n) = []
-stopLine place next.End = []
-stopLine place (next.Refused number) = fieldLine place number

@@ -1,21 +1,19 @@
--- What the writers leave of the lent output, and what the replay answers.
+-- What the inner functions leave: a text put into the output, one call with its line, the cells that were read, and what is lent to set-up.
+-- Nothing here is part of what `replay` promises.
 use Prim.Native.Nat.{ℕ, _+_, _≤_}
 use mathlib.Core.Path.{_≡_}
-use mathlib.Core.Bool.{Bool, true, false, _&&_}
-use mathlib.Core.List.{List, _++_}
-use lib.Dec.{leb}
-use lib.ListN.{length, take, drop}
+use mathlib.Core.List.{List, []}
+use lib.ListN.{length, take}
 use lib.Seq.{sets}
 use Rattle.model.specs.declared.Call.{Call}
 use Rattle.model.specs.Buffers.{Store}
 use Rattle.model.specs.Step.{step, reply}
+use Rattle.transcript.specs.declared.Next.{Next}
+use Rattle.transcript.specs.declared.Next.the-variants as next
 use Rattle.transcript.specs.declared.Cells.{Cells}
 use Rattle.transcript.specs.declared.Cells.the-variants.{Found, TooMany}
-use Rattle.transcript.specs.declared.Printed.{Printed}
-use Rattle.transcript.specs.declared.Printed.the-variants.{Bytes, Short}
 use Rattle.transcript.specs.Items.{itemsAt, values, classes, later}
-use Rattle.transcript.specs.Lines.{answerLine}
-use Rattle.transcript.specs.Transcript.{transcript}
+use Rattle.transcript.specs.Lines.{fieldLine, answerLine}
 
 -- ---- one text
 
@@ -30,6 +28,15 @@ out at output = record { at = at; output = output }
 -- a text put at a place
 unfoldable pub put : List ℕ → ℕ → List ℕ → Out
 put output at text = out (at + length text) (sets output at text)
+
+-- ---- what ends the calls
+
+-- the line of what stands at a place, where it is no call
+unfoldable pub stopLine : ℕ → Next → List ℕ
+stopLine place (next.Cell class value n) = fieldLine place 11
+stopLine place (next.Call k n) = []
+stopLine place next.End = []
+stopLine place (next.Refused number) = fieldLine place number
 
 -- ---- one call
 
@@ -68,18 +75,9 @@ pub record Fitted (vs ks readers claimants exclusives logs : List ℕ) : Type 0 
   pub marked : length exclusives ≡ length vs
   pub logged : length logs ≡ 2048
 
--- ---- the replay
+-- ---- what is lent
 
--- the lent lengths that serve every input: 409,600 bytes of output, 1,024 cells, 2,048 words of logs
-unfoldable pub longEnough : ℕ → ℕ → ℕ → ℕ → ℕ → ℕ → ℕ → Bool
-longEnough output vs ks readers claimants exclusives logs =
-    leb 409600 output && (leb 1024 vs && (leb 1024 ks && (leb 1024 readers && (leb 1024 claimants && (leb 1024 exclusives && leb 2048 logs)))))
-
-abbrev pub lentEnough : List ℕ → List ℕ → List ℕ → List ℕ → List ℕ → List ℕ → List ℕ → Bool
-lentEnough output vs ks readers claimants exclusives logs =
-    longEnough (length output) (length vs) (length ks) (length readers) (length claimants) (length exclusives) (length logs)
-
--- the same as facts
+-- `longEnough` as facts
 pub record Roomy (o v k r c e l : ℕ) : Type 0 where
   pub output : 409600 ≤ o
   pub values : 1024 ≤ v
@@ -88,15 +86,3 @@ pub record Roomy (o v k r c e l : ℕ) : Type 0 where
   pub claimants : 1024 ≤ c
   pub exclusives : 1024 ≤ e
   pub logs : 2048 ≤ l
-
-pub record Replayed : Type 0 where
-  pub answer : Printed
-  pub output : List ℕ
-
-abbrev pub replayed : Printed → List ℕ → Replayed
-replayed answer output = record { answer = answer; output = output }
-
--- the text stands at the front of the output, and what follows is as before; too little lent leaves the output as before
-unfoldable pub replaying : Bool → List ℕ → List ℕ → Replayed
-replaying true input output = replayed (Bytes (length (transcript input))) (transcript input ++ drop (length (transcript input)) output)
-replaying false input output = replayed Short output

@@ -11,7 +11,7 @@ ghost use mathlib.Core.Bool.{true};
 ghost use Prim.Native.Nat.{_≤_};
 ghost use lib.ListN.{length};
 ghost use Rattle.transcript.specs.Transcript.{transcript};
-ghost use Rattle.transcript.specs.Output.{longEnough, lentEnough, replayed, replaying};
+ghost use Rattle.transcript.specs.Replay.{longEnough, lentEnough, replayed, replaying};
 
 // What stands at a place of the input: a starting cell or a call, with the field's length; the end; or the number with which a field is refused.
 pub(crate) enum Next {

@@ -1,6 +1,6 @@
 -- `transcript::long_enough` meets its contract. Assumes nothing.
 use mathlib.Core.Bool.{and-assoc}
-use Rattle.transcript.specs.Output.{longEnough}
+use Rattle.transcript.specs.Replay.{longEnough}
 use Rattle.transcript.proofs.long_enough.Statement.{statement}
 use Rattle.transcript.proofs.long_enough.Tie as tie
 

@@ -1,7 +1,7 @@
 -- `transcript::lines::put_stop` meets its contract: a line, or nothing. Assumes nothing.
 use native.Mathlib.Omega.{arith}
 use mathlib.Core.Path.{sym}
-use Rattle.transcript.specs.Lines.{stopLine}
+use Rattle.transcript.specs.Output.{stopLine}
 use Rattle.transcript.proofs.Puts.{put-nothing}
 use borrow.Author.Needs.{needs}
 use Rattle.transcript.proofs.lines.put_stop.Statement.{statement}
