@@ -1,4 +1,4 @@
--- Worked inputs with what the replay prints, byte by byte: the listing of document 01, "Call fields", and one for each other kind of line.
+-- Worked inputs with what the replay prints, byte by byte: the listing of document 01, "Call fields", and inputs that print `setup` and `field` lines.
 use Prim.Native.Nat.{ℕ}
 use mathlib.Core.List.{List, [], _∷_}
 use Rattle.transcript.specs.Transcript.{transcript}
