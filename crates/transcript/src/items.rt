@@ -54,6 +54,6 @@ pub(crate) fn next_at(input: &[u8], place: usize) -> Next
     match field::read_field(input, place) {
         Reading::Field { kind, call, length } => next_of(kind, call, length),
         Reading::End => Next::End,
-        Reading::Refused { number, place: _ } => Next::Refused { number },
+        Reading::Refused(number, _) => Next::Refused { number },
     }
 }
