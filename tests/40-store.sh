@@ -38,6 +38,18 @@ example() {
         diff "examples/$1.expected" "$work/$1.out"
 }
 
+# Every file that the guided fuzzer kept: the proved replay and the second program print the same.
+corpus() {
+    local file count=0
+    for file in tests/fuzz/corpus/*; do
+        target/bin/replay <"$file" >"$work/corpus.proved" && "$replay_peer" <"$file" >"$work/corpus.peer" && cmp "$work/corpus.proved" "$work/corpus.peer" ||
+            { echo "$file differs"; return 1; }
+        count=$((count + 1))
+    done
+    echo "$count files"
+    [ "$count" -ge 100 ]
+}
+
 check "the second program is built" bash -c '. tests/fuzz/build.sh'
 . tests/fuzz/build.sh
 check "the replay is built" test -x target/bin/replay
@@ -46,6 +58,7 @@ for name in listing skew mixed; do
 done
 check "the calls for C are built" calls_for_c
 check "the proved calls on arbitrary buffers" env LD_LIBRARY_PATH="$PWD/target/c/proved-store" "$compare" calls --seed "$seed" --count 1000000
+check "the replay on the fuzzer's corpus" corpus
 check "the proved replay on random files" "$compare" replays --program "$PWD/target/bin/replay" --mode spawn --seed "$seed" --count "$replays"
 
 echo "$passed passed, $failed failed"
