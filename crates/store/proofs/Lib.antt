@@ -5,3 +5,7 @@ pub mod Tags
 pub mod Choices
 pub mod Entering
 pub mod Tested
+pub mod SetUp
+pub mod Peeks
+pub mod Seals
+pub mod Advances
