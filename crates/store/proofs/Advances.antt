@@ -10,7 +10,7 @@ use lib.ListN.{length, set}
 use Rattle.model.specs.Readers.{otherReaders}
 use Rattle.model.specs.Search.{below}
 use Rattle.model.specs.Buffers
-use Rattle.model.specs.Buffers.{Locks, Store, size, idle, sessionAt, cellAt, entryAt, lockAt, setLock, lockOn, claim, vacate}
+use Rattle.model.specs.Buffers.{Locks, Store, size, idle, sessionAt, cellAt, entryAt, lockAt, setLock, claim, vacate}
 use Rattle.model.specs.Step.{outcome, taken, planOf, recordOf, handled, releasing, claimed, promotePlan}
 use Rattle.model.specs.declared.Session.{Session}
 use Rattle.model.specs.declared.Lock.{Lock}
@@ -29,7 +29,7 @@ use Rattle.decide.specs.declared.Handled.{Handled}
 use Rattle.decide.proofs.Agree.{part-below, advance-refused, advance-agree, due-known, handled-agree, handled-moves, handled-releases}
 use Rattle.decide.proofs.Ways.{Entries}
 use Rattle.store.specs.Lent.{carried, Sized, Admitted}
-use Rattle.store.proofs.Carry.{carries, leaves, keeps, carry-refuse, carry-roll-back, carry-wait, carry-own, carry-publish, carry-release}
+use Rattle.store.proofs.Carry.{carries, put-on, leaves, keeps, carry-refuse, carry-roll-back, carry-wait, carry-own, carry-publish, carry-release}
 use Rattle.store.proofs.Refusals.{lengths-of}
 use Rattle.store.proofs.Parts.{own, cut, cut-is, rolled-back, can-decide, can-roll-back}
 use Rattle.store.proofs.Tags.{Passed, passed, apart}
@@ -155,11 +155,6 @@ module _ {σ : Store} {s k c : ℕ} {l : Lock} {p : Plan} (w : Decided σ s k c 
   unfolding sessionAt
   carried-at q e = ap (λ (r : Plan). carried s r σ) (e ∙ w .plan ∙ rw (w .lock, w .cell, cut-is))
 
-  -- the lock m put in the place of l
-  locked : (f : Lock → Lock) (m : Lock) (L : Locks) → m ≡ f l → L ≡ setLock c m (σ .lent .locks) → L ≡ lockOn c f (σ .lent .locks)
-  unfolding lockOn
-  locked f m L a b = b ∙ rw (a, w .lock)
-
   pub leaves-rolled : p ≡ RollBack → (L : Locks) (y : Session) → L ≡ rolledBackIn (cut (σ .lent .logs) s) (own σ s .count) s (σ .lent .locks) → y ≡ idle
       → outcome (the-variants.Refused 6) (leaves σ s L (σ .lent .values) (σ .lent .logs) y) ≡ carried s (atEntry σ s k) σ
   unfolding sessionAt
@@ -167,7 +162,7 @@ module _ {σ : Store} {s k c : ℕ} {l : Lock} {p : Plan} (w : Decided σ s k c 
 
   pub leaves-waiting : (d : ℕ) → p ≡ Wait d → (m : Lock) (L : Locks) → m ≡ claim s l → L ≡ setLock c m (σ .lent .locks)
       → outcome Waiting (keeps σ L (σ .lent .logs)) ≡ carried s (atEntry σ s k) σ
-  leaves-waiting d e m L a b = carry-wait s σ c L (locked (claim s) m L a b) ∙ carried-at (Wait c) (of-wait way d e)
+  leaves-waiting d e m L a b = carry-wait s σ c L (put-on (claim s) c _ L l m b a (w .lock)) ∙ carried-at (Wait c) (of-wait way d e)
 
   -- h is what handling the cell leaves and answers
   module _ (h : Handled) (g : h ≡ handledOn (cut (σ .lent .logs) s) (own σ s) c) where
@@ -186,7 +181,7 @@ module _ {σ : Store} {s k c : ℕ} {l : Lock} {p : Plan} (w : Decided σ s k c 
     leaves-owned d e m L a b =
         let q = of-own way d e in
         let two = q .1 in
-        carry-own s σ c (h .session) (h .answer) record-is L (moves (λ n. omega arith)) (locked (Buffers.own s) m L a b) ∙ carried-at (Own c) (q .0)
+        carry-own s σ c (h .session) (h .answer) record-is L (moves (λ n. omega arith)) (put-on (Buffers.own s) c _ L l m b a (w .lock)) ∙ carried-at (Own c) (q .0)
 
     pub leaves-published : (d v : ℕ) → p ≡ Publish d v
         → outcome (h .answer) (leaves σ s (σ .lent .locks) (set (σ .lent .values) c v) (σ .lent .logs) (h .session)) ≡ carried s (atEntry σ s k) σ
@@ -203,7 +198,7 @@ module _ {σ : Store} {s k c : ℕ} {l : Lock} {p : Plan} (w : Decided σ s k c 
     leaves-released i j o u m L a b =
         let q = of-release way i j o u in
         let four = last (own σ s .phase) (w .from) (w .upto) (q .1) (q .2) in
-        carry-release s σ c (h .session) (h .answer) record-is L (ends four) (locked (vacate s) m L a b) ∙ carried-at (Release c) (q .0)
-        where
-          last : (x : ℕ) → 2 ≤ x → x ≤ 4 → (x ≡ 2 → ⊥) → (x ≡ 3 → ⊥) → x ≡ 4
-          last x a b c d = omega arith
+        carry-release s σ c (h .session) (h .answer) record-is L (ends four) (put-on (vacate s) c _ L l m b a (w .lock)) ∙ carried-at (Release c) (q .0)
+      where
+        last : (x : ℕ) → 2 ≤ x → x ≤ 4 → (x ≡ 2 → ⊥) → (x ≡ 3 → ⊥) → x ≡ 4
+        last x a b c d = omega arith

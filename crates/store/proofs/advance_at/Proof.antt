@@ -39,33 +39,38 @@ put-requires : tie.Need-put-requires
 put-requires c κs = can-put (decided (c .before .before .before .before .before .before))
 
 returns : tie.Need-returns
-returns c = leaves-waiting (decided (c .before .before .before .before .before .before .before .before .before .before .before .before .before)) _ (c .before .before .before .before .before .before .before .before .before .before .before .enum-told .given .1) _ _ (c .before .before .before .before .before .before .before .claimed .ensures) (c .before .before .before .before .before .before .put .ensures)
+returns c =
+    let q = c .before .before .before .before .before .before in
+    leaves-waiting (decided (q .before .before .before .before .before .before .before)) _ (q .before .before .before .before .before .enum-told .given .1) _ _ (q .before .claimed .ensures) (q .put .ensures)
 
 roll-back-requires : tie.Need-roll-back-requires
 roll-back-requires c κs = can-roll (decided (c .before .before .before .before .before .before .before))
 
 mul-t55 : tie.Need-mul-t55
-mul-t55 c = omega (arith, c .before .before .before .before .before .before .before .before .before .before .before .before .before .before .before .before .before .before .before .before .before .before .before .before .before .before .before .before .before .pre .0 .sized .session)
+mul-t55 c = omega (arith, decided (c .before .before .before .before .before .before .before .before .before .before .before .before .before .before .before) .admitted .sized .session)
 
 element-set-from-sessions : tie.Need-element-set-from-sessions
-element-set-from-sessions c = c .before .before .before .before .before .before .before .before .before .before .before .before .before .before .before .before .before .before .before .before .before .before .before .before .before .before .before .before .before .pre .0 .sized .session
+element-set-from-sessions c = decided (c .before .before .before .before .before .before .before .before .before .before .before .before .before .before .before) .admitted .sized .session
 
 returns-2 : tie.Need-returns-2
-returns-2 c = leaves-rolled (decided (c .before .before .before .before .before .before .before .before .before .before .before .before .before .before .before)) (c .before .before .before .before .before .before .before .before .before .before .before .before .enum-told2 .given .1) _ _ (c .before .before .before .before .before .before .before .roll-back .ensures) (c .rested .ensures)
+returns-2 c =
+    let q = c .before .before .before .before .before .before .before in
+    leaves-rolled (decided (q .before .before .before .before .before .before .before .before)) (q .before .before .before .before .before .enum-told2 .given .1) _ _ (q .roll-back .ensures) (c .rested .ensures)
 
 handle-requires : tie.Need-handle-requires
 handle-requires c κs = can-handle (decided (c .before .before))
 
 element-set-from-y : tie.Need-element-set-from-y
-element-set-from-y c = c .before .before .before .before .before .before .before .before .before .before .before .before .before .before .before .before .before .before .pre .0 .sized .session
+element-set-from-y c = decided (c .before .before .before .before) .admitted .sized .session
 
 put-requires-2 : tie.Need-put-requires-2
 put-requires-2 c κs = can-put (decided (c .before .before .before .before .before .before .before .before .before .before))
 
 returns-3 : tie.Need-returns-3
 returns-3 c =
-    let h = c .before .before .before .before .before .before .before .before .before .before .before in
-    leaves-owned (decided (h .before .before .before .before .before .before)) _ (h .before .before .before .handle .ensures) _ (h .enum-told3 .given .1) _ _ (c .before .before .before .before .before .before .before .owned .ensures) (c .before .before .before .before .before .before .put2 .ensures)
+    let q = c .before .before .before .before .before .before in
+    let h = q .before .before .before .before .before in
+    leaves-owned (decided (h .before .before .before .before .before .before)) _ (h .before .before .before .handle .ensures) _ (h .enum-told3 .given .1) _ _ (q .before .owned .ensures) (q .put2 .ensures)
 
 slice-write-values : tie.Need-slice-write-values
 slice-write-values c = cell-inside (decided (c .before .before .before .before .before .before .before .before))
@@ -74,15 +79,17 @@ returns-4 : tie.Need-returns-4
 returns-4 c = leaves-published (decided (c .before .before .before .before .before .before .before .before)) _ (c .before .before .before .before .before .handle .ensures) _ _ (c .before .p .given .1)
 
 vacated-requires : tie.Need-vacated-requires
-vacated-requires c κs = c .before .before .before .before .before .before .before .before .before .before .before .before .before .before .before .before .before .before .before .before .before .before .before .pre .0 .sized .session
+vacated-requires c κs = decided (c .before .before .before .before .before .before .before .before .before) .admitted .sized .session
 
 put-requires-3 : tie.Need-put-requires-3
 put-requires-3 c κs = can-put (decided (c .before .before .before .before .before .before .before .before .before .before))
 
 returns-5 : tie.Need-returns-5
 returns-5 c =
-    let h = c .before .before .before .before .before .before .before .before .before .before .before in
-    leaves-released (decided (h .before .before .before .before .before .before)) _ (h .before .before .before .handle .ensures) (h .before .before .before .before .before .match .keys2) (h .before .before .before .before .match2 .keys2) (h .before .match3 .keys2) (h .match4 .keys2) _ _ (c .before .before .before .before .before .before .before .vacated .ensures) (c .before .before .before .before .before .before .put3 .ensures)
+    let q = c .before .before .before .before .before .before in
+    let h = q .before .before .before .before .before in
+    leaves-released (decided (h .before .before .before .before .before .before)) _ (h .before .before .before .handle .ensures) (h .before .before .before .before .before .match .keys2) (h .before .before .before .before .match2 .keys2) (h .before .match3 .keys2) (h .match4 .keys2) _ _
+    (q .before .vacated .ensures) (q .put3 .ensures)
 
 pub advance-at-spec : {M : Type 1} → statement M
 advance-at-spec =

@@ -39,17 +39,19 @@ part-drop-reads-end : tie.Need-part-drop-reads-end
 part-drop-reads-end c = part-fits _ _ (fits (c .before .before .before .before .before))
 
 drop-reads-requires : tie.Need-drop-reads-requires
-drop-reads-requires c κs = can-drop _ _ (fits (c .before .before .before .before .before .before .before)) _ (c .before .before .before .before .seal .ensures) (c .before .before .before .match .keys2)
+drop-reads-requires c κs = let t = c .before .before .before in can-drop _ _ (fits (t .before .before .before .before)) _ (t .before .seal .ensures) (t .match .keys2)
 
 returns-4 : tie.Need-returns-4
 returns-4 c =
-    let t = c .before .before .before .before .before .before .before .before .before in
-    seal-commits _ _ (fits (t .before .before .before .before)) _ (t .before .seal .ensures) (t .match .keys2) _ (c .before .before .before .before .before .drop-reads .ensures) _ (c .before .enum-told .given .1) (c .rested .ensures)
+    let d = c .before .before .before .before .before in
+    let t = d .before .before .before .before in
+    seal-commits _ _ (fits (t .before .before .before .before)) _ (t .before .seal .ensures) (t .match .keys2) _ (d .drop-reads .ensures) _ (c .before .enum-told .given .1) (c .rested .ensures)
 
 returns-5 : tie.Need-returns-5
 returns-5 c =
-    let t = c .before .before .before .before .before .before .before .before in
-    seal-promotes _ _ (fits (t .before .before .before .before)) _ (t .before .seal .ensures) (t .match .keys2) _ (c .before .before .before .before .drop-reads .ensures) _ (c .before .match2 .keys2) (c .sealed .ensures)
+    let d = c .before .before .before .before in
+    let t = d .before .before .before .before in
+    seal-promotes _ _ (fits (t .before .before .before .before)) _ (t .before .seal .ensures) (t .match .keys2) _ (d .drop-reads .ensures) _ (c .before .match2 .keys2) (c .sealed .ensures)
 
 pub seal-spec : {M : Type 1} → statement M
 seal-spec =
