@@ -1,6 +1,6 @@
 -- What a peek decides, and what it then hands back and answers: a word of the store, a word of the log, or a refusal and no word.
 use mathlib.Core.Path.{_≡_, refl, sym, ap, _∙_}
-use mathlib.Core.Bool.{true}
+use mathlib.Core.Bool.{true, not}
 use mathlib.Core.Option.{Option, none, some}
 use mathlib.Core.List.{List, []}
 use Prim.Native.Nat.{ℕ, _+_, _*_, _-_, _<_, _≤_}
@@ -10,7 +10,7 @@ use borrow.Rule.Slice.PartAt.{slPart}
 use borrow.Rule.Slice.Shared.{bySize}
 use base.Fml.{GName}
 use denote.Ref.{RefT}
-use lib.Dec.{ltb, eqb}
+use lib.Dec.{T, ltb, eqb}
 use lib.ListN.{length, take, drop}
 use Rattle.model.specs.Buffers.{Store, size, sessionAt, entryAt, slotIn, lengthsFit}
 use Rattle.model.specs.Step.{outcome, taken, planOf, recordOf, recordFits, guard, known, peekPlan, plan, shown}
@@ -28,7 +28,7 @@ use Rattle.store.specs.Lent.{carried, Sized, PartOf, Handed}
 use Rattle.store.proofs.Carry.{carries, carry-refuse, carry-show-store, carry-show-log}
 use Rattle.store.proofs.Refusals.{lengths-of}
 use Rattle.store.proofs.Parts.{own, cut, cut-is}
-use Rattle.store.proofs.Tags.{Passed, passed, apart}
+use Rattle.store.proofs.Tags.{tag, Passed, passed, apart}
 
 -- what the code decides from the part is the model's plan
 pub peek-planned : (σ : Store) (s : ℕ) → Sized σ s → (c : ℕ) (p : Plan) → p ≡ peekOn (length (σ .lent .values)) (cut (σ .lent .logs) s) (own σ s) c
@@ -41,7 +41,7 @@ peek-planned σ s z c p e = e ∙ rw cut-is (peek-agree (σ .lent) s (own σ s) 
 data Peeked (σ : Store) (s c : ℕ) (p : Plan) : Type 0 where
   turned : (r : ℕ) → p ≡ Refuse r → Peeked σ s c p
   plain : c < length (σ .lent .values) → p ≡ ShowStore c → Peeked σ s c p
-  written : (k : ℕ) → k < 32 → s < 16 → length (σ .lent .logs) ≡ 2048 → p ≡ ShowLog k → Peeked σ s c p
+  written : (k : ℕ) → k < 32 → c < length (σ .lent .values) → s < 16 → length (σ .lent .logs) ≡ 2048 → p ≡ ShowLog k → Peeked σ s c p
 
 module _ (σ : Store) (s c : ℕ) where
   by-slot : lengthsFit (σ .lent) ≡ true → s < 16 → c < length (σ .lent .values) → recordOf σ s .count ≤ 32
@@ -50,7 +50,7 @@ module _ (σ : Store) (s c : ℕ) where
   by-slot l h i few none e = turned 14 refl
   by-slot l h i few (some k) e =
       let f = find-some _ c (recordOf σ s .count) e .0 in
-      split (Peeked σ s c) (entryAt (σ .lent .logs) s k .dirty) (λ d. written k (omega arith) h (lengths-of (σ .lent) l .logs) refl) (λ d. plain i refl)
+      split (Peeked σ s c) (entryAt (σ .lent .logs) s k .dirty) (λ d. written k (omega arith) i h (lengths-of (σ .lent) l .logs) refl) (λ d. plain i refl)
 
   peeked : Peeked σ s c (planOf (Peek s c) σ)
   unfolding planOf plan guard known size
@@ -73,25 +73,30 @@ module _ (σ : Store) (s c : ℕ) where
       (λ l. turned 7 refl)
 
 module _ {σ : Store} {s c : ℕ} {p : Plan} where
-  of-store : Peeked σ s c p → (k : ℕ) → p ≡ ShowStore k → (c < length (σ .lent .values)) × (p ≡ ShowStore c)
+  of-any : Peeked σ s c p → (q : Plan) → T (not (eqb 0 (tag q))) → p ≡ q → c < length (σ .lent .values)
+  of-any (turned r f) q t e = absurd (apart p (Refuse r) q t f e)
+  of-any (plain i f) q t e = i
+  of-any (written j l i h w f) q t e = i
+
+  of-store : Peeked σ s c p → (k : ℕ) → p ≡ ShowStore k → p ≡ ShowStore c
   of-store (turned r f) k e = absurd (apart p (Refuse r) (ShowStore k) tt f e)
-  of-store (plain i f) k e = (i, f)
-  of-store (written j l h w f) k e = absurd (apart p (ShowLog j) (ShowStore k) tt f e)
+  of-store (plain i f) k e = f
+  of-store (written j l i h w f) k e = absurd (apart p (ShowLog j) (ShowStore k) tt f e)
 
   of-log : Peeked σ s c p → (k : ℕ) → p ≡ ShowLog k → 128 * s + (4 * k + 2) + 1 ≤ length (σ .lent .logs)
   of-log (turned r f) k e = absurd (apart p (Refuse r) (ShowLog k) tt f e)
   of-log (plain i f) k e = absurd (apart p (ShowStore c) (ShowLog k) tt f e)
-  of-log (written j l h w f) k e = let q : j ≡ k = cc in omega arith
+  of-log (written j l i h w f) k e = let q : j ≡ k = cc in omega arith
 
   of-neither : Peeked σ s c p → Passed 14 p → Passed 15 p → (r : ℕ) × (p ≡ Refuse r)
   of-neither (turned r f) a b = (r, f)
   of-neither (plain i f) a b = absurd (passed 14 p (ShowStore c) tt f a)
-  of-neither (written j l h w f) a b = absurd (passed 15 p (ShowLog j) tt f b)
+  of-neither (written j l i h w f) a b = absurd (passed 15 p (ShowLog j) tt f b)
 
   of-either : Peeked σ s c p → Passed 0 p → outcome Done σ ≡ carried s p σ
   of-either (turned r f) a = absurd (passed 0 p (Refuse r) tt f a)
   of-either (plain i f) a = rw f (carry-show-store s σ c)
-  of-either (written j l h w f) a = rw f (carry-show-log s σ j)
+  of-either (written j l i h w f) a = rw f (carry-show-log s σ j)
 
 -- ---- what each hands back and answers
 
@@ -106,8 +111,9 @@ module _ (σ : Store) (s c : ℕ) (p : Plan) (e : p ≡ planOf (Peek s c) σ) wh
   way : Peeked σ s c p
   way = rw e (peeked σ s c)
 
-  pub peek-inside : (k : ℕ) → p ≡ ShowStore k → c + 1 ≤ length (σ .lent .values)
-  peek-inside k f = omega (arith, of-store way k f .0)
+  -- the cell is inside where the plan is no refusal, which `tt` shows
+  pub peek-inside : (q : Plan) → T (not (eqb 0 (tag q))) → p ≡ q → c + 1 ≤ length (σ .lent .values)
+  peek-inside q t f = omega (arith, of-any way q t f)
 
   pub peek-logged : (k : ℕ) → p ≡ ShowLog k → 128 * s + (4 * k + 2) + 1 ≤ length (σ .lent .logs)
   peek-logged k f = of-log way k f
@@ -121,7 +127,7 @@ module _ (σ : Store) (s c : ℕ) (p : Plan) (e : p ≡ planOf (Peek s c) σ) wh
   module _ (v logs : RefT (List ℕ)) where
     pub hands-store : (k : ℕ) → p ≡ ShowStore k → (γ : GName) → Handed v logs (shown s (planOf (Peek s c) σ)) (slPart v (bySize 4 c (v .ptr .1)) c (c + 1) γ)
     unfolding shown
-    hands-store k f γ = rw (← e, of-store way k f .1) (one v c γ)
+    hands-store k f γ = rw (← e, of-store way k f) (one v c γ)
 
     pub hands-log : (k : ℕ) → p ≡ ShowLog k → (γ : GName)
         → Handed v logs (shown s (planOf (Peek s c) σ)) (slPart logs (bySize 4 (128 * s + (4 * k + 2)) (logs .ptr .1)) (128 * s + (4 * k + 2)) (128 * s + (4 * k + 2) + 1) γ)

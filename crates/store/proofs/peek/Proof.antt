@@ -6,7 +6,7 @@ use Rattle.store.proofs.peek.Statement.{statement}
 use Rattle.store.proofs.peek.Tie as tie
 
 part-result-end : tie.Need-part-result-end
-part-result-end c = peek-inside _ _ _ _ (c .before .before .peek-plan .ensures) _ (c .enum-told .given .1)
+part-result-end c = peek-inside _ _ _ _ (c .before .before .peek-plan .ensures) _ tt (c .enum-told .given .1)
 
 returns : tie.Need-returns
 returns c = hands-store _ _ _ _ (c .before .before .before .peek-plan .ensures) _ _ _ (c .before .enum-told .given .1) _
