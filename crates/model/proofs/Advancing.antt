@@ -16,7 +16,7 @@ use Rattle.model.specs.Isolation.{at}
 use Rattle.model.specs.Readers.{member, otherReaders}
 use Rattle.model.specs.Search.{find, tally}
 use Rattle.model.specs.Step.{change, changeLocks, recordOf}
-use Rattle.model.proofs.Effects.{Acts, ses-same, frame, look-mine, role-gone, shaped, link-mine, locked-still, valued-still, look-is, slot-none, acts, heard}
+use Rattle.model.proofs.Effects.{Acts, ses-same, frame, look-mine, role-gone, shaped, link-mine, locked-still, valued-still, look-is, slot-none, acts, amended}
 use Rattle.model.proofs.Invariant.{roleIn, roleOf, role, latest, Promoting, Finishing, Link, just-past, Inv, role-other, quiet, committing, ticks}
 use Rattle.model.proofs.Laws.{find-some, Low, lowest-is, Long, lock-same, lock-other, long-set, tally-flat, tally-more}
 use Rattle.model.proofs.Ledger.{Txn, ended, advanced, Commit, Ledger, tick, asCommit}
@@ -133,7 +133,7 @@ module _ {start : List ℕ} {σ : Store} {T : Ledger} (s : ℕ) (lt : s < 16) (I
   unfolding late
   role-here q h = role-late σ s c q h ∙ rw (here, reach)
 
-  -- the session moves on, with other locks and figures
+  -- the session moves on, with other locks and values
   module _ (L : Locks) (F : List ℕ) (phase next : ℕ) where
     abbrev τ : Store
     τ = change σ s L F (σ .lent .logs) (moveTo phase next x)
@@ -154,7 +154,7 @@ module _ {start : List ℕ} {σ : Store} {T : Ledger} (s : ℕ) (lt : s < 16) (I
       ((d : ℕ) → (d ≡ c → ⊥) → (role τ d s ≡ role σ d s) × (lockAt L d ≡ lockAt (σ .lent .locks) d) × (getD F d 0 ≡ getD (σ .lent .values) d 0))
       → Locked (role τ c) (lockAt L c) → Valued (role τ c) (getD F c 0) (latest start (T .commits) c)
       → (u : Txn) → Link start (T .commits) (suc (T .place)) (y .next) (look τ s) u (y .phase)
-      → Inv start τ (heard s u (T .commits) T)
+      → Inv start τ (amended s u (T .commits) T)
   one-cell L F y ll lf k sp lo va u li =
       let b = acts (I .shape) s lt L F y in
       quiet s I (frame b) (shaped b lf ll k) u
@@ -162,13 +162,13 @@ module _ {start : List ℕ} {σ : Store} {T : Ledger} (s : ℕ) (lt : s < 16) (I
       (λ d ld. same d c (λ e. rw e va) (λ n. rw (sp d n .2) (valued-still b d (sp d n .0) (I .valued d ld))))
       (link-mine b start (T .commits) (suc (T .place)) u refl li)
 
-  -- the figures stay
+  -- the values stay
   lock-cell : (f : Lock → Lock) (y : Session) → y .count ≤ 32
       → let τ = change σ s (lockOn c f (σ .lent .locks)) (σ .lent .values) (σ .lent .logs) y in
       ((d : ℕ) → (d ≡ c → ⊥) → role τ d s ≡ role σ d s)
       → Locked (role τ c) (f (lockAt (σ .lent .locks) c)) → Valued (role τ c) (getD (σ .lent .values) c 0) (latest start (T .commits) c)
       → (u : Txn) → Link start (T .commits) (suc (T .place)) (y .next) (look τ s) u (y .phase)
-      → Inv start τ (heard s u (T .commits) T)
+      → Inv start τ (amended s u (T .commits) T)
   lock-cell f y k sp lo va u li =
       let w = I .shape .long in
       one-cell (lockOn c f L₀) F₀ y (on-long (length start) c f L₀ w) (I .shape .values) k
@@ -215,7 +215,7 @@ module _ {start : List ℕ} {σ : Store} {T : Ledger} (s : ℕ) (lt : s < 16) (I
 
     pub holds-more : {d : ℕ} → target σ s (suc c) ≡ some d
         → Inv start (change σ s (lockOn c (own s) (σ .lent .locks)) (σ .lent .values) (σ .lent .logs) (moveTo 2 (suc c) (recordOf σ s)))
-        (heard s (advanced (length start) (T .place) (T .mine s)) (T .commits) T)
+        (amended s (advanced (length start) (T .place) (T .mine s)) (T .commits) T)
     holds-more {d} more =
         let L = lockOn c (own s) L₀ in
         let b = a L F₀ 2 (suc c) in
@@ -291,7 +291,7 @@ module _ {start : List ℕ} {σ : Store} {T : Ledger} (s : ℕ) (lt : s < 16) (I
       last-done = rw (prom .open′) (eq-eqb (suc (T .mine s .moved)) (tally (T .mine s .wrote) (length start)) (sym (tally-last last ∙ tally-here)))
 
       pub holds-last : let u = advanced (length start) (T .place) (T .mine s) in
-          Inv start (change σ s (lockOn c (own s) (σ .lent .locks)) (σ .lent .values) (σ .lent .logs) (moveTo 3 0 (recordOf σ s))) (heard s u (asCommit s (T .place) u ∷ T .commits) T)
+          Inv start (change σ s (lockOn c (own s) (σ .lent .locks)) (σ .lent .values) (σ .lent .logs) (moveTo 3 0 (recordOf σ s))) (amended s u (asCommit s (T .place) u ∷ T .commits) T)
       holds-last =
           committing s I (frame b) (shaped b (I .shape .values) (on-long (length start) c (own s) L₀ (I .shape .long)) (I .shape .counts s))
           (advanced (length start) (T .place) (T .mine s)) (asCommit s (T .place) (advanced (length start) (T .place) (T .mine s))) refl
@@ -339,7 +339,7 @@ module _ {start : List ℕ} {σ : Store} {T : Ledger} (s : ℕ) (lt : s < 16) (I
 
       publish-any : (phase next : ℕ) → ((d : ℕ) → (d ≡ c → ⊥) → role (τ L₀ (set F₀ c v) phase next) d s ≡ role σ d s) → role (τ L₀ (set F₀ c v) phase next) c s ≡ published
           → Link start (T .commits) (suc (T .place)) next (look (τ L₀ (set F₀ c v) phase next) s) (advanced (length start) (T .place) (T .mine s)) phase
-          → Inv start (τ L₀ (set F₀ c v) phase next) (heard s (advanced (length start) (T .place) (T .mine s)) (T .commits) T)
+          → Inv start (τ L₀ (set F₀ c v) phase next) (amended s (advanced (length start) (T .place) (T .mine s)) (T .commits) T)
       publish-any phase next sp now li =
           let was : role σ c s ≡ pending v = role-here 1 ph ∙ unfold roleIn in refl in
           let b = a L₀ (set F₀ c v) phase next in
@@ -350,14 +350,14 @@ module _ {start : List ℕ} {σ : Store} {T : Ledger} (s : ℕ) (lt : s < 16) (I
           (advanced (length start) (T .place) (T .mine s)) li
 
       pub publishes-more : Inv start (change σ s (σ .lent .locks) (set (σ .lent .values) c (currentOf (look σ s c))) (σ .lent .logs) (moveTo 3 (suc c) (recordOf σ s)))
-          (heard s (advanced (length start) (T .place) (T .mine s)) (T .commits) T)
+          (amended s (advanced (length start) (T .place) (T .mine s)) (T .commits) T)
       publishes-more =
           publish-any 3 (suc c) (λ d n. role-next L₀ (set F₀ c v) 3 (suc c) 1 d refl ∙ late-same 1 d n ∙ sym (role-late σ s d 1 ph))
           (role-next L₀ (set F₀ c v) 3 (suc c) 1 c refl ∙ unfold late roleIn in rw (here, lt-leb (suc c) c (omega arith))) finished
 
       pub publishes-last : target σ s (suc c) ≡ none
           → Inv start (change σ s (σ .lent .locks) (set (σ .lent .values) c (currentOf (look σ s c))) (σ .lent .logs) (moveTo 4 0 (recordOf σ s)))
-          (heard s (advanced (length start) (T .place) (T .mine s)) (T .commits) T)
+          (amended s (advanced (length start) (T .place) (T .mine s)) (T .commits) T)
       publishes-last last =
           publish-any 4 0
           (λ d n. role-next L₀ (set F₀ c v) 4 0 2 d refl ∙ sym (role-late σ s d 1 ph ∙ unfold late roleIn in
@@ -371,7 +371,7 @@ module _ {start : List ℕ} {σ : Store} {T : Ledger} (s : ℕ) (lt : s < 16) (I
       release-any : (y : Session) → y .count ≤ 32
           → let τ = change σ s (lockOn c (vacate s) (σ .lent .locks)) (σ .lent .values) (σ .lent .logs) y in
           ((d : ℕ) → (d ≡ c → ⊥) → role τ d s ≡ role σ d s) → role τ c s ≡ out
-          → (u : Txn) → Link start (T .commits) (suc (T .place)) (y .next) (look τ s) u (y .phase) → Inv start τ (heard s u (T .commits) T)
+          → (u : Txn) → Link start (T .commits) (suc (T .place)) (y .next) (look τ s) u (y .phase) → Inv start τ (amended s u (T .commits) T)
       release-any y k sp now u li =
           let b = acts (I .shape) s lt (lockOn c (vacate s) L₀) F₀ y in
           lock-cell (vacate s) y k sp
@@ -379,7 +379,7 @@ module _ {start : List ℕ} {σ : Store} {T : Ledger} (s : ℕ) (lt : s < 16) (I
           (stays s (role-other (frame b) c) now (I .valued c inn) (λ f e. cc) (λ f e. cc) (sym (ap pends shown))) u li
 
       pub releases-more : Inv start (change σ s (lockOn c (vacate s) (σ .lent .locks)) (σ .lent .values) (σ .lent .logs) (moveTo 4 (suc c) (recordOf σ s)))
-          (heard s (advanced (length start) (T .place) (T .mine s)) (T .commits) T)
+          (amended s (advanced (length start) (T .place) (T .mine s)) (T .commits) T)
       releases-more =
           let L = lockOn c (vacate s) L₀ in
           release-any (moveTo 4 (suc c) x) (I .shape .counts s)
@@ -388,7 +388,7 @@ module _ {start : List ℕ} {σ : Store} {T : Ledger} (s : ℕ) (lt : s < 16) (I
           (advanced (length start) (T .place) (T .mine s)) finished
 
       pub releases-last : target σ s (suc c) ≡ none
-          → Inv start (change σ s (lockOn c (vacate s) (σ .lent .locks)) (σ .lent .values) (σ .lent .logs) idle) (heard s (ended (T .mine s)) (T .commits) T)
+          → Inv start (change σ s (lockOn c (vacate s) (σ .lent .locks)) (σ .lent .values) (σ .lent .logs) idle) (amended s (ended (T .mine s)) (T .commits) T)
       releases-last last =
           let b = acts (I .shape) s lt (lockOn c (vacate s) L₀) F₀ idle in
           release-any idle (omega arith)

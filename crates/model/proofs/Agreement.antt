@@ -22,7 +22,7 @@ use Rattle.model.proofs.Matching.{OptAll, absorb-mine, absorb-other, Sa
 use Rattle.model.proofs.Runs.{ledger-of, inv-run, match-run}
 use Rattle.model.proofs.Settled.{write-early, keeps-settled}
 use Rattle.model.proofs.Tools.{split, test, clash, both-l, both-r}
-use Rattle.model.proofs.Words.{commitBy, Agrees, agrees, still, told}
+use Rattle.model.proofs.Words.{commitBy, Agrees, agrees, still, one-more}
 
 -- ---- a list that tells nothing
 
@@ -95,7 +95,7 @@ agrees-continued {n} q e (x ∷ r) {u} A late set early =
     (λ y.
     let l = A .live ∙ both-l (not (ends x)) (eqb (sessionOf (e .call)) (sessionOf (x .call))) y in
     let o = eqb-true (sessionOf (e .call)) (sessionOf (x .call)) (both-r (not (ends x)) (eqb (sessionOf (e .call)) (sessionOf (x .call))) y) ∙ sym w in
-    rw (y, absorb-mine n q e u l o) (told A (placed q e) o l late (set l o) (λ s c v. early l s c v o) (e .call) refl))
+    rw (y, absorb-mine n q e u l o) (one-more A (placed q e) o l late (set l o) (λ s c v. early l s c v o) (e .call) refl))
     (λ y.
     rw (
       y,

@@ -191,7 +191,7 @@ module _ {σ : Store} (I : Capped σ) where
       on-cell (Read s c) (readPlan (σ .lent) s (recordOf σ s) c (slotIn (σ .lent .logs) s (recordOf σ s .count) c))
       (λ len lt n.
       choose (Kept (Read s c)) (readPlan (σ .lent) s (recordOf σ s) c) (slotIn (σ .lent .logs) s (recordOf σ s .count) c)
-      (λ _. cell-new (Kept (Read s c)) (recordOf σ s) (lockAt (σ .lent .locks) c) (Enter c) (keep-refusal (Read s c) 5) (keep-rollback (Read s c))
+      (λ _. cell-new (Kept (Read s c)) (recordOf σ s) (lockAt (σ .lent .locks) c) (Enter c) (keep-refusal (Read s c) 5) (λ _. keep-rollback (Read s c))
       (λ room _. (enter-keeps I s n len lt room c, I .stored c)))
       (λ j p. (I, rw p at (current-within I s n c))))
 
@@ -208,7 +208,7 @@ module _ {σ : Store} (I : Capped σ) where
       (λ h.
       let le : v ≤ capOf σ c = leb-true v (cap k) h in
       choose (Kept call) (writeSlot (σ .lent) (recordOf σ s) c v) (slotIn (σ .lent .logs) s m c)
-      (λ _. cell-new (Kept call) (recordOf σ s) (lockAt (σ .lent .locks) c) (EnterUpdate c v) (keep-refusal call 5) (keep-rollback call)
+      (λ _. cell-new (Kept call) (recordOf σ s) (lockAt (σ .lent .locks) c) (EnterUpdate c v) (keep-refusal call 5) (λ _. keep-rollback call)
       (λ room _. (update-keeps (enter-keeps I s n len lt room c) s m v (rw (entered-cell (σ .lent .logs) s m c (getD (σ .lent .values) c 0) lt room len) le), omega arith)))
       (λ j p. (update-keeps I s j v (rw (find-some (cellAt (σ .lent .logs) s) c m p .1) le), omega arith)))
       (λ _. keep-refusal call 4))

@@ -129,8 +129,8 @@ acts {n} {σ} h s lt L F x =
     }
 
 -- the ledger with session s's transaction replaced
-abbrev pub heard : ℕ → Txn → List Commit → Ledger → Ledger
-heard s u ks T = record { place = suc (T .place); mine = upd (T .mine) s u; commits = ks }
+abbrev pub amended : ℕ → Txn → List Commit → Ledger → Ledger
+amended s u ks T = record { place = suc (T .place); mine = upd (T .mine) s u; commits = ks }
 
 module _ {start : List ℕ} {σ : Store} {T : Ledger} (s : ℕ) (lt : s < 16) (I : Inv start σ T) where
   abbrev x : Session
@@ -139,7 +139,7 @@ module _ {start : List ℕ} {σ : Store} {T : Ledger} (s : ℕ) (lt : s < 16) (I
   -- ---- roll-back
 
   pub rolls : ((c : ℕ) → pends (role σ c s) ≡ false) → (u : Txn) → u .live ≡ false
-      → Inv start (change σ s (rolledBack (σ .lent) s (recordOf σ s)) (σ .lent .values) (σ .lent .logs) idle) (heard s u (T .commits) T)
+      → Inv start (change σ s (rolledBack (σ .lent) s (recordOf σ s)) (σ .lent .values) (σ .lent .logs) idle) (amended s u (T .commits) T)
   unfolding rolledBack
   rolls np u dead =
       let a = acts (I .shape) s lt (rolledBack (σ .lent) s x) (σ .lent .values) idle in
@@ -158,7 +158,7 @@ module _ {start : List ℕ} {σ : Store} {T : Ledger} (s : ℕ) (lt : s < 16) (I
   -- ---- begin
 
   pub started : recordOf σ s .phase ≡ 0
-      → Inv start (change σ s (σ .lent .locks) (σ .lent .values) (σ .lent .logs) running) (heard s (opened s (T .place)) (T .commits) T)
+      → Inv start (change σ s (σ .lent .locks) (σ .lent .values) (σ .lent .logs) running) (amended s (opened s (T .place)) (T .commits) T)
   started h =
       let a = acts (I .shape) s lt (σ .lent .locks) (σ .lent .values) running in
       let same-role : (c : ℕ) → role (change σ s (σ .lent .locks) (σ .lent .values) (σ .lent .logs) running) c s ≡ role σ c s = λ c. role-gone a refl c ∙ sym (idle-out σ s c h) in
@@ -178,9 +178,9 @@ module _ {start : List ℕ} {σ : Store} {T : Ledger} (s : ℕ) (lt : s < 16) (I
         clean = λ c e p q. nothing (sym (blank c) ∙ p);
       }))
 
-  -- ---- a figure recorded
+  -- ---- a value told
 
-  pub tells : (c : ℕ) (e : Entry) → recordOf σ s .phase ≡ 1 → look σ s c ≡ some e → Inv start σ (heard s (saw c (e .current) (T .mine s)) (T .commits) T)
+  pub tells : (c : ℕ) (e : Entry) → recordOf σ s .phase ≡ 1 → look σ s c ≡ some e → Inv start σ (amended s (saw c (e .current) (T .mine s)) (T .commits) T)
   tells c e ph h =
       let run : Running (look σ s) (T .mine s) = rw ph at (I .link s) in
       quiet s I (record { ses = λ t n. refl; notes = λ t n. refl }) (I .shape) (saw c (e .current) (T .mine s)) (I .locked) (I .valued)
@@ -258,10 +258,10 @@ module _ {start : List ℕ} {σ : Store} {T : Ledger} (s : ℕ) (lt : s < 16) (I
         (λ n. rw (lock-other c d l (σ .lent .locks) n) h))
         (I .just))
 
-  -- ---- a figure written into an entry
+  -- ---- a value written into an entry
 
   pub notes : (c k v : ℕ) → recordOf σ s .phase ≡ 1 → slot σ s c ≡ some k
-      → Inv start (changeLogs σ (updated (σ .lent .logs) s k v)) (heard s (wroteTo c v (T .mine s)) (T .commits) T)
+      → Inv start (changeLogs σ (updated (σ .lent .logs) s k v)) (amended s (wroteTo c v (T .mine s)) (T .commits) T)
   unfolding updated
   notes c k v ph h =
       quiet s I (frame a) (shaped a (I .shape .values) (I .shape .long) (I .shape .counts s)) (wroteTo c v (T .mine s))

@@ -37,7 +37,7 @@ roleOf x c (some e) = roleIn (x .phase) (publishes e) (leb (x .next) c) (e .snap
 unfoldable pub role : Store → ℕ → ℕ → Role
 role σ c s = roleOf (recordOf σ s) c (look σ s c)
 
--- ---- the last committed figure
+-- ---- the last committed value
 
 unfoldable pub latest : List ℕ → List Commit → ℕ → ℕ
 latest start [] c = getD start c 0

@@ -1,5 +1,6 @@
 pub mod Tools
 pub mod Laws
+pub mod Sets
 pub mod Roles
 pub mod View
 pub mod Ledger
@@ -21,4 +22,8 @@ pub mod Orders
 pub mod Histories
 pub mod OddBuffers
 pub mod Caps
-pub mod Sets
+pub mod SerialLedger
+pub mod SerialLocks
+pub mod SerialCalls
+pub mod Serial
+pub mod SerialExamples

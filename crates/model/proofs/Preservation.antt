@@ -7,7 +7,7 @@ use mathlib.Core.Option.{Option, none, some}
 use mathlib.Core.List.{List, _∷_}
 use lib.Dec.{leb, ltb, eqb}
 use lib.ListN.{length, getD}
-use borrow.Author.Tests.{eqb-true, eqb-false, eq-eqb, ne-eqb, ltb-true, leb-true, not-false}
+use borrow.Author.Tests.{eqb-true, eqb-false, eq-eqb, ne-eqb, ltb-true, leb-true, not-true, not-false}
 use Rattle.model.specs.declared.Session.{Session}
 use Rattle.model.specs.declared.Lock.{Lock}
 use Rattle.model.specs.declared.Call.{Call}
@@ -20,7 +20,7 @@ use Rattle.model.specs.Readers.{otherReaders}
 use Rattle.model.specs.Search.{some?, find, below, tally}
 use Rattle.model.specs.Step.{rolledBack, handled, change, recordOf, after, releasing, answer, recordFits, guard, known, claimed, newCell, readPlan, writeSlot, writePlan, sealPlan, promotePlan, advancePlan, peekPlan, plan, sessionOf, planOf, step, reply}
 use Rattle.model.proofs.Advancing.{target-some, target-none, late, role-late, more-open, holds-more, last-done, holds-last, waits, publishes-more, publishes-last, releases-more, releases-last}
-use Rattle.model.proofs.Effects.{running-role, slot-none, slot-some, heard, rolls, started, tells, enter-phase, enter-look, enter-slot, enters, notes}
+use Rattle.model.proofs.Effects.{running-role, slot-none, slot-some, amended, rolls, started, tells, enter-phase, enter-look, enter-slot, enters, notes}
 use Rattle.model.proofs.Invariant.{roleIn, roleOf, role, Running, Promoting, Finishing, Inv, ticks}
 use Rattle.model.proofs.Laws.{find-some, below-is, tally-flat, tally-more}
 use Rattle.model.proofs.Ledger.{Txn, ended, saw, wroteTo, sealedAt, advanced, over, news, Commit, Ledger, asCommit, amend, amendBy, starts, observe}
@@ -69,14 +69,14 @@ neither-other false false h = absurd (clash true refl h)
 
 module _ (s : ℕ) (f : Txn → Txn) (T : Ledger) (l : T .mine s .live ≡ true) where
   amend-same : (f (T .mine s) .done && not (T .mine s .done)) ≡ false
-      → amend s f T ≡ heard s (f (T .mine s)) (T .commits) T
+      → amend s f T ≡ amended s (f (T .mine s)) (T .commits) T
   unfolding amend
-  amend-same d = cond-true (T .mine s .live) _ _ l ∙ ap (λ (ks : List Commit). heard s (f (T .mine s)) ks T) (cond-false (f (T .mine s) .done && not (T .mine s .done)) _ _ d)
+  amend-same d = cond-true (T .mine s .live) _ _ l ∙ ap (λ (ks : List Commit). amended s (f (T .mine s)) ks T) (cond-false (f (T .mine s) .done && not (T .mine s .done)) _ _ d)
 
   amend-commit : (f (T .mine s) .done && not (T .mine s .done)) ≡ true
-      → amend s f T ≡ heard s (f (T .mine s)) (asCommit s (T .place) (f (T .mine s)) ∷ T .commits) T
+      → amend s f T ≡ amended s (f (T .mine s)) (asCommit s (T .place) (f (T .mine s)) ∷ T .commits) T
   unfolding amend
-  amend-commit d = cond-true (T .mine s .live) _ _ l ∙ ap (λ (ks : List Commit). heard s (f (T .mine s)) ks T) (cond-true (f (T .mine s) .done && not (T .mine s .done)) _ _ d)
+  amend-commit d = cond-true (T .mine s .live) _ _ l ∙ ap (λ (ks : List Commit). amended s (f (T .mine s)) ks T) (cond-true (f (T .mine s) .done && not (T .mine s .done)) _ _ d)
 
 -- ---- what a call that is not turned down has passed
 
@@ -88,21 +88,29 @@ guarded P B s x fits p a b c d f =
     (λ _. split P (ltb s 16) (λ l. split P (recordFits B s x) (λ k. split P fits (λ h. f (ltb-true s 16 l) k h) (λ _. d)) (λ _. c)) (λ _. b))
     (λ _. a)
 
--- a call on a cell below n, and a new cell with room in the log and no claimant
+-- a cell below n
 pub cell-known {ℓ} : (P : Plan → Type ℓ) (B : Buffers) (c : ℕ) (p : Plan) → P (Refuse 3) → (c < size B → P p) → P (known B c p)
 unfolding known
 cell-known P B c p r3 f = split P (ltb c (size B)) (λ l. f (ltb-true c (size B) l)) (λ _. r3)
 
-pub cell-new {ℓ} : (P : Plan → Type ℓ) (x : Session) (l : Lock) (p : Plan) → P (Refuse 5) → P RollBack → (x .count < 32 → l .claimant ≡ 16 → P p) → P (newCell x l p)
+-- a call of a running session on a cell
+pub running-cell {ℓ} : (P : Plan → Type ℓ) (B : Buffers) (s : ℕ) (x : Session) (c : ℕ) (p : Plan) → P (Refuse 7) → P (Refuse 1) → P (Refuse 9) → P (Refuse 2) → P (Refuse 3)
+    → (s < 16 → x .phase ≡ 1 → c < size B → P p) → P (guard B s x (eqb (x .phase) 1) (known B c p))
+running-cell P B s x c p r7 r1 r9 r2 r3 f =
+    guarded P B s x (eqb (x .phase) 1) (known B c p) r7 r1 r9 r2 (λ lt _ h. cell-known P B c p r3 (f lt (eqb-true (x .phase) 1 h)))
+
+-- a cell that is not in the log
+pub cell-new {ℓ} : (P : Plan → Type ℓ) (x : Session) (l : Lock) (p : Plan) → P (Refuse 5) → ((l .claimant ≡ 16 → ⊥) → P RollBack)
+    → (x .count < 32 → l .claimant ≡ 16 → P p) → P (newCell x l p)
 unfolding newCell claimed
 cell-new P x l p r5 r6 f =
     split P (ltb (x .count) 32)
-    (λ n. split P (not (eqb (l .claimant) 16)) (λ _. r6)
+    (λ n. split P (not (eqb (l .claimant) 16)) (λ q. r6 (eqb-false (l .claimant) 16 (not-true (eqb (l .claimant) 16) q)))
     (λ q. f (ltb-true (x .count) 32 n) (eqb-true (l .claimant) 16 (not-false (eqb (l .claimant) 16) q))))
     (λ _. r5)
 
 module _ {start : List ℕ} {σ : Store} {T : Ledger} (I : Inv start σ T) (s : ℕ) (k : recordFits (σ .lent) s (recordOf σ s) ≡ true) where
-  inside : (recordOf σ s .phase ≡ 0 → ⊥) → (c : ℕ) (e : Entry) → look σ s c ≡ some e → c < length start
+  pub inside : (recordOf σ s .phase ≡ 0 → ⊥) → (c : ℕ) (e : Entry) → look σ s c ≡ some e → c < length start
   unfolding recordFits size
   inside n c e h =
       let x = recordOf σ s in
@@ -118,11 +126,11 @@ module _ {start : List ℕ} {σ : Store} {T : Ledger} (I : Inv start σ T) (s : 
       let l = below-is (length (σ .lent .values)) (cellAt (σ .lent .logs) s) (x .count) u j (f .0) in
       omega (arith, f .1, I .shape .values))
 
-  inside-wrote : (recordOf σ s .phase ≡ 0 → ⊥) → (c : ℕ) → written σ s c ≡ true → c < length start
+  pub inside-wrote : (recordOf σ s .phase ≡ 0 → ⊥) → (c : ℕ) → written σ s c ≡ true → c < length start
   unfolding written
   inside-wrote n c w = which (look σ s c) (λ p. absurd (clash (isPublished (look σ s c)) w (rw p))) (λ e p. inside n c e p)
 
-  phase-le : recordOf σ s .phase ≤ 4
+  pub phase-le : recordOf σ s .phase ≤ 4
   unfolding recordFits
   phase-le =
       let x = recordOf σ s in
@@ -188,9 +196,7 @@ module _ {first : List ℕ} {σ : Store} {T : Ledger} (I : Inv first σ T) where
       → Kept k (guard (σ .lent) s (recordOf σ s) (eqb (recordOf σ s .phase) 1) (known (σ .lent) c p))
   unfolding size
   on-cell k c p r7 r1 r9 r2 r3 f =
-      let s = sessionOf k in
-      guarded (Kept k) (σ .lent) s (recordOf σ s) (eqb (recordOf σ s .phase) 1) (known (σ .lent) c p) r7 r1 r9 r2
-      (λ lt _ h. cell-known (Kept k) (σ .lent) c p r3 (λ l. f lt (eqb-true (recordOf σ s .phase) 1 h) (omega (arith, I .shape .values))))
+      running-cell (Kept k) (σ .lent) (sessionOf k) (recordOf σ (sessionOf k)) c p r7 r1 r9 r2 r3 (λ lt ph l. f lt ph (omega (arith, I .shape .values)))
 
   keep-peek : (s c : ℕ) → Kept (Peek s c) (plan (Peek s c) (σ .lent) (recordOf σ s))
   unfolding plan observe news over amendBy after answer peekPlan
@@ -200,7 +206,7 @@ module _ {first : List ℕ} {σ : Store} {T : Ledger} (I : Inv first σ T) where
       choose (Kept (Peek s c)) (peekPlan (σ .lent) s c) (slotIn (σ .lent .logs) s (recordOf σ s .count) c) (λ _. ticks I)
       (λ k _. split (Kept (Peek s c)) (entryAt (σ .lent .logs) s k .dirty) (λ _. ticks I) (λ _. ticks I)))
 
-  runs : (s : ℕ) → recordOf σ s .phase ≡ 1 → Running (look σ s) (T .mine s)
+  pub runs : (s : ℕ) → recordOf σ s .phase ≡ 1 → Running (look σ s) (T .mine s)
   runs s ph = rw ph at (I .link s)
 
   -- a cell that is not in the log
@@ -208,7 +214,7 @@ module _ {first : List ℕ} {σ : Store} {T : Ledger} (I : Inv first σ T) where
       Kept k (Refuse 5) → Kept k RollBack
       → (recordOf σ s .count < 32 → lockAt (σ .lent .locks) c .claimant ≡ 16 → Kept k p)
       → Kept k (newCell (recordOf σ s) (lockAt (σ .lent .locks) c) p)
-  new-cell k c p r5 r6 f = cell-new (Kept k) (recordOf σ (sessionOf k)) (lockAt (σ .lent .locks) c) p r5 r6 f
+  new-cell k c p r5 r6 f = cell-new (Kept k) (recordOf σ (sessionOf k)) (lockAt (σ .lent .locks) c) p r5 (λ _. r6) f
 
   keep-read : (s c : ℕ) → Kept (Read s c) (plan (Read s c) (σ .lent) (recordOf σ s))
   unfolding plan observe news over amendBy after answer readPlan slot
@@ -243,6 +249,15 @@ module _ {first : List ℕ} {σ : Store} {T : Ledger} (I : Inv first σ T) where
       (λ _. ticks I))
       (λ _. ticks I))
 
+  -- a seal that finds no written cell
+  none-targeted : (s : ℕ) → target σ s 0 ≡ none → (c : ℕ) → written σ s c ≡ false
+  none-targeted s p c = flip (written σ s c) (λ w. omega (arith, target-none σ s 0 p c w))
+
+  pub none-written : (s : ℕ) → s < 16 → recordOf σ s .phase ≡ 1 → ((c : ℕ) (e : Entry) → look σ s c ≡ some e → c < length first) → target σ s 0 ≡ none
+      → tally (T .mine s .wrote) (length first) ≡ 0
+  unfolding tally
+  none-written s lt ph ins p = tally-flat (T .mine s .wrote) 0 (length first) (omega arith) (λ c _ _. wrote-is s lt I ph ins c ∙ none-targeted s p c)
+
   keep-seal : (s : ℕ) → Kept (Seal s) (plan (Seal s) (σ .lent) (recordOf σ s))
   unfolding plan observe news over amendBy after answer target sealPlan
   keep-seal s =
@@ -254,11 +269,8 @@ module _ {first : List ℕ} {σ : Store} {T : Ledger} (I : Inv first σ T) where
       let ins = inside I s k non in
       choose (Kept (Seal s)) sealPlan (target σ s 0)
       (λ p.
-      let dry : (c : ℕ) → written σ s c ≡ false = λ c. flip (written σ s c) (λ w. omega (arith, target-none σ s 0 p c w)) in
-      let e : tally (T .mine s .wrote) (length first) ≡ 0 =
-      tally-flat (T .mine s .wrote) 0 (length first) (omega arith) (λ c _ _. wrote-is s lt I ph ins c ∙ dry c) ∙ unfold tally in refl in
-      rw (amend-commit s (λ t. ended (sealedAt (length first) (T .place) t)) T (r .live) (rw (eq-eqb (tally (T .mine s .wrote) (length first)) 0 e, r .open′)))
-      (rests s lt I ph ins dry))
+      rw (amend-commit s (λ t. ended (sealedAt (length first) (T .place) t)) T (r .live) (rw (eq-eqb (tally (T .mine s .wrote) (length first)) 0 (none-written s lt ph ins p), r .open′)))
+      (rests s lt I ph ins (none-targeted s p)))
       (λ c p.
       let w = target-some σ s 0 p .1 in
       let lc = inside-wrote I s k non c w in
@@ -289,7 +301,7 @@ module _ {first : List ℕ} {σ : Store} {T : Ledger} (I : Inv first σ T) where
         (holds-more s lt I ins c tgt ph al p)))
 
     module _ (r : Finishing (T .mine s)) where
-      on-103 : amend s (advanced (length first) (T .place)) T ≡ heard s (advanced (length first) (T .place) (T .mine s)) (T .commits) T
+      on-103 : amend s (advanced (length first) (T .place)) T ≡ amended s (advanced (length first) (T .place) (T .mine s)) (T .commits) T
       on-103 = amend-same s (advanced (length first) (T .place)) T (r .live) (long-done D (T .mine s .done) (r .done))
 
       keep-publish : recordOf σ s .phase ≡ 3 → Kept (Advance s) (Publish c (currentOf (look σ s c)))

@@ -13,7 +13,7 @@ use Rattle.model.specs.History.{ReadOf}
 use Rattle.model.specs.Isolation.{All, at}
 use Rattle.model.specs.Search.{find, tally}
 use Rattle.model.specs.Step.{readsDropped, change, recordOf}
-use Rattle.model.proofs.Effects.{Acts, ses-same, frame, look-mine, role-gone, shaped, link-mine, unknown, running-role, look-is, slot-none, slot-some, acts, heard}
+use Rattle.model.proofs.Effects.{Acts, ses-same, frame, look-mine, role-gone, shaped, link-mine, unknown, running-role, look-is, slot-none, slot-some, acts, amended}
 use Rattle.model.proofs.Invariant.{roleIn, roleOf, role, latest, before-latest, all-map, Running, Inv, Frame, role-other, quiet, committing}
 use Rattle.model.proofs.Laws.{Long, long-sweep, lock-sweep, leave-leave, tally-more}
 use Rattle.model.proofs.Ledger.{Txn, ended, sealedAt, Ledger, asCommit, valueBefore}
@@ -75,7 +75,7 @@ module _ {start : List ℕ} {σ : Store} {T : Ledger} (s : ℕ) (lt : s < 16) (I
       (λ q. stays s (role-other f c) (rw q at b) (I .valued c lc) (λ f e. cc) (λ f e. cc) (sym (no-pend c)))
 
   module _ (inside : (c : ℕ) (e : Entry) → look σ s c ≡ some e → c < length start) where
-    -- each figure read is the last committed one
+    -- each value read is the last committed one
     reads-fair : All (λ (r : ReadOf). r .value ≡ valueBefore (T .place) start (T .commits) (r .cell)) (T .mine s .reads)
     reads-fair =
         all-map
@@ -98,7 +98,7 @@ module _ {start : List ℕ} {σ : Store} {T : Ledger} (s : ℕ) (lt : s < 16) (I
     -- a written cell: it promotes
     pub promotes : (c : ℕ) → c < length start → written σ s c ≡ true
         → Inv start (change σ s (readsDropped (σ .lent) s (recordOf σ s)) (σ .lent .values) (σ .lent .logs) (moveTo 2 0 (recordOf σ s)))
-        (heard s (sealedAt (length start) (T .place) (T .mine s)) (T .commits) T)
+        (amended s (sealedAt (length start) (T .place) (T .mine s)) (T .commits) T)
     promotes c lc wc =
         quiet s I (frame a) (shaped a (I .shape .values) dropped-long (I .shape .counts s)) u
         (λ d ld. dropped-locked (frame a) d ld (role-is d))
@@ -137,7 +137,7 @@ module _ {start : List ℕ} {σ : Store} {T : Ledger} (s : ℕ) (lt : s < 16) (I
     pub rests : ((c : ℕ) → written σ s c ≡ false)
         → let u = ended (sealedAt (length start) (T .place) (T .mine s)) in
         Inv start (change σ s (readsDropped (σ .lent) s (recordOf σ s)) (σ .lent .values) (σ .lent .logs) idle)
-        (heard s u (asCommit s (T .place) u ∷ T .commits) T)
+        (amended s u (asCommit s (T .place) u ∷ T .commits) T)
     rests wn =
         committing s I (frame a) (shaped a (I .shape .values) dropped-long (omega arith)) u (asCommit s (T .place) u) refl
         (λ t c n p q r. clash (T .mine s .wrote c) q (dry c))

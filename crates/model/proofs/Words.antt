@@ -291,8 +291,8 @@ module _ {n : ℕ} {t : List Placed} {u : Txn} (A : Agrees n t u) (x : Placed) (
   -- any call of the session
   module _ (late : 0 < x .place) (set : u .done ≡ true → OptAll (λ f. Same u (f u)) (news n (x .place) (x .call) (x .answer)))
       (early : (s c v : ℕ) → x .call ≡ Write s c v → number (x .answer) ≡ 100 → (u .moved ≡ 0) × (u .snap ≡ 0)) where
-    abbrev Told : Option (Txn → Txn) → Type 0
-    Told o = Agrees n (x ∷ t) (apply o u)
+    abbrev Agreed : Option (Txn → Txn) → Type 0
+    Agreed o = Agrees n (x ∷ t) (apply o u)
 
     -- an answer that ends it or tells nothing
     over-more : Bland x → is 6 100 (x .call) (x .answer) ≡ false → Agrees n (x ∷ t) (apply (over (x .answer)) u)
@@ -300,28 +300,28 @@ module _ {n : ℕ} {t : List Placed} {u : Txn} (A : Agrees n t u) (x : Placed) (
     over-more B w =
         test (eqb (number (x .answer)) 6 || eqb (number (x .answer)) 105) (λ y. rw y (bland B true (rw y))) (λ y. rw y (bland B false (rw (y, w))))
 
-    pub told : (k : Call) → x .call ≡ k → Agrees n (x ∷ t) (apply (news n (x .place) k (x .answer)) u)
+    pub one-more : (k : Call) → x .call ≡ k → Agrees n (x ∷ t) (apply (news n (x .place) k (x .answer)) u)
     unfolding news apply
-    told (Begin s) e = over-more (record { writes = λ c. rw e; reads = rw e; seals = rw e; moves = rw e }) (rw e)
-    told (Read s c) e =
-        split Told (eqb (number (x .answer)) 101) (λ y. read-more s c e (eqb-true (number (x .answer)) 101 y))
+    one-more (Begin s) e = over-more (record { writes = λ c. rw e; reads = rw e; seals = rw e; moves = rw e }) (rw e)
+    one-more (Read s c) e =
+        split Agreed (eqb (number (x .answer)) 101) (λ y. read-more s c e (eqb-true (number (x .answer)) 101 y))
         (λ y. over-more (record { writes = λ c. rw e; reads = rw (e, y); seals = rw e; moves = rw e }) (rw e))
-    told (Write s c v) e =
-        split Told (eqb (number (x .answer)) 100)
+    one-more (Write s c v) e =
+        split Agreed (eqb (number (x .answer)) 100)
         (λ y. let a = eqb-true (number (x .answer)) 100 y in write-more s c v e a (λ d. rw (e, y) at (set d)) (early s c v e a))
         (λ y. over-more (record { writes = λ c. rw (e, y); reads = rw e; seals = rw e; moves = rw e }) (rw e))
-    told (Seal s) e =
-        split Told (eqb (number (x .answer)) 102)
+    one-more (Seal s) e =
+        split Agreed (eqb (number (x .answer)) 102)
         (λ y. seal-more s e late (λ d. rw (e, y) at (set d)) (eqb-true (number (x .answer)) 102 y))
-        (λ y. split Told (eqb (number (x .answer)) 105)
+        (λ y. split Agreed (eqb (number (x .answer)) 105)
         (λ z. seal-end s e late (λ d. let w = rw (e, y, z) at (set d) in record { done = w .done; commit = w .commit; snap = w .snap; reads = w .reads; wrote = w .wrote; value = w .value; who = w .who })
         (eqb-true (number (x .answer)) 105 z))
         (λ z. over-more (record { writes = λ c. rw e; reads = rw e; seals = rw (e, y, z); moves = rw e }) (rw e)))
-    told (Advance s) e =
-        split Told (eqb (number (x .answer)) 103) (λ y. advance-more s e (eqb-true (number (x .answer)) 103 y) late)
+    one-more (Advance s) e =
+        split Agreed (eqb (number (x .answer)) 103) (λ y. advance-more s e (eqb-true (number (x .answer)) 103 y) late)
         (λ y. over-more (record { writes = λ c. rw e; reads = rw e; seals = rw e; moves = rw (e, y) }) (rw e))
-    told (Abandon s) e =
-        split Told (eqb (number (x .answer)) 100)
+    one-more (Abandon s) e =
+        split Agreed (eqb (number (x .answer)) 100)
         (λ y. bland (record { writes = λ c. rw e; reads = rw e; seals = rw e; moves = rw e }) true (rw (e, y) (or-true (eqb (number (x .answer)) 6 || eqb (number (x .answer)) 105))))
         (λ y. over-more (record { writes = λ c. rw e; reads = rw e; seals = rw e; moves = rw e }) (rw (e, y)))
-    told (Peek s c) e = over-more (record { writes = λ c. rw e; reads = rw e; seals = rw e; moves = rw e }) (rw e)
+    one-more (Peek s c) e = over-more (record { writes = λ c. rw e; reads = rw e; seals = rw e; moves = rw e }) (rw e)

@@ -1,0 +1,391 @@
+/* A plain C store with the steps of document 01. Every call judges its lent buffers and its session's record anew. */
+#include "plain_store.h"
+
+#include <string.h>
+
+enum { IDLE, RUNNING, PROMOTING, PUBLISHING, RELEASING };
+
+enum { CELL, SNAPSHOT_VALUE, CURRENT_VALUE, DIRTY };
+
+static const uint32_t caps[16] = {1, 6, 8, 10, 12, 15, 18, 21, 24, 27, 30, 36, 42, 48, 60, 4294967295u};
+
+static inline plain_answer answer(uint32_t number)
+{
+    plain_answer a = {number, 0};
+    return a;
+}
+
+static inline uint32_t *entry_at(const plain_lent *lent, uint8_t session, uint32_t i)
+{
+    return lent->logs + PLAIN_SESSION_WORDS * session + PLAIN_ENTRY_WORDS * i;
+}
+
+/* Whether no entry before `i` is for the same cell: of several entries the first counts. */
+static inline int is_first(const uint32_t *log, uint32_t i)
+{
+    uint32_t cell = log[PLAIN_ENTRY_WORDS * i + CELL];
+    for (uint32_t j = 0; j < i; j++) {
+        if (log[PLAIN_ENTRY_WORDS * j + CELL] == cell) {
+            return 0;
+        }
+    }
+    return 1;
+}
+
+/* The entry that counts for a cell; `count` if there is none. */
+static inline uint32_t find(const uint32_t *log, uint32_t count, uint32_t cell)
+{
+    uint32_t i = 0;
+    while (i < count && log[PLAIN_ENTRY_WORDS * i + CELL] != cell) {
+        i++;
+    }
+    return i;
+}
+
+/* What an advance handles: the entry of the lowest dirty cell not below next, and whether a higher dirty cell is left. */
+typedef struct {
+    uint32_t entry;
+    int more;
+} dirty_step;
+
+/* The step from `from` on; its entry is `count` if there is none. */
+static inline dirty_step lowest_dirty(const uint32_t *log, uint32_t count, uint32_t from)
+{
+    dirty_step step = {count, 0};
+    uint32_t lowest = UINT32_MAX;
+    for (uint32_t i = 0; i < count; i++) {
+        uint32_t cell = log[PLAIN_ENTRY_WORDS * i + CELL];
+        uint32_t dirty = log[PLAIN_ENTRY_WORDS * i + DIRTY] & 1;
+        if (!dirty || cell < from || cell == lowest || (cell > lowest && step.more) || !is_first(log, i)) {
+            continue;
+        }
+        step.more = step.entry < count;
+        if (cell < lowest) {
+            step.entry = i;
+            lowest = cell;
+        }
+    }
+    return step;
+}
+
+static inline int lengths_fit(const plain_lent *lent)
+{
+    size_t n = lent->values_len;
+    return n >= 1 && n <= PLAIN_MAX_CELLS && lent->classes_len == n && lent->readers_len == n &&
+           lent->claimants_len == n && lent->exclusives_len == n && lent->logs_len == PLAIN_LOG_WORDS;
+}
+
+/* Refusals 7, 1 and 9, or 0. In phases 2 to 4 `step` becomes what an advance handles. */
+static inline uint32_t judge(const plain_lent *lent, const plain_session *sessions, uint8_t session, dirty_step *step)
+{
+    if (!lengths_fit(lent)) {
+        return 7;
+    }
+    if (session >= PLAIN_SESSIONS) {
+        return 1;
+    }
+    plain_session record = sessions[session];
+    if (record.phase > RELEASING) {
+        return 9;
+    }
+    if (record.phase == IDLE) {
+        return 0;
+    }
+    if (record.count > PLAIN_MAX_ENTRIES) {
+        return 9;
+    }
+    const uint32_t *log = entry_at(lent, session, 0);
+    uint32_t n = (uint32_t)lent->values_len;
+    int stray = 0;
+    for (uint32_t i = 0; i < record.count; i++) {
+        stray |= log[PLAIN_ENTRY_WORDS * i + CELL] >= n;
+    }
+    if (stray) {
+        return 9;
+    }
+    if (record.phase >= PROMOTING) {
+        *step = lowest_dirty(log, record.count, record.next);
+        if (step->entry == record.count) {
+            return 9;
+        }
+    }
+    return 0;
+}
+
+static inline void go_idle(plain_session *record)
+{
+    record->phase = IDLE;
+    record->count = 0;
+    record->next = 0;
+}
+
+static inline void leave(const plain_lent *lent, uint8_t session, uint32_t cell)
+{
+    lent->readers[cell] &= (uint16_t)~(1u << session);
+}
+
+static void roll_back(const plain_lent *lent, plain_session *record, uint8_t session)
+{
+    const uint32_t *log = entry_at(lent, session, 0);
+    for (uint32_t i = 0; i < record->count; i++) {
+        uint32_t cell = log[PLAIN_ENTRY_WORDS * i + CELL];
+        leave(lent, session, cell);
+        if (lent->claimants[cell] == session) {
+            lent->claimants[cell] = PLAIN_NOBODY;
+            lent->exclusives[cell] = 0;
+        }
+    }
+    go_idle(record);
+}
+
+/* Makes `entry` the cell's entry. A new cell is locked and entered, or refused with 5 or 6; 0 if it is entered. */
+static inline uint32_t enter(const plain_lent *lent, plain_session *record, uint8_t session, uint32_t cell, uint32_t **entry)
+{
+    uint32_t i = find(entry_at(lent, session, 0), record->count, cell);
+    *entry = entry_at(lent, session, i);
+    if (i < record->count) {
+        return 0;
+    }
+    if (i == PLAIN_MAX_ENTRIES) {
+        return 5;
+    }
+    if (lent->claimants[cell] != PLAIN_NOBODY) {
+        roll_back(lent, record, session);
+        return 6;
+    }
+    lent->readers[cell] |= (uint16_t)(1u << session);
+    uint32_t value = lent->values[cell];
+    (*entry)[CELL] = cell;
+    (*entry)[SNAPSHOT_VALUE] = value;
+    (*entry)[CURRENT_VALUE] = value;
+    (*entry)[DIRTY] = 0;
+    record->count++;
+    return 0;
+}
+
+plain_answer plain_set_up(const plain_lent *lent, plain_session *sessions)
+{
+    if (!lengths_fit(lent)) {
+        return answer(7);
+    }
+    size_t n = lent->values_len;
+    for (size_t i = 0; i < n; i++) {
+        uint8_t class = lent->classes[i];
+        if (class > PLAIN_MAX_CLASS || lent->values[i] > caps[class]) {
+            return answer(8);
+        }
+    }
+    for (int s = 0; s < PLAIN_SESSIONS; s++) {
+        go_idle(&sessions[s]);
+    }
+    memset(lent->readers, 0, n * sizeof lent->readers[0]);
+    memset(lent->claimants, PLAIN_NOBODY, n);
+    memset(lent->exclusives, 0, n);
+    memset(lent->logs, 0, PLAIN_LOG_WORDS * sizeof lent->logs[0]);
+    return answer(100);
+}
+
+plain_answer plain_begin(const plain_lent *lent, plain_session *sessions, uint8_t session)
+{
+    dirty_step step;
+    uint32_t refused = judge(lent, sessions, session, &step);
+    if (refused) {
+        return answer(refused);
+    }
+    plain_session *record = &sessions[session];
+    if (record->phase != IDLE) {
+        return answer(2);
+    }
+    record->phase = RUNNING;
+    record->count = 0;
+    record->next = 0;
+    return answer(100);
+}
+
+plain_answer plain_read(const plain_lent *lent, plain_session *sessions, uint8_t session, uint32_t cell)
+{
+    dirty_step step;
+    uint32_t refused = judge(lent, sessions, session, &step);
+    if (refused) {
+        return answer(refused);
+    }
+    plain_session *record = &sessions[session];
+    if (record->phase != RUNNING) {
+        return answer(2);
+    }
+    if (cell >= lent->values_len) {
+        return answer(3);
+    }
+    uint32_t *entry;
+    refused = enter(lent, record, session, cell, &entry);
+    if (refused) {
+        return answer(refused);
+    }
+    plain_answer found = {101, entry[CURRENT_VALUE]};
+    return found;
+}
+
+plain_answer plain_write(const plain_lent *lent, plain_session *sessions, uint8_t session, uint32_t cell, uint32_t value)
+{
+    dirty_step step;
+    uint32_t refused = judge(lent, sessions, session, &step);
+    if (refused) {
+        return answer(refused);
+    }
+    plain_session *record = &sessions[session];
+    if (record->phase != RUNNING) {
+        return answer(2);
+    }
+    if (cell >= lent->values_len) {
+        return answer(3);
+    }
+    uint8_t class = lent->classes[cell];
+    if (class > PLAIN_MAX_CLASS) {
+        return answer(8);
+    }
+    if (value > caps[class]) {
+        return answer(4);
+    }
+    uint32_t *entry;
+    refused = enter(lent, record, session, cell, &entry);
+    if (refused) {
+        return answer(refused);
+    }
+    entry[CURRENT_VALUE] = value;
+    entry[DIRTY] = 1;
+    return answer(100);
+}
+
+plain_answer plain_seal(const plain_lent *lent, plain_session *sessions, uint8_t session)
+{
+    dirty_step step;
+    uint32_t refused = judge(lent, sessions, session, &step);
+    if (refused) {
+        return answer(refused);
+    }
+    plain_session *record = &sessions[session];
+    if (record->phase != RUNNING) {
+        return answer(2);
+    }
+    const uint32_t *log = entry_at(lent, session, 0);
+    uint64_t seen[PLAIN_MAX_CELLS / 64] = {0};
+    int any_dirty = 0;
+    for (uint32_t i = 0; i < record->count; i++) {
+        uint32_t cell = log[PLAIN_ENTRY_WORDS * i + CELL];
+        uint64_t bit = UINT64_C(1) << (cell % 64);
+        if (seen[cell / 64] & bit) {
+            continue;
+        }
+        seen[cell / 64] |= bit;
+        if (log[PLAIN_ENTRY_WORDS * i + DIRTY] & 1) {
+            any_dirty = 1;
+        } else {
+            leave(lent, session, cell);
+        }
+    }
+    if (!any_dirty) {
+        go_idle(record);
+        return answer(105);
+    }
+    record->phase = PROMOTING;
+    record->next = 0;
+    return answer(102);
+}
+
+plain_answer plain_advance(const plain_lent *lent, plain_session *sessions, uint8_t session)
+{
+    dirty_step step = {0, 0};
+    uint32_t refused = judge(lent, sessions, session, &step);
+    if (refused) {
+        return answer(refused);
+    }
+    plain_session *record = &sessions[session];
+    if (record->phase < PROMOTING) {
+        return answer(2);
+    }
+    const uint32_t *entry = entry_at(lent, session, step.entry);
+    uint32_t cell = entry[CELL];
+    if (record->phase == PROMOTING) {
+        uint8_t claimant = lent->claimants[cell];
+        if (claimant != PLAIN_NOBODY && claimant != session) {
+            roll_back(lent, record, session);
+            return answer(6);
+        }
+        lent->claimants[cell] = session;
+        if (lent->readers[cell] & ~(1u << session)) {
+            return answer(104);
+        }
+        lent->exclusives[cell] = 1;
+    } else if (record->phase == PUBLISHING) {
+        lent->values[cell] = entry[CURRENT_VALUE];
+    } else {
+        leave(lent, session, cell);
+        lent->claimants[cell] = PLAIN_NOBODY;
+        lent->exclusives[cell] = 0;
+    }
+    if (step.more) {
+        record->next = (uint16_t)(cell + 1);
+        return answer(103);
+    }
+    if (record->phase == RELEASING) {
+        go_idle(record);
+        return answer(105);
+    }
+    record->phase++;
+    record->next = 0;
+    return answer(103);
+}
+
+plain_answer plain_abandon(const plain_lent *lent, plain_session *sessions, uint8_t session)
+{
+    dirty_step step;
+    uint32_t refused = judge(lent, sessions, session, &step);
+    if (refused) {
+        return answer(refused);
+    }
+    plain_session *record = &sessions[session];
+    if (record->phase != RUNNING && record->phase != PROMOTING) {
+        return answer(2);
+    }
+    roll_back(lent, record, session);
+    return answer(100);
+}
+
+/* Judges a peek: 100 or a refusal. With 100 `entry` is the cell's entry. */
+static inline uint32_t judge_peek(const plain_lent *lent, const plain_session *sessions, uint8_t session, uint32_t cell,
+                                  const uint32_t **entry)
+{
+    dirty_step step;
+    uint32_t refused = judge(lent, sessions, session, &step);
+    if (refused) {
+        return refused;
+    }
+    if (sessions[session].phase != RUNNING) {
+        return 2;
+    }
+    if (cell >= lent->values_len) {
+        return 3;
+    }
+    uint32_t count = sessions[session].count;
+    uint32_t i = find(entry_at(lent, session, 0), count, cell);
+    *entry = entry_at(lent, session, i);
+    return i < count ? 100 : 14;
+}
+
+plain_answer plain_peek_number(const plain_lent *lent, const plain_session *sessions, uint8_t session, uint32_t cell)
+{
+    const uint32_t *entry;
+    return answer(judge_peek(lent, sessions, session, cell, &entry));
+}
+
+plain_part plain_peek(const plain_lent *lent, const plain_session *sessions, uint8_t session, uint32_t cell)
+{
+    const uint32_t *entry;
+    plain_part part = {NULL, 0};
+    if (judge_peek(lent, sessions, session, cell, &entry) != 100) {
+        return part;
+    }
+    part.words = entry[DIRTY] & 1 ? &entry[CURRENT_VALUE] : &lent->values[cell];
+    part.len = 1;
+    return part;
+}

@@ -1,0 +1,65 @@
+/* A plain C store with the steps of document 01, on lent buffers: the baseline of the proved store's speed. */
+#ifndef PLAIN_STORE_H
+#define PLAIN_STORE_H
+
+#include <stddef.h>
+#include <stdint.h>
+
+enum {
+    PLAIN_SESSIONS = 16,
+    PLAIN_MAX_CELLS = 1024,
+    PLAIN_MAX_ENTRIES = 32,
+    PLAIN_ENTRY_WORDS = 4,
+    PLAIN_SESSION_WORDS = 128,
+    PLAIN_LOG_WORDS = 2048,
+    PLAIN_NOBODY = 16,
+    PLAIN_MAX_CLASS = 15
+};
+
+/* A session's record. */
+typedef struct {
+    uint8_t phase;
+    uint8_t count;
+    uint16_t next;
+} plain_session;
+
+/* Document 01's number, and a value (figure) that is 0 except with 101. */
+typedef struct {
+    uint32_t number;
+    uint32_t value;
+} plain_answer;
+
+/* A peek's part: one word of the values or of the logs, or none. */
+typedef struct {
+    const uint32_t *words;
+    size_t len;
+} plain_part;
+
+/* What the caller lends, each run with its length. `exclusives` are the writer marks. */
+typedef struct {
+    uint32_t *values;
+    size_t values_len;
+    const uint8_t *classes;
+    size_t classes_len;
+    uint16_t *readers;
+    size_t readers_len;
+    uint8_t *claimants;
+    size_t claimants_len;
+    uint8_t *exclusives;
+    size_t exclusives_len;
+    uint32_t *logs;
+    size_t logs_len;
+} plain_lent;
+
+/* Every call takes the sixteen records behind `sessions`. */
+plain_answer plain_set_up(const plain_lent *lent, plain_session *sessions);
+plain_answer plain_begin(const plain_lent *lent, plain_session *sessions, uint8_t session);
+plain_answer plain_read(const plain_lent *lent, plain_session *sessions, uint8_t session, uint32_t cell);
+plain_answer plain_write(const plain_lent *lent, plain_session *sessions, uint8_t session, uint32_t cell, uint32_t value);
+plain_answer plain_seal(const plain_lent *lent, plain_session *sessions, uint8_t session);
+plain_answer plain_advance(const plain_lent *lent, plain_session *sessions, uint8_t session);
+plain_answer plain_abandon(const plain_lent *lent, plain_session *sessions, uint8_t session);
+plain_answer plain_peek_number(const plain_lent *lent, const plain_session *sessions, uint8_t session, uint32_t cell);
+plain_part plain_peek(const plain_lent *lent, const plain_session *sessions, uint8_t session, uint32_t cell);
+
+#endif

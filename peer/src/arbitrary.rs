@@ -1,0 +1,231 @@
+//! Lent buffers with arbitrary contents, single calls on them, and arbitrary fields: what no replay can reach.
+
+use crate::field::Field;
+use crate::random::Random;
+use crate::store::{Buffers, Call, Session, CAPS, LOG_WORDS, MAX_ENTRIES, NOBODY, SESSIONS};
+use std::collections::BTreeMap;
+use std::fmt;
+
+/// The numbers that each call must be seen to answer over a run on arbitrary buffers.
+pub const REQUIRED: [(&str, &[u32]); 8] = [
+    ("set-up", &[7, 8, 100]),
+    ("begin", &[1, 2, 7, 9, 100]),
+    ("read", &[1, 2, 3, 5, 6, 7, 9, 101]),
+    ("write", &[1, 2, 3, 4, 5, 6, 7, 8, 9, 100]),
+    ("seal", &[1, 2, 7, 9, 102, 105]),
+    ("advance", &[1, 2, 6, 7, 9, 103, 104, 105]),
+    ("abandon", &[1, 2, 7, 9, 100]),
+    ("peek", &[1, 2, 3, 7, 9, 14, 100]),
+];
+
+/// The numbers that the field reader and the field writer must be seen to answer.
+pub const REQUIRED_FIELDS: [(&str, &[u32]); 2] = [("read field", &[10, 11, 12, 100, 106]), ("write field", &[11, 13, 100])];
+
+/// How often each kind of call gave each number.
+#[derive(Default)]
+pub struct Numbers {
+    counts: BTreeMap<&'static str, BTreeMap<u32, u64>>,
+}
+
+impl Numbers {
+    pub fn add(&mut self, kind: &'static str, number: u32) {
+        *self.counts.entry(kind).or_default().entry(number).or_default() += 1;
+    }
+
+    /// The required numbers that did not occur.
+    pub fn missing(&self, required: &[(&str, &[u32])]) -> Vec<String> {
+        let seen = |kind: &str, number: &u32| self.counts.get(kind).map_or(false, |counts| counts.contains_key(number));
+        let pairs = required.iter().flat_map(|(kind, numbers)| numbers.iter().map(move |number| (kind, number)));
+        pairs.filter(|(kind, number)| !seen(kind, number)).map(|(kind, number)| format!("{} {}", kind, number)).collect()
+    }
+}
+
+impl fmt::Display for Numbers {
+    fn fmt(&self, f: &mut fmt::Formatter) -> fmt::Result {
+        for (kind, counts) in &self.counts {
+            write!(f, "{}:", kind)?;
+            for (number, times) in counts {
+                write!(f, "  {} x {}", number, times)?;
+            }
+            writeln!(f)?;
+        }
+        Ok(())
+    }
+}
+
+pub fn kind(call: Call) -> &'static str {
+    match call {
+        Call::SetUp => "set-up",
+        Call::Begin { .. } => "begin",
+        Call::Read { .. } => "read",
+        Call::Write { .. } => "write",
+        Call::Seal { .. } => "seal",
+        Call::Advance { .. } => "advance",
+        Call::Abandon { .. } => "abandon",
+        Call::Peek { .. } => "peek",
+    }
+}
+
+/// Buffers of any contents. Most have lengths that fit, so that the later refusals and the steps are reached.
+pub fn buffers(random: &Random) -> Buffers {
+    let n = random.pick(&[1, 2, 3, 3, 4, 6, 9, 40, 1024, random.range(1, 1024)]);
+    let tame = random.percent(30);
+    let classes: Vec<u8> = (0..n).map(|_| class(random, tame)).collect();
+    let mut buffers = Buffers {
+        values: classes.iter().map(|class| value(random, *class, tame)).collect(),
+        readers: (0..n).map(|_| readers(random)).collect(),
+        claimants: (0..n).map(|_| claimant(random)).collect(),
+        exclusives: (0..n).map(|_| random.pick(&[0, 0, 1, 1, random.byte()])).collect(),
+        classes,
+        logs: Vec::with_capacity(LOG_WORDS),
+        sessions: [Session::default(); SESSIONS],
+    };
+    for session in 0..SESSIONS {
+        buffers.sessions[session] = record(random, n);
+        log(random, n, &mut buffers.logs);
+    }
+    if random.percent(5) {
+        misfit(random, &mut buffers);
+    }
+    buffers
+}
+
+fn class(random: &Random, tame: bool) -> u8 {
+    if tame || random.percent(90) {
+        return random.pick(&[0, 2, 14, 15, random.below(16) as u8]);
+    }
+    random.pick(&[16, 255, random.byte()])
+}
+
+fn value(random: &Random, class: u8, tame: bool) -> u32 {
+    let cap = CAPS.get(class as usize).copied().unwrap_or(0);
+    if tame {
+        return random.pick(&[0, cap, random.word() % 2]);
+    }
+    random.pick(&[0, cap, cap.wrapping_add(1), random.word()])
+}
+
+fn readers(random: &Random) -> u16 {
+    let one = 1 << random.below(SESSIONS);
+    random.pick(&[0, 0, one, one | 1 << random.below(SESSIONS), random.word() as u16])
+}
+
+fn claimant(random: &Random) -> u8 {
+    match random.weighted(&[70, 22, 8]) {
+        0 => NOBODY,
+        1 => random.below(SESSIONS) as u8,
+        _ => random.byte(),
+    }
+}
+
+fn record(random: &Random, n: usize) -> Session {
+    let phase = match random.weighted(&[14, 40, 18, 12, 12, 4]) {
+        5 => random.pick(&[5, 255, random.byte()]),
+        phase => phase as u8,
+    };
+    let count = match random.weighted(&[50, 25, 12, 8, 5]) {
+        0 => random.below(7) as u8,
+        1 => random.below(MAX_ENTRIES + 1) as u8,
+        2 => MAX_ENTRIES as u8,
+        3 => MAX_ENTRIES as u8 - 1,
+        _ => random.pick(&[33, 34, 128, 255, random.byte()]),
+    };
+    let next = match random.weighted(&[55, 35, 10]) {
+        0 => 0,
+        1 => random.below(n + 2) as u16,
+        _ => random.pick(&[1023, 1024, 1025, 65_535, random.word() as u16]),
+    };
+    Session { phase, count, next }
+}
+
+/// Appends one session's 128 words: few different cells, so that a cell often has several entries; now and then one not below n.
+fn log(random: &Random, n: usize, logs: &mut Vec<u32>) {
+    let pool = random.pick(&[n, n, n.min(3), n.min(8)]);
+    let first = random.below(n - pool + 1);
+    let stray = if random.percent(12) { Some(random.below(MAX_ENTRIES)) } else { None };
+    let clean = random.percent(15);
+    for index in 0..MAX_ENTRIES {
+        let cell = if stray == Some(index) {
+            random.pick(&[n as u32, n as u32 + 1, u32::MAX, 1 << 16, random.word()])
+        } else {
+            (first + random.below(pool)) as u32
+        };
+        let dirty = random.pick(&[0, 1, random.word(), 2, 3, u32::MAX]);
+        logs.extend_from_slice(&[cell, random.word(), random.word(), if clean { dirty & !1 } else { dirty }]);
+    }
+}
+
+/// Gives one buffer a wrong length, or all of them a length that no store has.
+fn misfit(random: &Random, buffers: &mut Buffers) {
+    let n = buffers.values.len();
+    let other = random.pick(&[0, n - 1, n + 1, 1024, 1025]);
+    match random.below(8) {
+        0 => buffers.values.resize(other, 0),
+        1 => buffers.classes.resize(other, 0),
+        2 => buffers.readers.resize(other, 0),
+        3 => buffers.claimants.resize(other, 0),
+        4 => buffers.exclusives.resize(other, 0),
+        5 => buffers.logs.resize(random.pick(&[0, 128, 2047, 2049, 4096]), 0),
+        _ => {
+            let length = random.pick(&[0, 1025, 2000]);
+            buffers.values.resize(length, 0);
+            buffers.classes.resize(length, 0);
+            buffers.readers.resize(length, 0);
+            buffers.claimants.resize(length, NOBODY);
+            buffers.exclusives.resize(length, 0);
+        }
+    }
+}
+
+/// Any call, mostly of one session and on cells of the store.
+pub fn call(random: &Random, buffers: &Buffers, own: u8) -> Call {
+    let session = if random.percent(4) { random.pick(&[16, 17, 255, random.byte()]) } else { own };
+    let n = buffers.values.len();
+    let cell = if random.percent(5) || n == 0 {
+        random.pick(&[n as u32, n as u32 + 1, u32::MAX, 1 << 16, random.word()])
+    } else if random.percent(40) {
+        buffers.logs.get(128 * own as usize).copied().unwrap_or(0)
+    } else {
+        random.below(n) as u32
+    };
+    let cap = buffers.classes.get(cell as usize).and_then(|class| CAPS.get(*class as usize)).copied().unwrap_or(0);
+    let value = random.pick(&[0, cap, cap.wrapping_add(1), random.word()]);
+    match random.weighted(&[2, 8, 20, 24, 10, 24, 4, 8]) {
+        0 => Call::SetUp,
+        1 => Call::Begin { session },
+        2 => Call::Read { session, cell },
+        3 => Call::Write { session, cell, value },
+        4 => Call::Seal { session },
+        5 => Call::Advance { session },
+        6 => Call::Abandon { session },
+        _ => Call::Peek { session, cell },
+    }
+}
+
+/// Any field to write, and a target of any length and contents.
+pub fn field(random: &Random) -> (Field, Vec<u8>) {
+    let field = Field {
+        tag: random.pick(&[1, 2, 3, 4, 5, 6, 8, random.byte()]),
+        session: random.byte(),
+        cell: random.word() as u16,
+        class: random.byte(),
+        value: random.word(),
+    };
+    let target = (0..random.below(14)).map(|_| random.byte()).collect();
+    (field, target)
+}
+
+/// Bytes to read a field from, often a good one, and a place in or after them.
+pub fn bytes(random: &Random) -> (Vec<u8>, usize) {
+    let mut bytes: Vec<u8> = (0..random.below(12)).map(|_| random.byte()).collect();
+    let place = random.below(bytes.len() + 3);
+    if let Some(tag) = bytes.get_mut(place) {
+        *tag = random.pick(&[1, 2, 3, 4, 5, 6, 8, *tag]);
+        let own = crate::field::body_length(*tag).unwrap_or(1) as u8;
+        if random.percent(80) && place + 2 < bytes.len() {
+            bytes[place + 1] = own;
+            bytes[place + 2] = if random.percent(90) { 0 } else { random.byte() };
+        }
+    }
+    (bytes, place)
+}

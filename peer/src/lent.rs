@@ -1,0 +1,109 @@
+//! What the caller lends, the session records, the calls and their answers: document 01, 'What the caller lends' and the numbers.
+
+/// The number of sessions.
+pub const SESSIONS: usize = 16;
+/// The most cells a store has.
+pub const MAX_CELLS: usize = 1024;
+/// The most entries in one session's log.
+pub const MAX_ENTRIES: usize = 32;
+/// Words of one entry: cell, snapshot value (figure found), current value (present figure), dirty (written).
+pub const ENTRY_WORDS: usize = 4;
+/// Words of one session's log.
+pub const SESSION_WORDS: usize = 128;
+/// Words of all logs.
+pub const LOG_WORDS: usize = 2048;
+/// The claimant byte that is nobody.
+pub const NOBODY: u8 = 16;
+/// The highest class.
+pub const MAX_CLASS: u8 = 15;
+
+/// The cap of each class.
+pub const CAPS: [u32; 16] = [1, 6, 8, 10, 12, 15, 18, 21, 24, 27, 30, 36, 42, 48, 60, 4_294_967_295];
+
+pub const IDLE: u8 = 0;
+pub const RUNNING: u8 = 1;
+pub const PROMOTING: u8 = 2;
+pub const PUBLISHING: u8 = 3;
+pub const RELEASING: u8 = 4;
+
+pub const NO_SUCH_SESSION: u32 = 1;
+pub const WRONG_PHASE: u32 = 2;
+pub const NO_SUCH_CELL: u32 = 3;
+pub const OVER_CAP: u32 = 4;
+pub const LOG_FULL: u32 = 5;
+pub const CLAIMED: u32 = 6;
+pub const WRONG_LENGTH: u32 = 7;
+pub const BAD_CELL: u32 = 8;
+pub const DAMAGED: u32 = 9;
+pub const NOT_IN_LOG: u32 = 14;
+
+pub const DONE: u32 = 100;
+pub const VALUE: u32 = 101;
+pub const SEALED: u32 = 102;
+pub const MOVED: u32 = 103;
+pub const WAITING: u32 = 104;
+pub const COMMITTED: u32 = 105;
+
+/// A session's record; any values may come in.
+#[derive(Clone, Copy, Debug, Default, PartialEq, Eq)]
+pub struct Session {
+    pub phase: u8,
+    pub count: u8,
+    pub next: u16,
+}
+
+/// What a call returns: document 01's number, and a value (figure) that is 0 except with 101.
+#[derive(Clone, Copy, Debug, PartialEq, Eq)]
+pub struct Answer {
+    pub number: u32,
+    pub value: u32,
+}
+
+/// The part that a peek hands back, as the index of its word in the values or in all the logs.
+#[derive(Clone, Copy, Debug, PartialEq, Eq)]
+pub enum Part {
+    Empty,
+    Value(usize),
+    Log(usize),
+}
+
+/// One call on the store.
+#[derive(Clone, Copy, Debug, PartialEq, Eq)]
+pub enum Call {
+    SetUp,
+    Begin { session: u8 },
+    Read { session: u8, cell: u32 },
+    Write { session: u8, cell: u32, value: u32 },
+    Seal { session: u8 },
+    Advance { session: u8 },
+    Abandon { session: u8 },
+    Peek { session: u8, cell: u32 },
+}
+
+/// What the caller lends, and the sixteen records. Lock records lie in three runs, each with a length of its own.
+#[derive(Clone, Debug, PartialEq, Eq)]
+pub struct Buffers {
+    pub values: Vec<u32>,
+    pub classes: Vec<u8>,
+    pub readers: Vec<u16>,
+    pub claimants: Vec<u8>,
+    pub exclusives: Vec<u8>,
+    pub logs: Vec<u32>,
+    pub sessions: [Session; SESSIONS],
+}
+
+impl Buffers {
+    /// Buffers of the right lengths for these values and classes, with empty logs and idle sessions; set-up is still due.
+    pub fn new(values: Vec<u32>, classes: Vec<u8>) -> Buffers {
+        let n = values.len();
+        Buffers {
+            values,
+            classes,
+            readers: vec![0; n],
+            claimants: vec![NOBODY; n],
+            exclusives: vec![0; n],
+            logs: vec![0; LOG_WORDS],
+            sessions: [Session::default(); SESSIONS],
+        }
+    }
+}

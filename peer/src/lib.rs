@@ -1,0 +1,16 @@
+//! Document 01 read a second time, from the paper alone: the store, the call fields and the replay, and the random
+//! lists that compare them with other programs. Nothing here is shared with the proved crates.
+
+pub mod arbitrary;
+pub mod boundary;
+pub mod field;
+pub mod generate;
+pub mod lent;
+pub mod options;
+pub mod random;
+pub mod replay;
+pub mod store;
+pub mod tally;
+
+#[cfg(feature = "plain")]
+pub mod plain;

@@ -1,0 +1,148 @@
+//! The plain C store and the plain C fields behind the boundary, through the C calling convention.
+
+use crate::boundary::{located, Fields, Store};
+use crate::field::{Field, Reading};
+use crate::store::{Answer, Buffers, Call, Part, Session};
+
+/// The layout of `plain_lent`: each run with its length.
+#[repr(C)]
+struct Lent {
+    values: *mut u32,
+    values_len: usize,
+    classes: *const u8,
+    classes_len: usize,
+    readers: *mut u16,
+    readers_len: usize,
+    claimants: *mut u8,
+    claimants_len: usize,
+    exclusives: *mut u8,
+    exclusives_len: usize,
+    logs: *mut u32,
+    logs_len: usize,
+}
+
+#[repr(C)]
+#[derive(Clone, Copy)]
+struct Record {
+    phase: u8,
+    count: u8,
+    next: u16,
+}
+
+#[repr(C)]
+struct CAnswer {
+    number: u32,
+    value: u32,
+}
+
+#[repr(C)]
+struct CPart {
+    words: *const u32,
+    len: usize,
+}
+
+#[repr(C)]
+#[derive(Clone, Copy)]
+struct CField {
+    tag: u8,
+    session: u8,
+    cell: u16,
+    class: u8,
+    value: u32,
+}
+
+#[repr(C)]
+struct CReading {
+    number: u32,
+    length: usize,
+    field: CField,
+}
+
+#[repr(C)]
+struct CWriting {
+    number: u32,
+    length: usize,
+}
+
+extern "C" {
+    fn plain_set_up(lent: *const Lent, sessions: *mut Record) -> CAnswer;
+    fn plain_begin(lent: *const Lent, sessions: *mut Record, session: u8) -> CAnswer;
+    fn plain_read(lent: *const Lent, sessions: *mut Record, session: u8, cell: u32) -> CAnswer;
+    fn plain_write(lent: *const Lent, sessions: *mut Record, session: u8, cell: u32, value: u32) -> CAnswer;
+    fn plain_seal(lent: *const Lent, sessions: *mut Record, session: u8) -> CAnswer;
+    fn plain_advance(lent: *const Lent, sessions: *mut Record, session: u8) -> CAnswer;
+    fn plain_abandon(lent: *const Lent, sessions: *mut Record, session: u8) -> CAnswer;
+    fn plain_peek_number(lent: *const Lent, sessions: *const Record, session: u8, cell: u32) -> CAnswer;
+    fn plain_peek(lent: *const Lent, sessions: *const Record, session: u8, cell: u32) -> CPart;
+    fn read_field(bytes: *const u8, len: usize, place: usize) -> CReading;
+    fn write_field(target: *mut u8, len: usize, field: CField) -> CWriting;
+}
+
+pub struct Plain;
+
+impl Store for Plain {
+    fn name(&self) -> String {
+        "plain C store".to_string()
+    }
+
+    fn call(&mut self, buffers: &mut Buffers, call: Call) -> (Answer, Part) {
+        let mut records = buffers.sessions.map(|Session { phase, count, next }| Record { phase, count, next });
+        let lent = Lent {
+            values: buffers.values.as_mut_ptr(),
+            values_len: buffers.values.len(),
+            classes: buffers.classes.as_ptr(),
+            classes_len: buffers.classes.len(),
+            readers: buffers.readers.as_mut_ptr(),
+            readers_len: buffers.readers.len(),
+            claimants: buffers.claimants.as_mut_ptr(),
+            claimants_len: buffers.claimants.len(),
+            exclusives: buffers.exclusives.as_mut_ptr(),
+            exclusives_len: buffers.exclusives.len(),
+            logs: buffers.logs.as_mut_ptr(),
+            logs_len: buffers.logs.len(),
+        };
+        let sessions = records.as_mut_ptr();
+        let mut part = Part::Empty;
+        // SAFETY: the pointers and lengths are those of live vectors, and the sixteen records are behind `sessions`.
+        let answer = unsafe {
+            match call {
+                Call::SetUp => plain_set_up(&lent, sessions),
+                Call::Begin { session } => plain_begin(&lent, sessions, session),
+                Call::Read { session, cell } => plain_read(&lent, sessions, session, cell),
+                Call::Write { session, cell, value } => plain_write(&lent, sessions, session, cell, value),
+                Call::Seal { session } => plain_seal(&lent, sessions, session),
+                Call::Advance { session } => plain_advance(&lent, sessions, session),
+                Call::Abandon { session } => plain_abandon(&lent, sessions, session),
+                Call::Peek { session, cell } => {
+                    let handed = plain_peek(&lent, sessions, session, cell);
+                    if handed.len > 0 {
+                        part = located(buffers, std::slice::from_raw_parts(handed.words, handed.len));
+                    }
+                    plain_peek_number(&lent, sessions, session, cell)
+                }
+            }
+        };
+        buffers.sessions = records.map(|Record { phase, count, next }| Session { phase, count, next });
+        (Answer { number: answer.number, value: answer.value }, part)
+    }
+}
+
+impl Fields for Plain {
+    fn name(&self) -> String {
+        "plain C fields".to_string()
+    }
+
+    fn read(&mut self, bytes: &[u8], place: usize) -> Reading {
+        // SAFETY: the pointer and the length are those of the slice.
+        let reading = unsafe { read_field(bytes.as_ptr(), bytes.len(), place) };
+        let CField { tag, session, cell, class, value } = reading.field;
+        Reading { number: reading.number, place, length: reading.length, field: Field { tag, session, cell, class, value } }
+    }
+
+    fn write(&mut self, target: &mut [u8], field: &Field) -> (u32, usize) {
+        let Field { tag, session, cell, class, value } = *field;
+        // SAFETY: the pointer and the length are those of the slice.
+        let writing = unsafe { write_field(target.as_mut_ptr(), target.len(), CField { tag, session, cell, class, value }) };
+        (writing.number, writing.length)
+    }
+}

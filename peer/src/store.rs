@@ -1,0 +1,324 @@
+//! The store's calls: document 01, 'The steps' and 'When a call is turned down'.
+//! Every call is total: it says what happens for any contents and any lengths of the lent buffers.
+
+pub use crate::lent::*;
+
+/// One log entry and the index of its first word in all the logs.
+#[derive(Clone, Copy)]
+struct Entry {
+    at: usize,
+    cell: u32,
+    current: u32,
+    dirty: bool,
+}
+
+/// The entries of the calling session, judged: at most 32, every cell in the store.
+struct Entries(Vec<Entry>);
+
+impl Entries {
+    /// The entry that counts for a cell: of several, the first.
+    fn find(&self, cell: u32) -> Option<Entry> {
+        self.0.iter().copied().find(|entry| entry.cell == cell)
+    }
+
+    /// The entries that count, one for each entered cell.
+    fn counting(&self) -> impl Iterator<Item = Entry> + '_ {
+        self.0.iter().copied().filter(move |entry| self.find(entry.cell).map(|first| first.at) == Some(entry.at))
+    }
+
+    /// The lowest dirty cell not below `next`.
+    fn lowest_dirty(&self, next: u32) -> Option<Entry> {
+        self.counting().filter(|entry| entry.dirty && entry.cell >= next).min_by_key(|entry| entry.cell)
+    }
+}
+
+fn refuse(number: u32) -> Answer {
+    Answer { number, value: 0 }
+}
+
+fn good(number: u32) -> Answer {
+    Answer { number, value: 0 }
+}
+
+impl Buffers {
+    /// Any call by its name. A peek's number is that of its twin.
+    pub fn call(&mut self, call: Call) -> Answer {
+        match call {
+            Call::SetUp => self.set_up(),
+            Call::Begin { session } => self.begin(session),
+            Call::Read { session, cell } => self.read(session, cell),
+            Call::Write { session, cell, value } => self.write(session, cell, value),
+            Call::Seal { session } => self.seal(session),
+            Call::Advance { session } => self.advance(session),
+            Call::Abandon { session } => self.abandon(session),
+            Call::Peek { session, cell } => self.peek_number(session, cell),
+        }
+    }
+
+    pub fn set_up(&mut self) -> Answer {
+        if !self.lengths_fit() {
+            return refuse(WRONG_LENGTH);
+        }
+        for (value, class) in self.values.iter().zip(&self.classes) {
+            if *class > MAX_CLASS || *value > CAPS[*class as usize] {
+                return refuse(BAD_CELL);
+            }
+        }
+        self.sessions = [Session::default(); SESSIONS];
+        self.readers.fill(0);
+        self.claimants.fill(NOBODY);
+        self.exclusives.fill(0);
+        self.logs.fill(0);
+        good(DONE)
+    }
+
+    pub fn begin(&mut self, session: u8) -> Answer {
+        if let Err(number) = self.judge(session, &[IDLE]) {
+            return refuse(number);
+        }
+        self.sessions[session as usize] = Session { phase: RUNNING, count: 0, next: 0 };
+        good(DONE)
+    }
+
+    pub fn read(&mut self, session: u8, cell: u32) -> Answer {
+        let entries = match self.judge(session, &[RUNNING]) {
+            Ok(entries) => entries,
+            Err(number) => return refuse(number),
+        };
+        if cell as usize >= self.values.len() {
+            return refuse(NO_SUCH_CELL);
+        }
+        match self.enter(session, cell, &entries) {
+            Ok(at) => Answer { number: VALUE, value: self.logs[at + 2] },
+            Err(number) => refuse(number),
+        }
+    }
+
+    pub fn write(&mut self, session: u8, cell: u32, value: u32) -> Answer {
+        let entries = match self.judge(session, &[RUNNING]) {
+            Ok(entries) => entries,
+            Err(number) => return refuse(number),
+        };
+        if cell as usize >= self.values.len() {
+            return refuse(NO_SUCH_CELL);
+        }
+        let class = self.classes[cell as usize];
+        if class > MAX_CLASS {
+            return refuse(BAD_CELL);
+        }
+        if value > CAPS[class as usize] {
+            return refuse(OVER_CAP);
+        }
+        match self.enter(session, cell, &entries) {
+            Ok(at) => {
+                self.logs[at + 2] = value;
+                self.logs[at + 3] = 1;
+                good(DONE)
+            }
+            Err(number) => refuse(number),
+        }
+    }
+
+    pub fn seal(&mut self, session: u8) -> Answer {
+        let entries = match self.judge(session, &[RUNNING]) {
+            Ok(entries) => entries,
+            Err(number) => return refuse(number),
+        };
+        for entry in entries.counting().filter(|entry| !entry.dirty) {
+            self.leave(session, entry.cell);
+        }
+        if entries.lowest_dirty(0).is_none() {
+            self.go_idle(session);
+            return good(COMMITTED);
+        }
+        let record = &mut self.sessions[session as usize];
+        record.phase = PROMOTING;
+        record.next = 0;
+        good(SEALED)
+    }
+
+    pub fn advance(&mut self, session: u8) -> Answer {
+        let entries = match self.judge(session, &[PROMOTING, PUBLISHING, RELEASING]) {
+            Ok(entries) => entries,
+            Err(number) => return refuse(number),
+        };
+        let record = self.sessions[session as usize];
+        let entry = entries.lowest_dirty(record.next as u32).expect("judged");
+        let cell = entry.cell as usize;
+        match record.phase {
+            PROMOTING => {
+                let claimant = self.claimants[cell];
+                if claimant != NOBODY && claimant != session {
+                    self.roll_back(session, &entries);
+                    return refuse(CLAIMED);
+                }
+                self.claimants[cell] = session;
+                let others = self.readers[cell] & !own_bit(session);
+                if others.count_ones() > 0 {
+                    return good(WAITING);
+                }
+                self.exclusives[cell] = 1;
+            }
+            PUBLISHING => self.values[cell] = entry.current,
+            _ => {
+                self.leave(session, entry.cell);
+                self.claimants[cell] = NOBODY;
+                self.exclusives[cell] = 0;
+            }
+        }
+        self.handled(session, entry.cell, &entries)
+    }
+
+    pub fn abandon(&mut self, session: u8) -> Answer {
+        match self.judge(session, &[RUNNING, PROMOTING]) {
+            Ok(entries) => {
+                self.roll_back(session, &entries);
+                good(DONE)
+            }
+            Err(number) => refuse(number),
+        }
+    }
+
+    /// Peek's twin: the number alone.
+    pub fn peek_number(&self, session: u8, cell: u32) -> Answer {
+        match self.peek_part(session, cell) {
+            Ok(_) => good(DONE),
+            Err(number) => refuse(number),
+        }
+    }
+
+    /// Peek: a part one word long of the values or of the logs, empty where the twin refuses.
+    pub fn peek(&self, session: u8, cell: u32) -> &[u32] {
+        match self.peek_part(session, cell) {
+            Ok(Part::Value(at)) => &self.values[at..at + 1],
+            Ok(Part::Log(at)) => &self.logs[at..at + 1],
+            _ => &[],
+        }
+    }
+
+    /// Where the peeked word stands, or the refusal.
+    pub fn peek_part(&self, session: u8, cell: u32) -> Result<Part, u32> {
+        let entries = self.judge(session, &[RUNNING])?;
+        if cell as usize >= self.values.len() {
+            return Err(NO_SUCH_CELL);
+        }
+        match entries.find(cell) {
+            None => Err(NOT_IN_LOG),
+            Some(entry) if entry.dirty => Ok(Part::Log(entry.at + 2)),
+            Some(_) => Ok(Part::Value(cell as usize)),
+        }
+    }
+
+    fn lengths_fit(&self) -> bool {
+        let n = self.values.len();
+        (1..=MAX_CELLS).contains(&n)
+            && self.classes.len() == n
+            && self.readers.len() == n
+            && self.claimants.len() == n
+            && self.exclusives.len() == n
+            && self.logs.len() == LOG_WORDS
+    }
+
+    /// Refusals 7, 1, 9 and 2, in this order; otherwise the session's entries. An idle session has none, whatever its count.
+    fn judge(&self, session: u8, phases: &[u8]) -> Result<Entries, u32> {
+        if !self.lengths_fit() {
+            return Err(WRONG_LENGTH);
+        }
+        if session as usize >= SESSIONS {
+            return Err(NO_SUCH_SESSION);
+        }
+        let record = self.sessions[session as usize];
+        if record.phase > RELEASING {
+            return Err(DAMAGED);
+        }
+        let mut entries = Entries(Vec::new());
+        if record.phase != IDLE {
+            if record.count as usize > MAX_ENTRIES {
+                return Err(DAMAGED);
+            }
+            entries = self.entries(session);
+            if entries.0.iter().any(|entry| entry.cell as usize >= self.values.len()) {
+                return Err(DAMAGED);
+            }
+            if record.phase >= PROMOTING && entries.lowest_dirty(record.next as u32).is_none() {
+                return Err(DAMAGED);
+            }
+        }
+        if !phases.contains(&record.phase) {
+            return Err(WRONG_PHASE);
+        }
+        Ok(entries)
+    }
+
+    /// The session's entries as they stand in its log.
+    fn entries(&self, session: u8) -> Entries {
+        let count = self.sessions[session as usize].count as usize;
+        let start = SESSION_WORDS * session as usize;
+        let entry = |index: usize| {
+            let at = start + ENTRY_WORDS * index;
+            Entry { at, cell: self.logs[at], current: self.logs[at + 2], dirty: self.logs[at + 3] % 2 == 1 }
+        };
+        Entries((0..count).map(entry).collect())
+    }
+
+    /// The first word of the cell's entry; a new cell is locked and entered, or refused with 5 or 6.
+    fn enter(&mut self, session: u8, cell: u32, entries: &Entries) -> Result<usize, u32> {
+        if let Some(entry) = entries.find(cell) {
+            return Ok(entry.at);
+        }
+        let count = entries.0.len();
+        if count == MAX_ENTRIES {
+            return Err(LOG_FULL);
+        }
+        if self.claimants[cell as usize] != NOBODY {
+            self.roll_back(session, entries);
+            return Err(CLAIMED);
+        }
+        self.readers[cell as usize] |= own_bit(session);
+        let at = SESSION_WORDS * session as usize + ENTRY_WORDS * count;
+        let value = self.values[cell as usize];
+        self.logs[at..at + ENTRY_WORDS].copy_from_slice(&[cell, value, value, 0]);
+        self.sessions[session as usize].count += 1;
+        Ok(at)
+    }
+
+    /// The end of an advance that handled a cell.
+    fn handled(&mut self, session: u8, cell: u32, entries: &Entries) -> Answer {
+        let record = &mut self.sessions[session as usize];
+        record.next = cell as u16 + 1;
+        if entries.lowest_dirty(cell + 1).is_some() {
+            return good(MOVED);
+        }
+        if record.phase == RELEASING {
+            self.go_idle(session);
+            return good(COMMITTED);
+        }
+        record.phase += 1;
+        record.next = 0;
+        good(MOVED)
+    }
+
+    fn roll_back(&mut self, session: u8, entries: &Entries) {
+        for entry in &entries.0 {
+            self.leave(session, entry.cell);
+            if self.claimants[entry.cell as usize] == session {
+                self.claimants[entry.cell as usize] = NOBODY;
+                self.exclusives[entry.cell as usize] = 0;
+            }
+        }
+        self.go_idle(session);
+    }
+
+    fn leave(&mut self, session: u8, cell: u32) {
+        self.readers[cell as usize] &= !own_bit(session);
+    }
+
+    fn go_idle(&mut self, session: u8) {
+        self.sessions[session as usize] = Session { phase: IDLE, count: 0, next: 0 };
+    }
+}
+
+/// The session's bit in a reader set.
+fn own_bit(session: u8) -> u16 {
+    1 << session
+}
