@@ -1,4 +1,4 @@
--- What a walk cites of `lock_at` and `change_at` where it lends them a run that it keeps (`Lent.antt`): what each one's triple binds outside, what it asks, and what it gives.
+-- What a walk cites of `lock_at`, `change_at` and `sweep` where it lends them a run that it keeps (`Lent.antt`): what each one's triple binds outside, what it asks, and what it gives.
 -- Assumes `Given`.
 use mathlib.Core.Path.{_≡_, refl, _∙_}
 use Prim.Native.Nat.{ℕ, _<_, _^_}
@@ -18,7 +18,7 @@ use contract.Monad.{Fun, fact}
 use types.Kit.{Given, Item, ‵, raw, some, given, later, _⊛_, mean, ⋆, _$_, _∵_, !, qed, move, keep, use1, split, join, pick, fsplit, fjoin, feqL, frame, await, updating, now as at-once, show, check, done}
 use denote.Laws.{Is}
 use denote.Plain.{uint-makes}
-use denote.Builtin.{usize, unit}
+use denote.Builtin.{u32, usize, unit}
 use denote.Slice.{MutSlice, ShrSlice, sliceVal, finally}
 use denote.Steps.{nothing, owned, heard}
 use denote.Triple.Statement.{Contract}
@@ -27,11 +27,12 @@ use denote.Triple.Spec.{tripleOf}
 use denote.Triple.Walked.{says}
 use Rattle.model.specs.declared.Lock.{Lock}
 use Rattle.lockrun.specs.declared.Change.{Change}
-use Rattle.lockrun.specs.Run.{lockIn, Known, changedAt}
+use Rattle.lockrun.specs.Run.{lockIn, Known, Fits, changedAt, sweptBy}
 use Rattle.lockrun.proofs.Row.{R, RC, low-c, makes-c}
 use Rattle.lockrun.proofs.Lent.{ref-at}
 use Rattle.lockrun.proofs.lock_at as lock-at
 use Rattle.lockrun.proofs.change_at as change-at
+use Rattle.lockrun.proofs.sweep as sweep
 
 module _ {M : Type 1} (𝓤 : URA M) (H : Heap 𝓤) (A : Atoms 𝓤) (mem : Memory → SProp 𝓤) (run : Routine → Fun 𝓤) where
   abbrev pub LockAt : Contract 𝓤
@@ -84,3 +85,27 @@ module _ {M : Type 1} (𝓤 : URA M) (H : Heap 𝓤) (A : Atoms 𝓤) (mem : Mem
           split ! $ move ! (1 ∷ []) $ heard ! (zs .0 ≡ changedAt d c ys) (λ is. fsplit ! $ fsplit ! $ move ! (1 ∷ []) $ feqL ! (λ e. move ! (2 ∷ []) $ split ! $ split ! $
           -- [the token; true; the result; what says the last list; true]
           keep ! (0 ∷ 3 ∷ 2 ∷ []) $ at-once ! $ show ! (λ (us : List Lock). mean 𝓤 H A (given (length us ≡ n) (‵ (flft (ν ∷ []) fullShare) ⊛ (‵ (finally R δ us) ⊛ ch-gives v us)))) (zs .0) $ check ! (e ∙ len) $ frame ! $ frame ! $ check ! is $ done !))))
+
+  -- ---- `sweep`
+  abbrev pub Sweep : Contract 𝓤
+  Sweep = tripleOf 𝓤 H A sweep.signature (sweep.spec 𝓤 H A mem run)
+
+  module _ (W : Given 𝓤 H A) (b o n : ℕ) (ys : List Lock) (b₂ o₂ n₂ : ℕ) (logs : List ℕ) (d : Change) (gd : Is RC d (low-c d ∷ [])) (ok : Fits logs d) where
+    abbrev pub sw-to : ℕ → GName → GName → Sweep .Ghost
+    sw-to ν δ δ₂ = (((ν ∷ [], tt), (fullShare, tt), tt, (ref-at b o δ ys, (ref-at b₂ o₂ δ₂ logs, (d, tt))), (sliceVal (b, o) n ∷ [], (sliceVal (b₂, o₂) n₂ ∷ [], (low-c d ∷ [], tt)))), tt)
+
+    abbrev pub sw-gives : Val → List Lock → Item 𝓤
+    sw-gives v zs = given (zs ≡ sweptBy logs d ys) (‵ (unit .own tt (v ∷ [])))
+
+    pub sw-goes : (ν : ℕ) (δ δ₂ : GName) → ent 𝓤 (⋆ 𝓤 H A (‵ (flft (ν ∷ []) fullShare) ∷ ‵ (MutSlice (named 0) (ν ∷ []) R .own (ref-at b o δ ys) (sliceVal (b, o) n ∷ [])) ∷ ‵ (ShrSlice (named 0) (ν ∷ []) u32 .own (ref-at b₂ o₂ δ₂ logs) (sliceVal (b₂, o₂) n₂ ∷ [])) ∷ ‵ ftrue ∷ [])) (Sweep .pre (sw-to ν δ δ₂))
+    sw-goes ν δ δ₂ =
+        qed W (‵ (flft (ν ∷ []) fullShare) ∷ ‵ (MutSlice (named 0) (ν ∷ []) R .own (ref-at b o δ ys) (sliceVal (b, o) n ∷ [])) ∷ ‵ (ShrSlice (named 0) (ν ∷ []) u32 .own (ref-at b₂ o₂ δ₂ logs) (sliceVal (b₂, o₂) n₂ ∷ [])) ∷ ‵ ftrue ∷ []) ∵ says ! ok $ move ! (0 ∷ 3 ∷ []) $ join ! $ frame ! $
+        nothing ! $ owned ! RC (Is RC) (makes-c 𝓤 H A) d (low-c d ∷ []) gd $ fjoin ! $ move ! (2 ∷ 0 ∷ []) $ fjoin ! $ move ! (1 ∷ 0 ∷ []) $ fjoin ! $ done !
+
+    pub sw-gets : length ys ≡ n → (ν : ℕ) (δ δ₂ : GName) (v : Val) → ent 𝓤 (Sweep .post (sw-to ν δ δ₂) v) (mean 𝓤 H A (later (some (λ (zs : List Lock). given (length zs ≡ n) (‵ (flft (ν ∷ []) fullShare) ⊛ (‵ (finally R δ zs) ⊛ sw-gives v zs))))))
+    sw-gets len ν δ δ₂ v =
+        qed W (raw (Sweep .post (sw-to ν δ δ₂) v) ∷ []) ∵ updating ! $
+        use1 W (later (some (λ (r : Unit {0}). ((‵ (flft (ν ∷ []) fullShare) ⊛ ‵ ftrue) ⊛ ‵ (unit .own r (v ∷ []))) ⊛ raw (ensured 𝓤 H A sweep.ended (sweep.clauses 𝓤 H A mem run) (ν ∷ [], tt) (ref-at b o δ ys, (ref-at b₂ o₂ δ₂ logs, (d, tt))) tt r)))) (id⊢ 𝓤 _) $ await ! tt $ pick ! (λ r.
+        split ! $ move ! (1 ∷ []) $ use1 W (some (λ (zs : List Lock × (Unit {0} × (Unit {0} × Unit {0}))). ‵ (lasts sweep.ended (ν ∷ [], tt) (ref-at b o δ ys, (ref-at b₂ o₂ δ₂ logs, (d, tt))) zs) ⊛ raw (fact 𝓤 (zs .0 ≡ sweptBy logs d ys)))) (id⊢ 𝓤 _) $ pick ! (λ zs.
+        split ! $ move ! (1 ∷ []) $ heard ! (zs .0 ≡ sweptBy logs d ys) (λ is. fsplit ! $ fsplit ! $ move ! (1 ∷ []) $ feqL ! (λ e. move ! (2 ∷ []) $ split ! $ split ! $
+        keep ! (0 ∷ 3 ∷ 2 ∷ []) $ at-once ! $ show ! (λ (us : List Lock). mean 𝓤 H A (given (length us ≡ n) (‵ (flft (ν ∷ []) fullShare) ⊛ (‵ (finally R δ us) ⊛ sw-gives v us)))) (zs .0) $ check ! (e ∙ len) $ frame ! $ frame ! $ check ! is $ done !))))

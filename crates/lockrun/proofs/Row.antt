@@ -1,6 +1,6 @@
--- What every walk over a run of locks cites: the row of a lock and its laws, those of a change, and the arithmetic of an element's place.
+-- What the walks over a run of locks cite: the row of a lock and its laws, those of the other types by value, and the arithmetic of an element's place.
 -- Assumes nothing.
-use mathlib.Core.Path.{_≡_, refl, ap}
+use mathlib.Core.Path.{_≡_, refl, ap, subst}
 use Prim.Native.Nat.{ℕ, zero, suc, _<_, _≤_, _*_, _^_}
 use native.Mathlib.Nat.{not-suc-le-zero, le-of-suc-le-suc}
 use mathlib.Core.List.{List, [], _∷_}
@@ -14,10 +14,20 @@ use mir.Val.{Val, WT, hasTy}
 use types.Kit.{Given}
 use denote.RattleType.{RattleType}
 use denote.Laws.{Is, Makes, Copy, Tells}
+use denote.Steps.{only}
 use denote.Struct.Laws as LL
 use denote.Enum.Laws as EL
 use Rattle.model.specs.Buffers.{free}
 use Rattle.model.specs.declared.Lock.{Lock}
+use Rattle.model.specs.declared.Sessions.{Sessions}
+use Rattle.model.specs.declared.Reply.{Reply}
+use Rattle.lockrun.specs.declared.Turn.{Turn}
+use Rattle.model.proofs.Sessions as S
+use Rattle.model.proofs.Sessions.Laws as S′
+use Rattle.model.proofs.Reply as A
+use Rattle.model.proofs.Reply.Laws as A′
+use Rattle.lockrun.proofs.Turn as U
+use Rattle.lockrun.proofs.Turn.Laws as U′
 use Rattle.model.proofs.Lock as T
 use Rattle.model.proofs.Lock.Laws as T′
 use Rattle.lockrun.specs.declared.Change.{Change}
@@ -97,3 +107,60 @@ known-of logs (Vacate s c) ok = ok
 known-of logs (Withdraw s m) ok = ok .0
 known-of logs (Leave s m) ok = ok .0
 known-of logs (Clear n) ok = tt
+
+-- ---- the session records
+
+abbrev pub RS : RattleType
+RS = S.the-row
+
+abbrev pub low-s : Sessions → Val
+low-s = S′.lowered
+
+pub tells-s : Tells RS (Is RS) (λ d. low-s d ∷ [])
+tells-s = S′.lowers .val-is
+
+module _ {M : Type 1} (𝓤 : URA M) (H : Heap 𝓤) (A : Atoms 𝓤) where
+  pub makes-s : Makes 𝓤 H A RS (Is RS)
+  makes-s = LL.makes S.the-type S′.the-plain 𝓤 H A
+
+  pub typed-s : (W : Given 𝓤 H A) (d : Sessions) (v : Val) → Is RS d (v ∷ []) → T (hasTy S′.mir v) × WT v
+  typed-s W d v p = LL.lawful S.the-type S′.the-laws 𝓤 H A W .typed d (v ∷ []) p .0
+
+-- ---- a reply
+
+abbrev pub RA : RattleType
+RA = A.the-row
+
+abbrev pub low-a : Reply → Val
+low-a = A′.lowered
+
+pub tells-a : Tells RA (Is RA) (λ d. low-a d ∷ [])
+tells-a = A′.lowers .val-is
+
+module _ {M : Type 1} (𝓤 : URA M) (H : Heap 𝓤) (A₀ : Atoms 𝓤) where
+  pub makes-a : Makes 𝓤 H A₀ RA (Is RA)
+  makes-a = LL.makes A.the-type A′.the-plain 𝓤 H A₀
+
+  pub typed-a : (W : Given 𝓤 H A₀) (d : Reply) (v : Val) → Is RA d (v ∷ []) → T (hasTy A′.mir v) × WT v
+  typed-a W d v p = LL.lawful A.the-type A′.the-laws 𝓤 H A₀ W .typed d (v ∷ []) p .0
+
+-- ---- a turn, and its parts
+
+abbrev pub RU : RattleType
+RU = U.the-row
+
+abbrev pub low-u : Turn → Val
+low-u = U′.lowered
+
+pub turn-is : (t : Turn) (v : Val) → Is RU t (v ∷ []) → v ≡ low-u t
+turn-is t v p = ap only (U′.lowers .val-is t (v ∷ []) p)
+
+pub reply-is : (t : Turn) (v : Val) → Is RU t (v ∷ []) → Is RA (t .reply) (low-a (t .reply) ∷ [])
+reply-is t v p = let a = LL.owed U.the-type U′.the-laws t (v ∷ []) p .0 in subst (Is RA (t .reply)) (tells-a (t .reply) _ a) a
+
+pub change-is : (t : Turn) (v : Val) → Is RU t (v ∷ []) → Is RC (t .change) (low-c (t .change) ∷ [])
+change-is t v p = let a = LL.owed U.the-type U′.the-laws t (v ∷ []) p .1 .0 in subst (Is RC (t .change)) (tells-c (t .change) _ a) a
+
+module _ {M : Type 1} (𝓤 : URA M) (H : Heap 𝓤) (A₀ : Atoms 𝓤) where
+  pub typed-u : (W : Given 𝓤 H A₀) (d : Turn) (v : Val) → Is RU d (v ∷ []) → T (hasTy U′.mir v) × WT v
+  typed-u W d v p = LL.lawful U.the-type U′.the-laws 𝓤 H A₀ W .typed d (v ∷ []) p .0
