@@ -26,6 +26,12 @@ use Rattle.model.proofs.Sessions as S
 use Rattle.model.proofs.Sessions.Laws as S′
 use Rattle.model.proofs.Reply as A
 use Rattle.model.proofs.Reply.Laws as A′
+use Rattle.model.specs.declared.Call.{Call}
+use Rattle.lockrun.specs.declared.Look.{Look}
+use Rattle.model.proofs.Call as K
+use Rattle.model.proofs.Call.Laws as K′
+use Rattle.lockrun.proofs.Look as L
+use Rattle.lockrun.proofs.Look.Laws as L′
 use Rattle.lockrun.proofs.Turn as U
 use Rattle.lockrun.proofs.Turn.Laws as U′
 use Rattle.model.proofs.Lock as T
@@ -164,3 +170,42 @@ change-is t v p = let a = LL.owed U.the-type U′.the-laws t (v ∷ []) p .1 .0 
 module _ {M : Type 1} (𝓤 : URA M) (H : Heap 𝓤) (A₀ : Atoms 𝓤) where
   pub typed-u : (W : Given 𝓤 H A₀) (d : Turn) (v : Val) → Is RU d (v ∷ []) → T (hasTy U′.mir v) × WT v
   typed-u W d v p = LL.lawful U.the-type U′.the-laws 𝓤 H A₀ W .typed d (v ∷ []) p .0
+
+-- ---- a call
+
+abbrev pub RK : RattleType
+RK = K.the-row
+
+abbrev pub low-k : Call → Val
+low-k = K′.lowered
+
+pub tells-k : Tells RK (Is RK) (λ d. low-k d ∷ [])
+tells-k = K′.lowers .val-is
+
+module _ {M : Type 1} (𝓤 : URA M) (H : Heap 𝓤) (A₀ : Atoms 𝓤) where
+  pub makes-k : Makes 𝓤 H A₀ RK (Is RK)
+  makes-k = EL.makes K.the-type K′.the-plain 𝓤 H A₀
+
+  pub typed-k : (W : Given 𝓤 H A₀) (d : Call) (v : Val) → Is RK d (v ∷ []) → T (hasTy K′.mir v) × WT v
+  typed-k W d v p = EL.lawful K.the-type K′.the-laws 𝓤 H A₀ W tt .typed d (v ∷ []) p .0
+
+-- ---- what is looked at
+
+abbrev pub RL : RattleType
+RL = L.the-row
+
+abbrev pub low-l : Look → Val
+low-l = L′.lowered
+
+pub look-is : (g : Look) (v : Val) → Is RL g (v ∷ []) → v ≡ low-l g
+look-is g v p = ap only (L′.lowers .val-is g (v ∷ []) p)
+
+pub cell-fits : (g : Look) (v : Val) → Is RL g (v ∷ []) → g .cell < 2 ^ 64
+cell-fits g v p = LL.owed L.the-type L′.the-laws g (v ∷ []) p .0 .1
+
+module _ {M : Type 1} (𝓤 : URA M) (H : Heap 𝓤) (A₀ : Atoms 𝓤) where
+  pub makes-l : Makes 𝓤 H A₀ RL (Is RL)
+  makes-l = LL.makes L.the-type L′.the-plain 𝓤 H A₀
+
+  pub typed-l : (W : Given 𝓤 H A₀) (d : Look) (v : Val) → Is RL d (v ∷ []) → T (hasTy L′.mir v) × WT v
+  typed-l W d v p = LL.lawful L.the-type L′.the-laws 𝓤 H A₀ W .typed d (v ∷ []) p .0
