@@ -8,12 +8,20 @@
 #include <string.h>
 #include <time.h>
 
+/* UNPROVED: the store as `benches/build unproved` makes it of crates that are not proved yet, with slices behind pointers. */
+#ifdef UNPROVED
 typedef struct {
     void *words;
     size_t len;
 } slice;
+#endif
 
-uint32_t rattle_run(slice *calls, slice *answers, slice *values, slice *classes, slice *readers, slice *claimants, slice *exclusives, slice *logs);
+#ifdef UNPROVED
+uint32_t run_calls(slice *calls, slice *answers, slice *values, slice *classes, slice *readers, slice *claimants, slice *exclusives, slice *logs);
+#else
+uint32_t run_calls(const uint32_t *calls, size_t, uint32_t *answers, size_t, uint32_t *values, size_t, const uint8_t *classes, size_t, uint16_t *readers, size_t,
+                   uint8_t *claimants, size_t, uint8_t *exclusives, size_t, uint32_t *logs, size_t);
+#endif
 
 enum { BEGIN = 1, READ, WRITE, SEAL, ADVANCE, ABANDON, PEEK };
 enum { MAX_CALLS = 1 << 20 };
@@ -41,7 +49,7 @@ static void add(uint32_t kind, uint32_t session, uint32_t cell, uint32_t value)
     c[3] = value;
 }
 
-/* The plain store's run of the list, in the shape of rattle_run. */
+/* The plain store's run of the list, in the shape of run_calls. */
 __attribute__((noinline)) static uint32_t plain_run(size_t n)
 {
     plain_session sessions[PLAIN_SESSIONS];
@@ -81,9 +89,13 @@ __attribute__((noinline)) static uint32_t plain_run(size_t n)
 
 __attribute__((noinline)) static uint32_t proved_run(size_t n)
 {
+#ifdef UNPROVED
     slice c = {calls, 4 * count}, a = {answers[0], 2 * count}, v = {values[0], n}, k = {classes, n}, r = {readers[0], n};
     slice o = {claimants[0], n}, x = {exclusives[0], n}, l = {logs[0], PLAIN_LOG_WORDS};
-    return rattle_run(&c, &a, &v, &k, &r, &o, &x, &l);
+    return run_calls(&c, &a, &v, &k, &r, &o, &x, &l);
+#else
+    return run_calls(calls, 4 * count, answers[0], 2 * count, values[0], n, classes, n, readers[0], n, claimants[0], n, exclusives[0], n, logs[0], PLAIN_LOG_WORDS);
+#endif
 }
 
 /* Cells of a session's transaction: spread over the store, each session its own, in an order that is neither up nor down. */

@@ -1,22 +1,58 @@
 -- Laws of the tests, and one law for each way through a decision.
 use mathlib.Core.Path.{_≡_, refl, sym, ap, _∙_}
-use mathlib.Core.Bool.{Bool, true, false, cond, _&&_, _||_}
+use mathlib.Core.Bool.{Bool, true, false, not, _&&_}
+use mathlib.Core.Logic.{_⊎_, ⊎-elim}
 use mathlib.Core.Option.{Option, none, some}
 use mathlib.Core.List.{List}
-use Prim.Native.Nat.{ℕ, _<_, _≤_}
+use Prim.Native.Nat.{ℕ, suc, _+_, _*_, _<_, _≤_}
+use native.Mathlib.Numerals.{add-one}
 use native.Mathlib.Omega.{arith}
-use borrow.Author.Tests.{lt-ltb, le-ltb, eq-eqb, ne-eqb, eqb-true, leb-true}
+use borrow.Author.Tests.{lt-ltb, le-ltb, lt-leb, le-leb, eq-eqb, ne-eqb, eqb-true, leb-true}
 use lib.Dec.{ltb, leb, eqb}
+use lib.ListN.{length, getD}
 use Rattle.model.specs.Search.{some?, below}
-use Rattle.model.specs.Buffers.{cellAt, entryAt, slotIn, targetIn}
-use Rattle.model.specs.Step.{newCell}
+use Rattle.model.specs.Readers.{otherReaders}
+use Rattle.model.specs.Buffers.{idle, moveTo, cellAt, entryAt, slotIn, targetIn, cap}
+use Rattle.model.specs.Step.{claimed, newCell, sealPlan, promotePlan}
 use Rattle.model.specs.declared.Session.{Session}
 use Rattle.model.specs.declared.Lock.{Lock}
+use Rattle.model.specs.declared.Answer.the-variants.{Moved, Committed}
 use Rattle.model.specs.declared.Plan.{Plan}
-use Rattle.model.specs.declared.Plan.the-variants.{Refuse, Tell, Enter}
-use Rattle.model.proofs.Tools.{test, clash, both-l, both-r}
-use Rattle.log.specs.Slots.{found}
-use Rattle.decide.specs.Own.{entriesOn, recordOn, tested, guardOn, readSlot, readOn}
+use Rattle.model.specs.declared.Plan.the-variants.{Refuse, Tell, Enter, Update, EnterUpdate, RollBack, CommitReads, BeginPromotion, Wait, Own, Publish, Release, ShowStore, ShowLog}
+use Rattle.model.proofs.Tools.{test, which, clash, both-l, both-r, and-false}
+use Rattle.log.specs.Slots.{found, slotOf, targetSlot}
+use Rattle.log.proofs.Targets.{written-first, slot-some, target-some}
+use Rattle.decide.specs.Own.{entriesOn, recordOn, tested, guardOn, readSlot, readOn, writeSlot, writeCapped, writeOn, sealOn, dueAt, dueOn, advanceOn, handledOn, peekSlot, peekOn}
+use Rattle.decide.specs.declared.Due.the-variants.{Refused, Slot}
+
+-- ---- places that a search answers
+
+-- a place of m entries is the one found, and m or more is none
+pub found-here : (m k : ℕ) (o : Option ℕ) → found m k ≡ o → k < m → o ≡ some k
+unfolding found
+found-here m k o e h = sym (rw (lt-ltb k m h) at e)
+
+pub found-nowhere : (m k : ℕ) (o : Option ℕ) → found m k ≡ o → m ≤ k → o ≡ none
+unfolding found
+found-nowhere m k o e h = sym (rw (le-ltb k m h) at e)
+
+-- the lowest written cell has a first entry
+pub target-slot : (log : List ℕ) (m from : ℕ) {c : ℕ} → targetIn log 0 m from ≡ some c
+    → (k : ℕ) × (slotIn log 0 m c ≡ some k) × (k < m) × (cellAt log 0 k ≡ c)
+target-slot log m from {c} e =
+    let k = written-first log m c (target-some log m from e .1) in
+    let s = slot-some log m c (k .1) in
+    (k .0, k .1, s .0, s .1)
+
+-- so a written cell is there where its place is one of m
+found-test : (m k : ℕ) → ltb k m ≡ some? (found m k)
+unfolding found
+found-test m k = test (ltb k m) (λ h. rw h) (λ h. rw h)
+
+pub target-there : (log : List ℕ) (m from k : ℕ) → found m k ≡ targetSlot log m from → ltb k m ≡ some? (targetIn log 0 m from)
+unfolding targetSlot slotOf
+target-there log m from k e =
+    found-test m k ∙ ap some? e ∙ which (targetIn log 0 m from) (λ p. rw p) (λ c p. rw (p, target-slot log m from p .1))
 
 -- ---- the tests
 
@@ -36,32 +72,235 @@ turned true false r p e h = ap Refuse e
 turned false true r p e h = ap Refuse e
 turned false false r p e h = ap Refuse e
 
--- a running session's entries: at most 32, each of a cell below n
+-- a seal with a written cell, and with none
+seal-some : (o : Option ℕ) → some? o ≡ true → BeginPromotion ≡ sealPlan o
+unfolding sealPlan
+seal-some none h = absurd (clash false h refl)
+seal-some (some c) h = refl
+
+seal-none : (o : Option ℕ) → some? o ≡ false → CommitReads ≡ sealPlan o
+unfolding sealPlan
+seal-none none h = refl
+seal-none (some c) h = absurd (clash true refl h)
+
+-- a session's entries past phase 0: at most 32, each of a cell below n
 pub record Entries (n : ℕ) (log : List ℕ) (x : Session) : Type 0 where
   pub count : x .count ≤ 32
   pub cells : below n (cellAt log 0) (x .count) ≡ true
 
-pub entries-of : (n : ℕ) (log : List ℕ) (x : Session) → entriesOn n log x ≡ true → (x .phase ≡ 0 → ⊥) → Entries n log x
-unfolding entriesOn
-entries-of n log x h ne =
-    let r : (leb (x .count) 32 && below n (cellAt log 0) (x .count)) ≡ true = rw (ne-eqb (x .phase) 0 ne) at (both-r (leb (x .phase) 4) _ h) in
-    record { count = leb-true (x .count) 32 (both-l (leb (x .count) 32) _ r); cells = both-r (leb (x .count) 32) _ r }
+module _ (n : ℕ) (log : List ℕ) (x : Session) where
+  pub entries-of : entriesOn n log x ≡ true → (x .phase ≡ 0 → ⊥) → Entries n log x
+  unfolding entriesOn
+  entries-of h ne =
+      let r : (leb (x .count) 32 && below n (cellAt log 0) (x .count)) ≡ true = rw (ne-eqb (x .phase) 0 ne) at (both-r (leb (x .phase) 4) _ h) in
+      record { count = leb-true (x .count) 32 (both-l (leb (x .count) 32) _ r); cells = both-r (leb (x .count) 32) _ r }
 
-pub running : (n : ℕ) (log : List ℕ) (x : Session) → recordOn n log x ≡ true → x .phase ≡ 1 → Entries n log x
-unfolding recordOn
-running n log x h e = entries-of n log x (both-l (entriesOn n log x) _ h) (omega arith)
+  pub running : recordOn n log x ≡ true → x .phase ≡ 1 → Entries n log x
+  unfolding recordOn
+  running h e = entries-of (both-l (entriesOn n log x) _ h) (omega arith)
 
--- ---- read
+  pub entries-idle : x .phase ≡ 0 → true ≡ entriesOn n log x
+  unfolding entriesOn
+  entries-idle e = simp (eq-eqb (x .phase) 0 e, le-leb (x .phase) 4 (omega arith))
 
-module _ (n : ℕ) (log : List ℕ) (x : Session) (l : Lock) (c : ℕ) (r : recordOn n log x ≡ true) (f : eqb (x .phase) 1 ≡ true) where
-  pub read-outside : n ≤ c → Refuse 3 ≡ readOn n log x l c
-  unfolding readOn guardOn
-  read-outside h = simp (r, f, le-ltb c n h)
+  pub entries-phase : 4 < x .phase → false ≡ entriesOn n log x
+  unfolding entriesOn
+  entries-phase h = simp (lt-leb (x .phase) 4 h)
 
-  pub read-known : (k : ℕ) → c < n → k < x .count → found (x .count) k ≡ slotIn log 0 (x .count) c → Tell (entryAt log 0 k .current) ≡ readOn n log x l c
-  unfolding readOn guardOn readSlot found
-  read-known k h i e = let s : slotIn log 0 (x .count) c ≡ some k = rw (lt-ltb k (x .count) i) at (sym e) in simp (r, f, lt-ltb c n h, s)
+  pub entries-many : (x .phase ≡ 0 → ⊥) → 32 < x .count → false ≡ entriesOn n log x
+  unfolding entriesOn
+  entries-many ne h = simp (ne-eqb (x .phase) 0 ne, lt-leb (x .count) 32 h, and-false)
 
-  pub read-new : (k : ℕ) → c < n → x .count ≤ k → found (x .count) k ≡ slotIn log 0 (x .count) c → newCell x l (Enter c) ≡ readOn n log x l c
-  unfolding readOn guardOn readSlot found
-  read-new k h i e = let s : slotIn log 0 (x .count) c ≡ none = rw (le-ltb k (x .count) i) at (sym e) in simp (r, f, lt-ltb c n h, s)
+  pub entries-cells : (x .phase ≡ 0 → ⊥) → x .phase ≤ 4 → x .count ≤ 32 → (b : Bool) → b ≡ below n (cellAt log 0) (x .count) → b ≡ entriesOn n log x
+  unfolding entriesOn
+  entries-cells ne p h b e = simp (ne-eqb (x .phase) 0 ne, le-leb (x .phase) 4 p, le-leb (x .count) 32 h, e)
+
+  -- b is what the test of the entries answered
+  module _ (b : Bool) (e : b ≡ entriesOn n log x) where
+    pub record-odd : b ≡ false → false ≡ recordOn n log x
+    unfolding recordOn
+    record-odd h = simp (sym e ∙ h)
+
+    pub due-odd : b ≡ false → Refused 9 ≡ dueOn n log x
+    unfolding dueOn
+    due-odd h = simp (sym e ∙ h)
+
+    module _ (h : b ≡ true) where
+      pub record-early : x .phase < 2 → true ≡ recordOn n log x
+      unfolding recordOn
+      record-early l = simp (sym e ∙ h, le-leb (x .phase) 1 (omega arith))
+
+      pub due-early : x .phase < 2 → Refused 2 ≡ dueOn n log x
+      unfolding dueOn
+      due-early l = simp (sym e ∙ h, lt-leb 2 (x .phase) l)
+
+      module _ (l : 2 ≤ x .phase) where
+        pub listed : Entries n log x
+        listed = entries-of (sym e ∙ h) (omega arith)
+
+        -- k is the place that the search for the lowest written cell answered
+        module _ (k : ℕ) (t : found (x .count) k ≡ targetSlot log (x .count) (x .next)) where
+          pub record-late : ltb k (x .count) ≡ recordOn n log x
+          unfolding recordOn
+          record-late = simp (sym e ∙ h, lt-leb (x .phase) 1 l) (target-there log (x .count) (x .next) k t)
+
+          pub due-none : x .count ≤ k → Refused 9 ≡ dueOn n log x
+          unfolding dueOn dueAt
+          due-none i = simp (sym e ∙ h, le-leb 2 (x .phase) l, found-nowhere (x .count) k _ t i)
+
+          pub due-some : k < x .count → Slot k ≡ dueOn n log x
+          unfolding dueOn dueAt
+          due-some i = simp (sym e ∙ h, le-leb 2 (x .phase) l, found-here (x .count) k _ t i)
+
+  -- a running session: r is the number that the tests answered
+  module _ (r : ℕ) (e : r ≡ tested (recordOn n log x) (eqb (x .phase) 1)) (z : r ≡ 0) where
+    whole : recordOn n log x ≡ true
+    whole = passes _ _ (sym e ∙ z) .0
+
+    runs : eqb (x .phase) 1 ≡ true
+    runs = passes (recordOn n log x) _ (sym e ∙ z) .1
+
+    pub few : x .count ≤ 32
+    few = running whole (eqb-true (x .phase) 1 runs) .count
+
+    -- entries lie in the part
+    pub room : length log ≡ 128 → 4 * x .count ≤ length log
+    room h = let w = few in omega arith
+
+    pub inside : length log ≡ 128 → (k : ℕ) → k < x .count → 4 * k + 3 < length log
+    inside h k i = let w = few in omega arith
+
+    -- ---- read
+
+    module _ (l : Lock) (c : ℕ) where
+      pub read-outside : n ≤ c → Refuse 3 ≡ readOn n log x l c
+      unfolding readOn guardOn
+      read-outside h = simp (whole, runs, le-ltb c n h)
+
+      -- k is the place that the search for the cell answered
+      module _ (h : c < n) (k : ℕ) (s : found (x .count) k ≡ slotIn log 0 (x .count) c) where
+        pub read-known : k < x .count → (v : ℕ) → v ≡ entryAt log 0 k .current → Tell v ≡ readOn n log x l c
+        unfolding readOn guardOn readSlot
+        read-known i v q = simp (whole, runs, lt-ltb c n h, found-here (x .count) k _ s i, q)
+
+        pub read-new : x .count ≤ k → (p : Plan) → p ≡ newCell x l (Enter c) → p ≡ readOn n log x l c
+        unfolding readOn guardOn readSlot
+        read-new i p q = simp (whole, runs, lt-ltb c n h, found-nowhere (x .count) k _ s i, q)
+
+      -- ---- write
+
+      module _ (classes : List ℕ) (v : ℕ) where
+        pub write-outside : n ≤ c → Refuse 3 ≡ writeOn classes n log x l c v
+        unfolding writeOn guardOn
+        write-outside h = simp (whole, runs, le-ltb c n h)
+
+        pub write-odd : c < n → 15 < getD classes c 0 → Refuse 8 ≡ writeOn classes n log x l c v
+        unfolding writeOn guardOn
+        write-odd h i = simp (whole, runs, lt-ltb c n h, le-ltb (getD classes c 0) 16 i)
+
+        pub write-class : c < n → getD classes c 0 ≤ 15 → (m : ℕ) → m ≡ cap (getD classes c 0) → (p : Plan) → p ≡ writeCapped log x l c v m → p ≡ writeOn classes n log x l c v
+        unfolding writeOn guardOn
+        write-class h i m q p w = simp (whole, runs, lt-ltb c n h, lt-ltb (getD classes c 0) 16 (omega arith), ← q, w)
+
+    -- ---- seal
+
+    -- b is whether a cell is written
+    module _ (b : Bool) (w : b ≡ some? (targetIn log 0 (x .count) 0)) where
+      pub seal-writes : b ≡ true → BeginPromotion ≡ sealOn n log x
+      unfolding sealOn guardOn
+      seal-writes h = simp (whole, runs) (seal-some _ (sym w ∙ h))
+
+      pub seal-reads : b ≡ false → CommitReads ≡ sealOn n log x
+      unfolding sealOn guardOn
+      seal-reads h = simp (whole, runs) (seal-none _ (sym w ∙ h))
+
+    -- ---- peek
+
+    module _ (c : ℕ) where
+      pub peek-outside : n ≤ c → Refuse 3 ≡ peekOn n log x c
+      unfolding peekOn guardOn
+      peek-outside h = simp (whole, runs, le-ltb c n h)
+
+      module _ (h : c < n) (k : ℕ) (s : found (x .count) k ≡ slotIn log 0 (x .count) c) where
+        pub peek-new : x .count ≤ k → Refuse 14 ≡ peekOn n log x c
+        unfolding peekOn guardOn peekSlot
+        peek-new i = simp (whole, runs, lt-ltb c n h, found-nowhere (x .count) k _ s i)
+
+        module _ (i : k < x .count) (b : Bool) (d : b ≡ entryAt log 0 k .dirty) where
+          pub peek-written : b ≡ true → ShowLog k ≡ peekOn n log x c
+          unfolding peekOn guardOn peekSlot
+          peek-written g = simp (whole, runs, lt-ltb c n h, found-here (x .count) k _ s i, sym d ∙ g)
+
+          pub peek-read : b ≡ false → ShowStore c ≡ peekOn n log x c
+          unfolding peekOn guardOn peekSlot
+          peek-read g = simp (whole, runs, lt-ltb c n h, found-here (x .count) k _ s i, sym d ∙ g)
+
+-- ---- write, once the cap is known
+
+module _ (log : List ℕ) (x : Session) (l : Lock) (c v m : ℕ) where
+  pub write-above : m < v → Refuse 4 ≡ writeCapped log x l c v m
+  unfolding writeCapped
+  write-above h = simp (lt-leb v m h)
+
+  module _ (h : v ≤ m) (k : ℕ) (s : found (x .count) k ≡ slotIn log 0 (x .count) c) where
+    pub write-known : k < x .count → Update k v ≡ writeCapped log x l c v m
+    unfolding writeCapped writeSlot
+    write-known i = simp (le-leb v m h, found-here (x .count) k _ s i)
+
+    pub write-new : x .count ≤ k → (p : Plan) → p ≡ newCell x l (EnterUpdate c v) → p ≡ writeCapped log x l c v m
+    unfolding writeCapped writeSlot
+    write-new i p q = simp (le-leb v m h, found-nowhere (x .count) k _ s i, q)
+
+-- ---- advance
+
+module _ (s c : ℕ) (l : Lock) where
+  pub promote-loses : (l .claimant ≡ 16 → ⊥) → (l .claimant ≡ s → ⊥) → RollBack ≡ promotePlan s c l
+  unfolding promotePlan claimed
+  promote-loses h i = simp (ne-eqb (l .claimant) 16 h, ne-eqb (l .claimant) s i)
+
+  -- b is whether nobody else reads
+  module _ (h : (l .claimant ≡ s) ⊎ (l .claimant ≡ 16)) (b : Bool) (e : b ≡ eqb (otherReaders s (l .readers)) 0) where
+    unclaimed : (claimed l && not (eqb (l .claimant) s)) ≡ false
+    unfolding claimed
+    unclaimed = ⊎-elim (λ i. simp (eq-eqb (l .claimant) s i, and-false)) (λ i. simp (eq-eqb (l .claimant) 16 i)) h
+
+    pub promote-owns : b ≡ true → Own c ≡ promotePlan s c l
+    unfolding promotePlan
+    promote-owns g = simp (unclaimed, sym e ∙ g)
+
+    pub promote-waits : b ≡ false → Wait c ≡ promotePlan s c l
+    unfolding promotePlan
+    promote-waits g = simp (unclaimed, sym e ∙ g)
+
+-- d is the cell of entry k
+module _ (log : List ℕ) (x : Session) (l : Lock) (s k d : ℕ) (e : d ≡ cellAt log 0 k) where
+  pub advance-promotes : x .phase ≡ 2 → (p : Plan) → p ≡ promotePlan s d l → p ≡ advanceOn log x l s k
+  unfolding advanceOn
+  advance-promotes h p q = simp (eq-eqb (x .phase) 2 h, ← e, q)
+
+  module _ (h : x .phase ≡ 2 → ⊥) where
+    pub advance-publishes : x .phase ≡ 3 → (v : ℕ) → v ≡ entryAt log 0 k .current → Publish d v ≡ advanceOn log x l s k
+    unfolding advanceOn
+    advance-publishes i v q = simp (ne-eqb (x .phase) 2 h, eq-eqb (x .phase) 3 i, e, q)
+
+    pub advance-releases : (x .phase ≡ 3 → ⊥) → Release d ≡ advanceOn log x l s k
+    unfolding advanceOn
+    advance-releases i = simp (ne-eqb (x .phase) 2 h, ne-eqb (x .phase) 3 i, e)
+
+-- k is the place that the search above cell c answered, y the record that is handed back
+module _ (log : List ℕ) (x : Session) (c k : ℕ) (t : found (x .count) k ≡ targetSlot log (x .count) (c + 1)) (y : Session) where
+  left : ltb k (x .count) ≡ some? (targetIn log 0 (x .count) (suc c))
+  left = rw add-one at (target-there log (x .count) (c + 1) k t)
+
+  pub handle-next : k < x .count → y ≡ moveTo (x .phase) (c + 1) x → record { session = y; answer = Moved } ≡ handledOn log x c
+  unfolding handledOn
+  handle-next h e = simp (← left, lt-ltb k (x .count) h, e, add-one)
+
+  module _ (h : x .count ≤ k) where
+    pub handle-rests : x .phase ≡ 4 → y ≡ idle → record { session = y; answer = Committed } ≡ handledOn log x c
+    unfolding handledOn
+    handle-rests p e = simp (← left, le-ltb k (x .count) h, eq-eqb (x .phase) 4 p, e)
+
+    pub handle-raises : (x .phase ≡ 4 → ⊥) → y ≡ moveTo (suc (x .phase)) 0 x → record { session = y; answer = Moved } ≡ handledOn log x c
+    unfolding handledOn
+    handle-raises p e = simp (← left, le-ltb k (x .count) h, ne-eqb (x .phase) 4 p, e)

@@ -9,7 +9,6 @@ ghost use Rattle.model.specs.Search.{below};
 ghost use Rattle.model.specs.Buffers.{cellAt, cap};
 ghost use Rattle.model.specs.Step.{newCell, promotePlan};
 ghost use Rattle.decide.specs.Own.{lengthsOn, entriesOn, recordOn, tested, readOn, writeCapped, writeOn, sealOn, dueOn, advanceOn, handledOn, peekOn};
-
 use model::Answer;
 use model::Lock;
 use model::Plan;
@@ -17,7 +16,24 @@ use model::Session;
 
 // ---- caps
 
-const CAPS: [u32; 16] = [1, 6, 8, 10, 12, 15, 18, 21, 24, 27, 30, 36, 42, 48, 60, 4294967295];
+const CAPS: [u32; 16] = [
+    1,
+    6,
+    8,
+    10,
+    12,
+    15,
+    18,
+    21,
+    24,
+    27,
+    30,
+    36,
+    42,
+    48,
+    60,
+    4294967295,
+];
 
 // The cap of a class.
 pub fn cap(class: u8) -> u32
@@ -30,7 +46,14 @@ pub fn cap(class: u8) -> u32
 // ---- refusals 7, 1, 9 and 2
 
 // n from 1 to 1,024, classes and locks n long, 2,048 words of logs.
-pub fn lengths_fit(n: usize, classes: usize, readers: usize, claimants: usize, exclusives: usize, logs: usize) -> bool
+pub fn lengths_fit(
+    n: usize,
+    classes: usize,
+    readers: usize,
+    claimants: usize,
+    exclusives: usize,
+    logs: usize,
+) -> bool
     ensures { λ r. ⌜ r ≡ lengthsOn n classes readers claimants exclusives logs ⌝ }
 {
     if n == 0 {
@@ -278,14 +301,23 @@ pub fn handle(log: &[u32], n: usize, x: Session, cell: u32) -> Handled
     let next = cell + 1;
     if log::target(log, count, n as u32, next) < count {
         let y = x.moved(next as u16);
-        return Handled { session: y, answer: Answer::Moved };
+        return Handled {
+            session: y,
+            answer: Answer::Moved,
+        };
     }
     if phase == 4 {
         let y = x.rested();
-        return Handled { session: y, answer: Answer::Committed };
+        return Handled {
+            session: y,
+            answer: Answer::Committed,
+        };
     }
     let y = x.raised();
-    Handled { session: y, answer: Answer::Moved }
+    Handled {
+        session: y,
+        answer: Answer::Moved,
+    }
 }
 
 // ---- peek

@@ -17,17 +17,18 @@ pub record Swept (s : ℕ) (log : List ℕ) (m : ℕ) (n : ℕ) : Type 0 where
   pub count : 4 * m ≤ length log
   pub cells : below n (cellAt log 0) m ≡ true
 
--- rolling back and sealing, on a part and m entries of it
+-- rolling back, on a part and m entries of it
 unfoldable pub rolledBackIn : List ℕ → ℕ → ℕ → Locks → Locks
 rolledBackIn log m s L = sweep (λ c. true) (withdraw s) (cellAt log 0) m L
 
-unfoldable pub readsDroppedIn : List ℕ → ℕ → ℕ → Locks → Locks
-readsDroppedIn log m s L = sweep (λ c. not (publishesIn log 0 m c)) (leave s) (cellAt log 0) m L
+-- the reader sets R' are those that the first k of m entries leave of R, whatever claimants and marks stand beside them; and that all m leave
+abbrev pub DroppedSoFar : List ℕ → ℕ → ℕ → ℕ → List ℕ → List ℕ → Type 0
+DroppedSoFar log m k s R R' =
+    (C E : List ℕ) → length C ≡ length R → length E ≡ length R
+    → locksOf R' C E ≡ sweep (λ c. not (publishesIn log 0 m c)) (leave s) (cellAt log 0) k (locksOf R C E)
 
--- the reader sets R' are those that sealing leaves of R, whatever claimants and marks stand beside them
 abbrev pub DropsReads : List ℕ → ℕ → ℕ → List ℕ → List ℕ → Type 0
-DropsReads log m s R R' =
-    (C E : List ℕ) → length C ≡ length R → length E ≡ length R → locksOf R' C E ≡ readsDroppedIn log m s (locksOf R C E)
+DropsReads log m s R R' = DroppedSoFar log m m s R R'
 
 -- a set of cells below 1,024 as sixteen words of 64 binary digits
 unfoldable pub marked : List ℕ → ℕ → Bool

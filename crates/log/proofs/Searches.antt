@@ -1,17 +1,17 @@
 -- Laws of the searches over the entries of a log: what one entry more makes of them, and how a loop's answer is the model's.
-use mathlib.Core.Path.{_≡_, refl, sym, ap, _∙_}
-use mathlib.Core.Bool.{Bool, true, false, cond, _&&_}
-use mathlib.Core.Option.{Option, none, some}
-use mathlib.Core.List.{List}
 use Prim.Native.Nat.{ℕ, zero, suc, _+_, _*_, _-_, _<_, _≤_}
-use native.Mathlib.Omega.{arith}
+use mathlib.Core.Bool.{true, false}
+use mathlib.Core.List.{List}
+use mathlib.Core.Option.{Option, none, some}
+use mathlib.Core.Path.{_≡_, refl, sym, ap, _∙_}
 use native.Mathlib.Numerals.{add-one}
+use native.Mathlib.Omega.{arith}
+use lib.ListN.{getD, set}
 use borrow.Author.Tests.{lt-ltb, le-ltb, eq-eqb, ne-eqb}
-use lib.Dec.{ltb, eqb}
-use lib.ListN.{length, getD}
+use Rattle.model.specs.Buffers.{word, cellAt, slotIn, appended, updated}
 use Rattle.model.specs.Search.{orElse, find, below}
-use Rattle.model.specs.Buffers.{word, cellAt, slotIn}
-use Rattle.model.proofs.Tools.{same, and-false}
+use Rattle.model.proofs.Laws.{find-some}
+use Rattle.model.proofs.Tools.{same, which, and-false}
 use Rattle.log.specs.Slots.{found}
 
 -- ---- the words of a part
@@ -23,6 +23,25 @@ word-at log k j = ap (λ (i : ℕ). getD log i 0) (omega arith)
 pub cell-word : (log : List ℕ) (k : ℕ) → cellAt log 0 k ≡ getD log (4 * k) 0
 unfolding cellAt word
 cell-word log k = ap (λ (i : ℕ). getD log i 0) (omega arith)
+
+-- ---- the stores of an append and an update, at the code's indices
+
+pub append-stores : (log : List ℕ) (k c v : ℕ)
+    → set (set (set (set log (4 * k) c) (4 * k + 1) v) (4 * k + 2) v) (4 * k + 3) 0 ≡ appended log 0 k c v
+unfolding appended
+append-stores log k c v =
+    let e : 128 * 0 + 4 * k ≡ 4 * k = omega arith in
+    let e₁ : 4 * k + 1 ≡ suc (4 * k) = omega arith in
+    let e₂ : 4 * k + 2 ≡ suc (suc (4 * k)) = omega arith in
+    let e₃ : 4 * k + 3 ≡ suc (suc (suc (4 * k))) = omega arith in
+    rw (e, e₁, e₂, e₃)
+
+pub update-stores : (log : List ℕ) (k v : ℕ) → set (set log (4 * k + 2) v) (4 * k + 2 + 1) 1 ≡ updated log 0 k v
+unfolding updated
+update-stores log k v =
+    let e : 128 * 0 + (4 * k + 2) ≡ 4 * k + 2 = omega arith in
+    let e₁ : 4 * k + 2 + 1 ≡ suc (4 * k + 2) = omega arith in
+    rw (e, e₁)
 
 -- ---- find
 
@@ -40,6 +59,17 @@ module _ (cell : ℕ → ℕ) (c : ℕ) where
   unfolding find orElse
   find-up k zero l h = let e : k ≡ 0 = omega arith in rw e at h
   find-up k (suc m) l h = same k (suc m) (λ e. rw e at h) (λ n. simp (find-up k m (omega arith) h))
+
+  -- before the entry that is found there is none
+  pub find-before : (m : ℕ) {k : ℕ} → find cell m c ≡ some k → find cell k c ≡ none
+  find-before m {k} h =
+      which (find cell k c) (λ e. e)
+      (λ i e.
+      let w = find-some cell c m h in
+      let u = find-some cell c k e in
+      let z : _≡_ {A = Option ℕ} (some i) (some k) = sym (find-up k m (omega arith) e) ∙ h in
+      let q : i ≡ k = cc in
+      absurd (omega arith))
 
 -- ---- below
 

@@ -148,7 +148,7 @@ fn first_publishes(log: &[u32], i: usize) -> bool
 {
     if publishes(log, i) {
         let cell = cell_at(log, i);
-        return find(log, i, cell) == i;
+        return i <= find(log, i, cell);
     }
     false
 }

@@ -70,13 +70,34 @@ fn main() {
     let mut claimants = [7u8; 2];
     let mut exclusives = [7u8; 2];
     let mut logs = [7u32; 2048];
-    let records = [Session { phase: 9, count: 9, next: 9 }; 16];
+    let records = [Session {
+        phase: 9,
+        count: 9,
+        next: 9,
+    }; 16];
     let mut sessions = Sessions { records };
-    let up = store::set_up(sessions, &values, &classes, &mut readers, &mut claimants, &mut exclusives, &mut logs);
+    let up = store::set_up(
+        sessions,
+        &values,
+        &classes,
+        &mut readers,
+        &mut claimants,
+        &mut exclusives,
+        &mut logs,
+    );
     sessions = up.sessions;
     let mut i: usize = 0;
     while i < 13 {
-        let r = store::step(listing(i), sessions, &mut values, &classes, &mut readers, &mut claimants, &mut exclusives, &mut logs);
+        let r = store::step(
+            listing(i),
+            sessions,
+            &mut values,
+            &classes,
+            &mut readers,
+            &mut claimants,
+            &mut exclusives,
+            &mut logs,
+        );
         sessions = r.sessions;
         let answer = r.answer;
         print(i as u32 + 1, b' ');

@@ -23,10 +23,14 @@ storeOf values classes readers claimants exclusives logs sessions =
 unfoldable pub carried : ℕ → Plan → Store → Outcome
 carried s p σ = outcome (answer s p σ) (after s p σ)
 
--- what the tests leave known of a session past phase 0: the lengths fit, and its entries are at most 32, each of a cell of the store
-pub record Admitted (σ : Store) (s : ℕ) : Type 0 where
+-- what refusals 7 and 1 leave known
+pub record Sized (σ : Store) (s : ℕ) : Type 0 where
   pub lengths : lengthsFit (σ .lent) ≡ true
   pub session : s < 16
+
+-- what the tests leave known of a session past phase 0: the lengths fit, and its entries are at most 32, each of a cell of the store
+pub record Admitted (σ : Store) (s : ℕ) : Type 0 where
+  pub sized : Sized σ s
   pub count : sessionAt (σ .sessions) s .count ≤ 32
   pub cells : below (size (σ .lent)) (cellAt (σ .lent .logs) s) (sessionAt (σ .sessions) s .count) ≡ true
 

@@ -4,17 +4,17 @@ ghost use mathlib.Core.Path.{_≡_};
 ghost use mathlib.Core.Bool.{Bool, true, false};
 ghost use Prim.Native.Nat.{ℕ, _+_, _*_, _<_, _≤_};
 ghost use lib.ListN.{length, replicate};
-ghost use Rattle.model.specs.Buffers.{idle, sessionAt, cellAt, lockAt, fits, allFit};
+ghost use Rattle.model.specs.Buffers.{idle, sessionAt, cellAt, lockAt, lockOn, join, appended, fits, allFit};
 ghost use Rattle.model.specs.Step.{outcome, taken, setUpTaken, planOf, shown};
 ghost use Rattle.model.specs.declared.Call.the-variants.{Begin, Read, Write, Seal, Advance, Abandon, Peek};
 ghost use Rattle.log.specs.Slots.{part};
 ghost use Rattle.locks.specs.Sweeps.{locksOf};
 ghost use Rattle.decide.specs.Own.{advanceOn};
-ghost use Rattle.store.specs.Lent.{storeOf, carried, Admitted, Handed};
-
+ghost use Rattle.store.specs.Lent.{storeOf, carried, Sized, Admitted, Handed};
 use decide::Due;
 use model::Answer;
 use model::Call;
+use model::Lock;
 use model::Plan;
 use model::Reply;
 use model::Session;
@@ -84,40 +84,90 @@ fn clear_words(s: &mut [u32])
 fn all_idle() -> Sessions
     ensures { λ r. ⌜ r ≡ record { records = replicate 16 idle } ⌝ }
 {
-    let records = [Session { phase: 0, count: 0, next: 0 }; 16];
+    let records = [Session {
+        phase: 0,
+        count: 0,
+        next: 0,
+    }; 16];
     Sessions { records }
 }
 
 // Set-up: all sessions idle, all locks empty, all log words 0. 100, 7 or 8.
-pub fn set_up(sessions: Sessions, values: &[u32], classes: &[u8], readers: &mut [u16], claimants: &mut [u8], exclusives: &mut [u8], logs: &mut [u32]) -> Reply
+pub fn set_up(
+    sessions: Sessions,
+    values: &[u32],
+    classes: &[u8],
+    readers: &mut [u16],
+    claimants: &mut [u8],
+    exclusives: &mut [u8],
+    logs: &mut [u32],
+) -> Reply
     ensures { λ r. ⌜ outcome (r .answer) (storeOf (now (values .entry)) (now (classes .entry)) (now (readers .exit)) (now (claimants .exit)) (now (exclusives .exit)) (now (logs .exit)) (r .sessions)) ≡ setUpTaken (storeOf (now (values .entry)) (now (classes .entry)) (now (readers .entry)) (now (claimants .entry)) (now (exclusives .entry)) (now (logs .entry)) sessions) ⌝ }
 {
-    if !decide::lengths_fit(values.len(), classes.len(), readers.len(), claimants.len(), exclusives.len(), logs.len()) {
-        return Reply { answer: Answer::Refused(7), sessions };
+    if !decide::lengths_fit(
+        values.len(),
+        classes.len(),
+        readers.len(),
+        claimants.len(),
+        exclusives.len(),
+        logs.len(),
+    ) {
+        return Reply {
+            answer: Answer::Refused(7),
+            sessions,
+        };
     }
     if !all_fit(values, classes) {
-        return Reply { answer: Answer::Refused(8), sessions };
+        return Reply {
+            answer: Answer::Refused(8),
+            sessions,
+        };
     }
     clear_sets(readers);
     fill_bytes(claimants, 16);
     fill_bytes(exclusives, 0);
     clear_words(logs);
     let idle = all_idle();
-    Reply { answer: Answer::Done, sessions: idle }
+    Reply {
+        answer: Answer::Done,
+        sessions: idle,
+    }
 }
 
 // ---- the calls
 
 // Begin: idle only. The session runs with no entry. 100.
-pub fn begin(mut sessions: Sessions, values: &[u32], classes: &[u8], readers: &[u16], claimants: &[u8], exclusives: &[u8], logs: &[u32], session: u8) -> Reply
+pub fn begin(
+    mut sessions: Sessions,
+    values: &[u32],
+    classes: &[u8],
+    readers: &[u16],
+    claimants: &[u8],
+    exclusives: &[u8],
+    logs: &[u32],
+    session: u8,
+) -> Reply
     ensures { λ r. ⌜ outcome (r .answer) (storeOf (now (values .entry)) (now (classes .entry)) (now (readers .entry)) (now (claimants .entry)) (now (exclusives .entry)) (now (logs .entry)) (r .sessions)) ≡ taken (Begin session) (storeOf (now (values .entry)) (now (classes .entry)) (now (readers .entry)) (now (claimants .entry)) (now (exclusives .entry)) (now (logs .entry)) sessions) ⌝ }
 {
     let n = values.len();
-    if !decide::lengths_fit(n, classes.len(), readers.len(), claimants.len(), exclusives.len(), logs.len()) {
-        return Reply { answer: Answer::Refused(7), sessions };
+    if !decide::lengths_fit(
+        n,
+        classes.len(),
+        readers.len(),
+        claimants.len(),
+        exclusives.len(),
+        logs.len(),
+    ) {
+        return Reply {
+            answer: Answer::Refused(7),
+            sessions,
+        };
     }
     if 15 < session {
-        return Reply { answer: Answer::Refused(1), sessions };
+        return Reply {
+            answer: Answer::Refused(1),
+            sessions,
+        };
     }
     let i = session as usize;
     let a = 128 * i;
@@ -126,23 +176,59 @@ pub fn begin(mut sessions: Sessions, values: &[u32], classes: &[u8], readers: &[
     let phase = x.phase;
     let turned = decide::tests(&logs[a..e], n, x, phase == 0);
     if turned != 0 {
-        return Reply { answer: Answer::Refused(turned), sessions };
+        return Reply {
+            answer: Answer::Refused(turned),
+            sessions,
+        };
     }
     sessions.records[i] = x.begun();
-    Reply { answer: Answer::Done, sessions }
+    Reply {
+        answer: Answer::Done,
+        sessions,
+    }
 }
 
-// Read: running only. 101 with a known cell's present value; a new cell is locked and entered, or the session is rolled back, 6.
-pub fn read(mut sessions: Sessions, values: &[u32], classes: &[u8], readers: &mut [u16], claimants: &mut [u8], exclusives: &mut [u8], logs: &mut [u32], session: u8, cell: u32) -> Reply
+// A new cell is locked and entered: the session joins its readers, and entry count holds the value.
+fn enter(
+    readers: &mut [u16],
+    claimants: &mut [u8],
+    exclusives: &mut [u8],
+    log: &mut [u32],
+    count: usize,
+    l: Lock,
+    session: u8,
+    cell: u32,
+    value: u32,
+)
+    requires { ⌜ (session < 16) × (cell < length (now readers)) × (length (now claimants) ≡ length (now readers)) × (length (now exclusives) ≡ length (now readers)) × (4 * count + 3 < length (now log)) × (l ≡ lockAt (locksOf (now readers) (now claimants) (now exclusives)) cell) ⌝ }
+    ensures { λ _. ⌜ (locksOf (now (readers .exit)) (now (claimants .exit)) (now (exclusives .exit)) ≡ lockOn cell (join session) (locksOf (now (readers .entry)) (now (claimants .entry)) (now (exclusives .entry)))) × (now (log .exit) ≡ appended (now (log .entry)) 0 count cell value) ⌝ }
+{
+    locks::put(
+        readers,
+        claimants,
+        exclusives,
+        cell,
+        locks::joined(l, session),
+    );
+    log::append(log, count, cell, value);
+}
+
+// Read, once the lengths and the session fit.
+fn read_as(
+    mut sessions: Sessions,
+    values: &[u32],
+    classes: &[u8],
+    readers: &mut [u16],
+    claimants: &mut [u8],
+    exclusives: &mut [u8],
+    logs: &mut [u32],
+    session: u8,
+    cell: u32,
+) -> Reply
+    requires { ⌜ Sized (storeOf (now values) (now classes) (now readers) (now claimants) (now exclusives) (now logs) sessions) session ⌝ }
     ensures { λ r. ⌜ outcome (r .answer) (storeOf (now (values .entry)) (now (classes .entry)) (now (readers .exit)) (now (claimants .exit)) (now (exclusives .exit)) (now (logs .exit)) (r .sessions)) ≡ taken (Read session cell) (storeOf (now (values .entry)) (now (classes .entry)) (now (readers .entry)) (now (claimants .entry)) (now (exclusives .entry)) (now (logs .entry)) sessions) ⌝ }
 {
     let n = values.len();
-    if !decide::lengths_fit(n, classes.len(), readers.len(), claimants.len(), exclusives.len(), logs.len()) {
-        return Reply { answer: Answer::Refused(7), sessions };
-    }
-    if 15 < session {
-        return Reply { answer: Answer::Refused(1), sessions };
-    }
     let i = session as usize;
     let a = 128 * i;
     let e = a + 128;
@@ -150,34 +236,107 @@ pub fn read(mut sessions: Sessions, values: &[u32], classes: &[u8], readers: &mu
     let l = locks::at(&readers[..], &claimants[..], &exclusives[..], cell);
     let p = decide::read(&logs[a..e], n, x, l, cell);
     if let Plan::Tell(value) = p {
-        return Reply { answer: Answer::Value(value), sessions };
+        return Reply {
+            answer: Answer::Value(value),
+            sessions,
+        };
     }
     if let Plan::Refuse(number) = p {
-        return Reply { answer: Answer::Refused(number), sessions };
+        return Reply {
+            answer: Answer::Refused(number),
+            sessions,
+        };
     }
     let count = x.count as usize;
     if let Plan::Enter(_) = p {
         let value = values[cell as usize];
-        locks::put(readers, claimants, exclusives, cell, locks::joined(l, session));
-        log::append(&mut logs[a..e], count, cell, value);
+        enter(
+            readers,
+            claimants,
+            exclusives,
+            &mut logs[a..e],
+            count,
+            l,
+            session,
+            cell,
+            value,
+        );
         sessions.records[i] = x.with_entry();
-        return Reply { answer: Answer::Value(value), sessions };
+        return Reply {
+            answer: Answer::Value(value),
+            sessions,
+        };
     }
     locks::roll_back(&logs[a..e], count, readers, claimants, exclusives, session);
     sessions.records[i] = x.rested();
-    Reply { answer: Answer::Refused(6), sessions }
+    Reply {
+        answer: Answer::Refused(6),
+        sessions,
+    }
 }
 
-// Write: running only. A new cell is locked and entered as by read; then the entry is updated. 100.
-pub fn write(mut sessions: Sessions, values: &[u32], classes: &[u8], readers: &mut [u16], claimants: &mut [u8], exclusives: &mut [u8], logs: &mut [u32], session: u8, cell: u32, value: u32) -> Reply
-    ensures { λ r. ⌜ outcome (r .answer) (storeOf (now (values .entry)) (now (classes .entry)) (now (readers .exit)) (now (claimants .exit)) (now (exclusives .exit)) (now (logs .exit)) (r .sessions)) ≡ taken (Write session cell value) (storeOf (now (values .entry)) (now (classes .entry)) (now (readers .entry)) (now (claimants .entry)) (now (exclusives .entry)) (now (logs .entry)) sessions) ⌝ }
+// Read: running only. 101 with a known cell's present value; a new cell is locked and entered, or the session is rolled back, 6.
+pub fn read(
+    sessions: Sessions,
+    values: &[u32],
+    classes: &[u8],
+    readers: &mut [u16],
+    claimants: &mut [u8],
+    exclusives: &mut [u8],
+    logs: &mut [u32],
+    session: u8,
+    cell: u32,
+) -> Reply
+    ensures { λ r. ⌜ outcome (r .answer) (storeOf (now (values .entry)) (now (classes .entry)) (now (readers .exit)) (now (claimants .exit)) (now (exclusives .exit)) (now (logs .exit)) (r .sessions)) ≡ taken (Read session cell) (storeOf (now (values .entry)) (now (classes .entry)) (now (readers .entry)) (now (claimants .entry)) (now (exclusives .entry)) (now (logs .entry)) sessions) ⌝ }
 {
-    if !decide::lengths_fit(values.len(), classes.len(), readers.len(), claimants.len(), exclusives.len(), logs.len()) {
-        return Reply { answer: Answer::Refused(7), sessions };
+    if !decide::lengths_fit(
+        values.len(),
+        classes.len(),
+        readers.len(),
+        claimants.len(),
+        exclusives.len(),
+        logs.len(),
+    ) {
+        return Reply {
+            answer: Answer::Refused(7),
+            sessions,
+        };
     }
     if 15 < session {
-        return Reply { answer: Answer::Refused(1), sessions };
+        return Reply {
+            answer: Answer::Refused(1),
+            sessions,
+        };
     }
+    read_as(
+        sessions,
+        values,
+        classes,
+        readers,
+        claimants,
+        exclusives,
+        logs,
+        session,
+        cell,
+    )
+}
+
+// Write, once the lengths and the session fit.
+fn write_as(
+    mut sessions: Sessions,
+    values: &[u32],
+    classes: &[u8],
+    readers: &mut [u16],
+    claimants: &mut [u8],
+    exclusives: &mut [u8],
+    logs: &mut [u32],
+    session: u8,
+    cell: u32,
+    value: u32,
+) -> Reply
+    requires { ⌜ Sized (storeOf (now values) (now classes) (now readers) (now claimants) (now exclusives) (now logs) sessions) session ⌝ }
+    ensures { λ r. ⌜ outcome (r .answer) (storeOf (now (values .entry)) (now (classes .entry)) (now (readers .exit)) (now (claimants .exit)) (now (exclusives .exit)) (now (logs .exit)) (r .sessions)) ≡ taken (Write session cell value) (storeOf (now (values .entry)) (now (classes .entry)) (now (readers .entry)) (now (claimants .entry)) (now (exclusives .entry)) (now (logs .entry)) sessions) ⌝ }
+{
     let i = session as usize;
     let a = 128 * i;
     let e = a + 128;
@@ -186,35 +345,126 @@ pub fn write(mut sessions: Sessions, values: &[u32], classes: &[u8], readers: &m
     let p = decide::write(&logs[a..e], classes, x, l, cell, value);
     if let Plan::Update(k, v) = p {
         log::update(&mut logs[a..e], k as usize, v);
-        return Reply { answer: Answer::Done, sessions };
+        return Reply {
+            answer: Answer::Done,
+            sessions,
+        };
     }
     if let Plan::Refuse(number) = p {
-        return Reply { answer: Answer::Refused(number), sessions };
+        return Reply {
+            answer: Answer::Refused(number),
+            sessions,
+        };
     }
     let count = x.count as usize;
     if let Plan::EnterUpdate(_, v) = p {
         let found = values[cell as usize];
-        locks::put(readers, claimants, exclusives, cell, locks::joined(l, session));
-        log::append(&mut logs[a..e], count, cell, found);
+        enter(
+            readers,
+            claimants,
+            exclusives,
+            &mut logs[a..e],
+            count,
+            l,
+            session,
+            cell,
+            found,
+        );
         log::update(&mut logs[a..e], count, v);
         sessions.records[i] = x.with_entry();
-        return Reply { answer: Answer::Done, sessions };
+        return Reply {
+            answer: Answer::Done,
+            sessions,
+        };
     }
     locks::roll_back(&logs[a..e], count, readers, claimants, exclusives, session);
     sessions.records[i] = x.rested();
-    Reply { answer: Answer::Refused(6), sessions }
+    Reply {
+        answer: Answer::Refused(6),
+        sessions,
+    }
+}
+
+// Write: running only. A new cell is locked and entered as by read; then the entry is updated. 100.
+pub fn write(
+    sessions: Sessions,
+    values: &[u32],
+    classes: &[u8],
+    readers: &mut [u16],
+    claimants: &mut [u8],
+    exclusives: &mut [u8],
+    logs: &mut [u32],
+    session: u8,
+    cell: u32,
+    value: u32,
+) -> Reply
+    ensures { λ r. ⌜ outcome (r .answer) (storeOf (now (values .entry)) (now (classes .entry)) (now (readers .exit)) (now (claimants .exit)) (now (exclusives .exit)) (now (logs .exit)) (r .sessions)) ≡ taken (Write session cell value) (storeOf (now (values .entry)) (now (classes .entry)) (now (readers .entry)) (now (claimants .entry)) (now (exclusives .entry)) (now (logs .entry)) sessions) ⌝ }
+{
+    if !decide::lengths_fit(
+        values.len(),
+        classes.len(),
+        readers.len(),
+        claimants.len(),
+        exclusives.len(),
+        logs.len(),
+    ) {
+        return Reply {
+            answer: Answer::Refused(7),
+            sessions,
+        };
+    }
+    if 15 < session {
+        return Reply {
+            answer: Answer::Refused(1),
+            sessions,
+        };
+    }
+    write_as(
+        sessions,
+        values,
+        classes,
+        readers,
+        claimants,
+        exclusives,
+        logs,
+        session,
+        cell,
+        value,
+    )
 }
 
 // Seal: running only. The session leaves the readers of each cell entered but not written. 105 with nothing written, else 102.
-pub fn seal(mut sessions: Sessions, values: &[u32], classes: &[u8], readers: &mut [u16], claimants: &[u8], exclusives: &[u8], logs: &[u32], session: u8) -> Reply
+pub fn seal(
+    mut sessions: Sessions,
+    values: &[u32],
+    classes: &[u8],
+    readers: &mut [u16],
+    claimants: &[u8],
+    exclusives: &[u8],
+    logs: &[u32],
+    session: u8,
+) -> Reply
     ensures { λ r. ⌜ outcome (r .answer) (storeOf (now (values .entry)) (now (classes .entry)) (now (readers .exit)) (now (claimants .entry)) (now (exclusives .entry)) (now (logs .entry)) (r .sessions)) ≡ taken (Seal session) (storeOf (now (values .entry)) (now (classes .entry)) (now (readers .entry)) (now (claimants .entry)) (now (exclusives .entry)) (now (logs .entry)) sessions) ⌝ }
 {
     let n = values.len();
-    if !decide::lengths_fit(n, classes.len(), readers.len(), claimants.len(), exclusives.len(), logs.len()) {
-        return Reply { answer: Answer::Refused(7), sessions };
+    if !decide::lengths_fit(
+        n,
+        classes.len(),
+        readers.len(),
+        claimants.len(),
+        exclusives.len(),
+        logs.len(),
+    ) {
+        return Reply {
+            answer: Answer::Refused(7),
+            sessions,
+        };
     }
     if 15 < session {
-        return Reply { answer: Answer::Refused(1), sessions };
+        return Reply {
+            answer: Answer::Refused(1),
+            sessions,
+        };
     }
     let i = session as usize;
     let a = 128 * i;
@@ -222,21 +472,40 @@ pub fn seal(mut sessions: Sessions, values: &[u32], classes: &[u8], readers: &mu
     let x = sessions.records[i];
     let p = decide::seal(&logs[a..e], n, x);
     if let Plan::Refuse(number) = p {
-        return Reply { answer: Answer::Refused(number), sessions };
+        return Reply {
+            answer: Answer::Refused(number),
+            sessions,
+        };
     }
     let count = x.count as usize;
     locks::drop_reads(&logs[a..e], count, readers, session);
     if let Plan::CommitReads = p {
         sessions.records[i] = x.rested();
-        return Reply { answer: Answer::Committed, sessions };
+        return Reply {
+            answer: Answer::Committed,
+            sessions,
+        };
     }
     sessions.records[i] = x.sealed();
-    Reply { answer: Answer::Sealed, sessions }
+    Reply {
+        answer: Answer::Sealed,
+        sessions,
+    }
 }
 
 // A sealed session's step at entry k.
-fn advance_at(mut sessions: Sessions, values: &mut [u32], classes: &[u8], readers: &mut [u16], claimants: &mut [u8], exclusives: &mut [u8], logs: &[u32], session: u8, k: usize) -> Reply
-    requires { ⌜ (Admitted (storeOf (now values) (now classes) (now readers) (now claimants) (now exclusives) (now logs) sessions) session) × (k < sessionAt sessions session .count) × (sessionAt sessions session .phase ≤ 4) ⌝ }
+fn advance_at(
+    mut sessions: Sessions,
+    values: &mut [u32],
+    classes: &[u8],
+    readers: &mut [u16],
+    claimants: &mut [u8],
+    exclusives: &mut [u8],
+    logs: &[u32],
+    session: u8,
+    k: usize,
+) -> Reply
+    requires { ⌜ (Admitted (storeOf (now values) (now classes) (now readers) (now claimants) (now exclusives) (now logs) sessions) session) × (k < sessionAt sessions session .count) × (2 ≤ sessionAt sessions session .phase) × (sessionAt sessions session .phase ≤ 4) ⌝ }
     ensures { λ r. ⌜ outcome (r .answer) (storeOf (now (values .exit)) (now (classes .entry)) (now (readers .exit)) (now (claimants .exit)) (now (exclusives .exit)) (now (logs .entry)) (r .sessions)) ≡ carried session (advanceOn (part (now (logs .entry)) session) (sessionAt sessions session) (lockAt (locksOf (now (readers .entry)) (now (claimants .entry)) (now (exclusives .entry))) (cellAt (part (now (logs .entry)) session) 0 k)) session k) (storeOf (now (values .entry)) (now (classes .entry)) (now (readers .entry)) (now (claimants .entry)) (now (exclusives .entry)) (now (logs .entry)) sessions) ⌝ }
 {
     let i = session as usize;
@@ -248,41 +517,87 @@ fn advance_at(mut sessions: Sessions, values: &mut [u32], classes: &[u8], reader
     let l = locks::at(&readers[..], &claimants[..], &exclusives[..], cell);
     let p = decide::advance(log, x, l, session, k);
     if let Plan::Wait(_) = p {
-        locks::put(readers, claimants, exclusives, cell, locks::claimed(l, session));
-        return Reply { answer: Answer::Waiting, sessions };
+        locks::put(
+            readers,
+            claimants,
+            exclusives,
+            cell,
+            locks::claimed(l, session),
+        );
+        return Reply {
+            answer: Answer::Waiting,
+            sessions,
+        };
     }
     if let Plan::RollBack = p {
         let count = x.count as usize;
         locks::roll_back(log, count, readers, claimants, exclusives, session);
         sessions.records[i] = x.rested();
-        return Reply { answer: Answer::Refused(6), sessions };
+        return Reply {
+            answer: Answer::Refused(6),
+            sessions,
+        };
     }
     let h = decide::handle(log, values.len(), x, cell);
     let y = h.session;
     let answer = h.answer;
     sessions.records[i] = y;
     if let Plan::Own(_) = p {
-        locks::put(readers, claimants, exclusives, cell, locks::owned(l, session));
+        locks::put(
+            readers,
+            claimants,
+            exclusives,
+            cell,
+            locks::owned(l, session),
+        );
         return Reply { answer, sessions };
     }
     if let Plan::Publish(_, value) = p {
         values[cell as usize] = value;
         return Reply { answer, sessions };
     }
-    locks::put(readers, claimants, exclusives, cell, locks::vacated(l, session));
+    locks::put(
+        readers,
+        claimants,
+        exclusives,
+        cell,
+        locks::vacated(l, session),
+    );
     Reply { answer, sessions }
 }
 
 // Advance: phases 2 to 4. One written cell is promoted, published or released. 103, 104, 105, or 6.
-pub fn advance(sessions: Sessions, values: &mut [u32], classes: &[u8], readers: &mut [u16], claimants: &mut [u8], exclusives: &mut [u8], logs: &[u32], session: u8) -> Reply
+pub fn advance(
+    sessions: Sessions,
+    values: &mut [u32],
+    classes: &[u8],
+    readers: &mut [u16],
+    claimants: &mut [u8],
+    exclusives: &mut [u8],
+    logs: &[u32],
+    session: u8,
+) -> Reply
     ensures { λ r. ⌜ outcome (r .answer) (storeOf (now (values .exit)) (now (classes .entry)) (now (readers .exit)) (now (claimants .exit)) (now (exclusives .exit)) (now (logs .entry)) (r .sessions)) ≡ taken (Advance session) (storeOf (now (values .entry)) (now (classes .entry)) (now (readers .entry)) (now (claimants .entry)) (now (exclusives .entry)) (now (logs .entry)) sessions) ⌝ }
 {
     let n = values.len();
-    if !decide::lengths_fit(n, classes.len(), readers.len(), claimants.len(), exclusives.len(), logs.len()) {
-        return Reply { answer: Answer::Refused(7), sessions };
+    if !decide::lengths_fit(
+        n,
+        classes.len(),
+        readers.len(),
+        claimants.len(),
+        exclusives.len(),
+        logs.len(),
+    ) {
+        return Reply {
+            answer: Answer::Refused(7),
+            sessions,
+        };
     }
     if 15 < session {
-        return Reply { answer: Answer::Refused(1), sessions };
+        return Reply {
+            answer: Answer::Refused(1),
+            sessions,
+        };
     }
     let i = session as usize;
     let a = 128 * i;
@@ -290,21 +605,56 @@ pub fn advance(sessions: Sessions, values: &mut [u32], classes: &[u8], readers: 
     let x = sessions.records[i];
     let due = decide::due_slot(&logs[a..e], n, x);
     match due {
-        Due::Refused(number) => Reply { answer: Answer::Refused(number), sessions },
-        Due::Slot(k) => advance_at(sessions, values, classes, readers, claimants, exclusives, logs, session, k as usize),
+        Due::Refused(number) => Reply {
+            answer: Answer::Refused(number),
+            sessions,
+        },
+        Due::Slot(k) => advance_at(
+            sessions,
+            values,
+            classes,
+            readers,
+            claimants,
+            exclusives,
+            logs,
+            session,
+            k as usize,
+        ),
     }
 }
 
 // Abandon: phases 1 and 2. The session is rolled back. 100.
-pub fn abandon(mut sessions: Sessions, values: &[u32], classes: &[u8], readers: &mut [u16], claimants: &mut [u8], exclusives: &mut [u8], logs: &[u32], session: u8) -> Reply
+pub fn abandon(
+    mut sessions: Sessions,
+    values: &[u32],
+    classes: &[u8],
+    readers: &mut [u16],
+    claimants: &mut [u8],
+    exclusives: &mut [u8],
+    logs: &[u32],
+    session: u8,
+) -> Reply
     ensures { λ r. ⌜ outcome (r .answer) (storeOf (now (values .entry)) (now (classes .entry)) (now (readers .exit)) (now (claimants .exit)) (now (exclusives .exit)) (now (logs .entry)) (r .sessions)) ≡ taken (Abandon session) (storeOf (now (values .entry)) (now (classes .entry)) (now (readers .entry)) (now (claimants .entry)) (now (exclusives .entry)) (now (logs .entry)) sessions) ⌝ }
 {
     let n = values.len();
-    if !decide::lengths_fit(n, classes.len(), readers.len(), claimants.len(), exclusives.len(), logs.len()) {
-        return Reply { answer: Answer::Refused(7), sessions };
+    if !decide::lengths_fit(
+        n,
+        classes.len(),
+        readers.len(),
+        claimants.len(),
+        exclusives.len(),
+        logs.len(),
+    ) {
+        return Reply {
+            answer: Answer::Refused(7),
+            sessions,
+        };
     }
     if 15 < session {
-        return Reply { answer: Answer::Refused(1), sessions };
+        return Reply {
+            answer: Answer::Refused(1),
+            sessions,
+        };
     }
     let i = session as usize;
     let a = 128 * i;
@@ -313,22 +663,45 @@ pub fn abandon(mut sessions: Sessions, values: &[u32], classes: &[u8], readers: 
     let phase = x.phase;
     let turned = decide::tests(&logs[a..e], n, x, (phase == 1) | (phase == 2));
     if turned != 0 {
-        return Reply { answer: Answer::Refused(turned), sessions };
+        return Reply {
+            answer: Answer::Refused(turned),
+            sessions,
+        };
     }
     let count = x.count as usize;
     locks::roll_back(&logs[a..e], count, readers, claimants, exclusives, session);
     sessions.records[i] = x.rested();
-    Reply { answer: Answer::Done, sessions }
+    Reply {
+        answer: Answer::Done,
+        sessions,
+    }
 }
 
 // ---- peek
 
 // What a peek decides.
-fn peek_plan(sessions: Sessions, values: &[u32], classes: &[u8], readers: &[u16], claimants: &[u8], exclusives: &[u8], logs: &[u32], session: u8, cell: u32) -> Plan
+fn peek_plan(
+    sessions: Sessions,
+    values: &[u32],
+    classes: &[u8],
+    readers: &[u16],
+    claimants: &[u8],
+    exclusives: &[u8],
+    logs: &[u32],
+    session: u8,
+    cell: u32,
+) -> Plan
     ensures { λ r. ⌜ r ≡ planOf (Peek session cell) (storeOf (now (values .entry)) (now (classes .entry)) (now (readers .entry)) (now (claimants .entry)) (now (exclusives .entry)) (now (logs .entry)) sessions) ⌝ }
 {
     let n = values.len();
-    if !decide::lengths_fit(n, classes.len(), readers.len(), claimants.len(), exclusives.len(), logs.len()) {
+    if !decide::lengths_fit(
+        n,
+        classes.len(),
+        readers.len(),
+        claimants.len(),
+        exclusives.len(),
+        logs.len(),
+    ) {
         return Plan::Refuse(7);
     }
     if 15 < session {
@@ -342,10 +715,30 @@ fn peek_plan(sessions: Sessions, values: &[u32], classes: &[u8], readers: &[u16]
 }
 
 // Peek: running only. One word, the store's own or the log's own; no word where the peek is refused.
-pub fn peek<'a>(sessions: Sessions, values: &'a [u32], classes: &[u8], readers: &[u16], claimants: &[u8], exclusives: &[u8], logs: &'a [u32], session: u8, cell: u32) -> &'a [u32]
+pub fn peek<'a>(
+    sessions: Sessions,
+    values: &'a [u32],
+    classes: &[u8],
+    readers: &[u16],
+    claimants: &[u8],
+    exclusives: &[u8],
+    logs: &'a [u32],
+    session: u8,
+    cell: u32,
+) -> &'a [u32]
     ensures { λ r. ⌜ Handed (values .entry) (logs .entry) (shown session (planOf (Peek session cell) (storeOf (now (values .entry)) (now (classes .entry)) (now (readers .entry)) (now (claimants .entry)) (now (exclusives .entry)) (now (logs .entry)) sessions))) r ⌝ }
 {
-    let p = peek_plan(sessions, values, classes, readers, claimants, exclusives, logs, session, cell);
+    let p = peek_plan(
+        sessions,
+        values,
+        classes,
+        readers,
+        claimants,
+        exclusives,
+        logs,
+        session,
+        cell,
+    );
     if let Plan::ShowStore(_) = p {
         let c = cell as usize;
         let d = c + 1;
@@ -360,29 +753,131 @@ pub fn peek<'a>(sessions: Sessions, values: &'a [u32], classes: &[u8], readers: 
 }
 
 // Peek's twin: 100 or a refusal.
-pub fn peek_number(sessions: Sessions, values: &[u32], classes: &[u8], readers: &[u16], claimants: &[u8], exclusives: &[u8], logs: &[u32], session: u8, cell: u32) -> Reply
+pub fn peek_number(
+    sessions: Sessions,
+    values: &[u32],
+    classes: &[u8],
+    readers: &[u16],
+    claimants: &[u8],
+    exclusives: &[u8],
+    logs: &[u32],
+    session: u8,
+    cell: u32,
+) -> Reply
     ensures { λ r. ⌜ outcome (r .answer) (storeOf (now (values .entry)) (now (classes .entry)) (now (readers .entry)) (now (claimants .entry)) (now (exclusives .entry)) (now (logs .entry)) (r .sessions)) ≡ taken (Peek session cell) (storeOf (now (values .entry)) (now (classes .entry)) (now (readers .entry)) (now (claimants .entry)) (now (exclusives .entry)) (now (logs .entry)) sessions) ⌝ }
 {
-    let p = peek_plan(sessions, values, classes, readers, claimants, exclusives, logs, session, cell);
+    let p = peek_plan(
+        sessions,
+        values,
+        classes,
+        readers,
+        claimants,
+        exclusives,
+        logs,
+        session,
+        cell,
+    );
     if let Plan::Refuse(number) = p {
-        return Reply { answer: Answer::Refused(number), sessions };
+        return Reply {
+            answer: Answer::Refused(number),
+            sessions,
+        };
     }
-    Reply { answer: Answer::Done, sessions }
+    Reply {
+        answer: Answer::Done,
+        sessions,
+    }
 }
 
 // ---- any call
 
 // One call of a list.
-pub fn step(call: Call, sessions: Sessions, values: &mut [u32], classes: &[u8], readers: &mut [u16], claimants: &mut [u8], exclusives: &mut [u8], logs: &mut [u32]) -> Reply
+pub fn step(
+    call: Call,
+    sessions: Sessions,
+    values: &mut [u32],
+    classes: &[u8],
+    readers: &mut [u16],
+    claimants: &mut [u8],
+    exclusives: &mut [u8],
+    logs: &mut [u32],
+) -> Reply
     ensures { λ r. ⌜ outcome (r .answer) (storeOf (now (values .exit)) (now (classes .entry)) (now (readers .exit)) (now (claimants .exit)) (now (exclusives .exit)) (now (logs .exit)) (r .sessions)) ≡ taken call (storeOf (now (values .entry)) (now (classes .entry)) (now (readers .entry)) (now (claimants .entry)) (now (exclusives .entry)) (now (logs .entry)) sessions) ⌝ }
 {
     match call {
-        Call::Begin(s) => begin(sessions, &values[..], classes, &readers[..], &claimants[..], &exclusives[..], &logs[..], s),
-        Call::Read(s, c) => read(sessions, &values[..], classes, readers, claimants, exclusives, logs, s, c),
-        Call::Write(s, c, v) => write(sessions, &values[..], classes, readers, claimants, exclusives, logs, s, c, v),
-        Call::Seal(s) => seal(sessions, &values[..], classes, readers, &claimants[..], &exclusives[..], &logs[..], s),
-        Call::Advance(s) => advance(sessions, values, classes, readers, claimants, exclusives, &logs[..], s),
-        Call::Abandon(s) => abandon(sessions, &values[..], classes, readers, claimants, exclusives, &logs[..], s),
-        Call::Peek(s, c) => peek_number(sessions, &values[..], classes, &readers[..], &claimants[..], &exclusives[..], &logs[..], s, c),
+        Call::Begin(s) => begin(
+            sessions,
+            &values[..],
+            classes,
+            &readers[..],
+            &claimants[..],
+            &exclusives[..],
+            &logs[..],
+            s,
+        ),
+        Call::Read(s, c) => read(
+            sessions,
+            &values[..],
+            classes,
+            readers,
+            claimants,
+            exclusives,
+            logs,
+            s,
+            c,
+        ),
+        Call::Write(s, c, v) => write(
+            sessions,
+            &values[..],
+            classes,
+            readers,
+            claimants,
+            exclusives,
+            logs,
+            s,
+            c,
+            v,
+        ),
+        Call::Seal(s) => seal(
+            sessions,
+            &values[..],
+            classes,
+            readers,
+            &claimants[..],
+            &exclusives[..],
+            &logs[..],
+            s,
+        ),
+        Call::Advance(s) => advance(
+            sessions,
+            values,
+            classes,
+            readers,
+            claimants,
+            exclusives,
+            &logs[..],
+            s,
+        ),
+        Call::Abandon(s) => abandon(
+            sessions,
+            &values[..],
+            classes,
+            readers,
+            claimants,
+            exclusives,
+            &logs[..],
+            s,
+        ),
+        Call::Peek(s, c) => peek_number(
+            sessions,
+            &values[..],
+            classes,
+            &readers[..],
+            &claimants[..],
+            &exclusives[..],
+            &logs[..],
+            s,
+            c,
+        ),
     }
 }

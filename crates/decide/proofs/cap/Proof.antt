@@ -1,20 +1,13 @@
+-- The table is the model's list of caps.
+use mathlib.Core.Path.{refl}
 use borrow.Author.Needs.{needs}
+use Rattle.model.specs.Buffers.{caps, cap}
 use Rattle.decide.proofs.cap.Statement.{statement}
 use Rattle.decide.proofs.cap.Tie as tie
-use Rattle.decide.proofs.cap.Reads as reads
-use Rattle.decide.proofs.cap.Lts as lts
 
--- src/lib.rt:27:5
-mul-result : tie.Need-mul-result
-mul-result c = search needs
-
--- src/lib.rt:27:5
-array-read-result : tie.Need-array-read-result
-array-read-result c = search needs
-
--- src/lib.rt:23:1
 returns : tie.Need-returns
-returns c = ?
+unfolding cap caps
+returns c = refl
 
 pub cap-spec : {M : Type 1} → statement M
-cap-spec = tie.close (tie.spec mul-result array-read-result returns)
+cap-spec = tie.close (tie.spec (λ c. search needs) (λ c. search needs) returns)

@@ -1,61 +1,38 @@
+-- Each return is a way through `dueOn`.
+use native.Mathlib.Omega.{arith}
+use borrow.Author.Needs.{needs}
+use borrow.Author.Tests.{not-true, not-false}
+use Rattle.decide.proofs.Ways.{listed, due-odd, due-early, due-none, due-some}
 use Rattle.decide.proofs.due_slot.Statement.{statement}
 use Rattle.decide.proofs.due_slot.Tie as tie
-use Rattle.decide.proofs.due_slot.Reads as reads
-use Rattle.decide.proofs.due_slot.Lts as lts
-use Rattle.decide.proofs.entries_fit.Reads as entries-fit-reads
-use Rattle.log.proofs.target.Reads as target-reads
 
--- src/lib.rt:216:17
-cast-count : tie.Need-cast-count
-cast-count c = ?
-
--- src/lib.rt:217:16
-cast-next : tie.Need-cast-next
-cast-next c = ?
-
--- src/lib.rt:218:9
-entries-fit-requires : tie.Need-entries-fit-requires
-entries-fit-requires c κs = ?
-
--- src/lib.rt:219:9
 returns : tie.Need-returns
-returns c = ?
+returns c = due-odd _ _ _ _ (c .before .entries-fit .ensures) (not-true _ (c .if1 .taken))
 
--- src/lib.rt:222:9
 returns-2 : tie.Need-returns-2
-returns-2 c = ?
+returns-2 c =
+    let t = c .before in
+    due-early _ _ _ _ (t .before .entries-fit .ensures) (not-false _ (t .if1 .left)) (c .if2 .taken)
 
--- src/lib.rt:224:37
-cast-target : tie.Need-cast-target
-cast-target c = ?
-
--- src/lib.rt:224:9
 target-requires : tie.Need-target-requires
-target-requires c κs = ?
+target-requires c κs =
+    let t = c .before in
+    let w = listed _ _ _ _ (t .before .entries-fit .ensures) (not-false _ (t .if1 .left)) (c .if2 .left) in
+    (omega (arith, w .count), search needs, w .cells)
 
--- src/lib.rt:226:9
 returns-3 : tie.Need-returns-3
-returns-3 c = ?
+returns-3 c =
+    let p = c .before .before in
+    let t = p .before in
+    due-none _ _ _ _ (t .before .entries-fit .ensures) (not-false _ (t .if1 .left)) (p .if2 .left) _ (c .before .target .ensures) (c .if3 .taken)
 
--- src/lib.rt:228:15
-cast-t10 : tie.Need-cast-t10
-cast-t10 c = ?
-
--- src/lib.rt:211:1
 returns-4 : tie.Need-returns-4
-returns-4 c = ?
+returns-4 c =
+    let p = c .before .before in
+    let t = p .before in
+    due-some _ _ _ _ (t .before .entries-fit .ensures) (not-false _ (t .if1 .left)) (p .if2 .left) _ (c .before .target .ensures) (c .if3 .left)
 
 pub due-slot-spec : {M : Type 1} → statement M
 due-slot-spec =
     tie.close
-    (tie.spec
-    cast-count
-    cast-next
-    entries-fit-requires
-    returns
-    returns-2
-    cast-target
-    target-requires
-    returns-3
-    cast-t10
-    returns-4)
+    (tie.spec (λ c. search needs) (λ c. search needs) (λ c κs. search needs) returns returns-2 (λ c. search needs) target-requires returns-3 (λ c. search needs) returns-4)

@@ -1,35 +1,47 @@
+-- Each return is a test of `lengthsOn` that fails, and the last one is what is left of them.
+use native.Mathlib.Omega.{arith}
+use borrow.Author.Tests.{lt-leb, le-leb, eq-eqb, ne-eqb}
+use Rattle.model.proofs.Tools.{and-false}
+use Rattle.decide.specs.Own.{lengthsOn}
 use Rattle.decide.proofs.lengths_fit.Statement.{statement}
 use Rattle.decide.proofs.lengths_fit.Tie as tie
-use Rattle.decide.proofs.lengths_fit.Reads as reads
-use Rattle.decide.proofs.lengths_fit.Lts as lts
 
--- src/lib.rt:37:9
 returns : tie.Need-returns
-returns c = ?
+unfolding lengthsOn
+returns c = simp (lt-leb 1 (c .before .args .n) (omega arith))
 
--- src/lib.rt:40:9
 returns-2 : tie.Need-returns-2
-returns-2 c = ?
+unfolding lengthsOn
+returns-2 c = simp (lt-leb (c .before .before .args .n) 1024 (c .if2 .taken), and-false)
 
--- src/lib.rt:43:9
 returns-3 : tie.Need-returns-3
-returns-3 c = ?
+unfolding lengthsOn
+returns-3 c = simp (ne-eqb _ _ (c .if3 .taken), and-false)
 
--- src/lib.rt:46:9
 returns-4 : tie.Need-returns-4
-returns-4 c = ?
+unfolding lengthsOn
+returns-4 c = simp (ne-eqb _ _ (c .if4 .taken), and-false)
 
--- src/lib.rt:49:9
 returns-5 : tie.Need-returns-5
-returns-5 c = ?
+unfolding lengthsOn
+returns-5 c = simp (ne-eqb _ _ (c .if5 .taken), and-false)
 
--- src/lib.rt:52:9
 returns-6 : tie.Need-returns-6
-returns-6 c = ?
+unfolding lengthsOn
+returns-6 c = simp (ne-eqb _ _ (c .if6 .taken), and-false)
 
--- src/lib.rt:33:1
 returns-7 : tie.Need-returns-7
-returns-7 c = ?
+unfolding lengthsOn
+returns-7 c =
+    let n = c .before .before .before .before .before .before .args .n in
+    simp (
+      le-leb 1 n (omega arith),
+      le-leb n 1024 (omega arith),
+      eq-eqb _ _ (c .before .before .before .if3 .left),
+      eq-eqb _ _ (c .before .before .if4 .left),
+      eq-eqb _ _ (c .before .if5 .left),
+      eq-eqb _ _ (c .if6 .left),
+    )
 
 pub lengths-fit-spec : {M : Type 1} → statement M
 lengths-fit-spec =

@@ -1,5 +1,4 @@
 -- Each return is a case of the model's `newCell`.
-use mathlib.Core.Bool.{not}
 use native.Mathlib.Omega.{arith}
 use borrow.Author.Tests.{lt-ltb, le-ltb, eq-eqb, ne-eqb}
 use Rattle.model.specs.Step.{newCell, claimed}

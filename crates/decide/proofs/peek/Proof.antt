@@ -1,62 +1,50 @@
+-- Each return is a way through `peekOn`.
+use borrow.Author.Needs.{needs}
+use Rattle.decide.specs.Own.{peekOn}
+use Rattle.decide.proofs.Ways.{turned, room, inside, peek-outside, peek-new, peek-written, peek-read}
 use Rattle.decide.proofs.peek.Statement.{statement}
 use Rattle.decide.proofs.peek.Tie as tie
-use Rattle.decide.proofs.peek.Reads as reads
-use Rattle.decide.proofs.peek.Lts as lts
-use Rattle.decide.proofs.tests.Reads as tests-reads
-use Rattle.log.proofs.dirty.Reads as dirty-reads
-use Rattle.log.proofs.find.Reads as find-reads
 
--- src/lib.rt:299:17
-cast-count : tie.Need-cast-count
-cast-count c = ?
-
--- src/lib.rt:300:9
-tests-requires : tie.Need-tests-requires
-tests-requires c κs = ?
-
--- src/lib.rt:302:9
 returns : tie.Need-returns
-returns c = ?
+unfolding peekOn
+returns c = turned _ _ _ _ (c .before .tests .ensures) (c .if1 .taken)
 
--- src/lib.rt:305:9
 returns-2 : tie.Need-returns-2
-returns-2 c = ?
+returns-2 c = peek-outside _ _ _ _ (c .before .before .tests .ensures) (c .before .if1 .left) _ (c .if2 .taken)
 
--- src/lib.rt:307:9
 find-requires : tie.Need-find-requires
-find-requires c κs = ?
+find-requires c κs =
+    let t = c .before in
+    room _ _ _ _ (t .before .tests .ensures) (t .if1 .left) (t .before .before .before .before .pre .0)
 
--- src/lib.rt:309:9
 returns-3 : tie.Need-returns-3
-returns-3 c = ?
+returns-3 c =
+    let f = c .before in
+    let t = f .before .before in
+    peek-new _ _ _ _ (t .before .tests .ensures) (t .if1 .left) _ (f .before .if2 .left) _ (f .find .ensures) (c .if3 .taken)
 
--- src/lib.rt:311:8
 dirty-requires : tie.Need-dirty-requires
-dirty-requires c κs = ?
+dirty-requires c κs =
+    let t = c .before .before .before in
+    inside _ _ _ _ (t .before .tests .ensures) (t .if1 .left) (t .before .before .before .before .pre .0) _ (c .if3 .left)
 
--- src/lib.rt:312:30
-cast-t12 : tie.Need-cast-t12
-cast-t12 c = ?
-
--- src/lib.rt:312:9
 returns-4 : tie.Need-returns-4
-returns-4 c = ?
+returns-4 c =
+    let k = c .before .before in
+    let f = k .before in
+    let t = f .before .before in
+    peek-written _ _ _ _ (t .before .tests .ensures) (t .if1 .left) _ (f .before .if2 .left) _ (f .find .ensures) (k .if3 .left) _
+    (c .before .dirty .ensures) (c .if4 .taken)
 
--- src/lib.rt:294:1
 returns-5 : tie.Need-returns-5
-returns-5 c = ?
+returns-5 c =
+    let k = c .before .before in
+    let f = k .before in
+    let t = f .before .before in
+    peek-read _ _ _ _ (t .before .tests .ensures) (t .if1 .left) _ (f .before .if2 .left) _ (f .find .ensures) (k .if3 .left) _
+    (c .before .dirty .ensures) (c .if4 .left)
 
 pub peek-spec : {M : Type 1} → statement M
 peek-spec =
     tie.close
-    (tie.spec
-    cast-count
-    tests-requires
-    returns
-    returns-2
-    find-requires
-    returns-3
-    dirty-requires
-    cast-t12
-    returns-4
-    returns-5)
+    (tie.spec (λ c. search needs) (λ c κs. search needs) returns returns-2 find-requires returns-3 dirty-requires (λ c. search needs) returns-4 returns-5)

@@ -1,35 +1,28 @@
+-- Each return is a way through `sealOn`.
+use borrow.Author.Needs.{needs}
+use Rattle.decide.specs.Own.{sealOn}
+use Rattle.decide.proofs.Ways.{turned, room, seal-writes, seal-reads}
 use Rattle.decide.proofs.seal.Statement.{statement}
 use Rattle.decide.proofs.seal.Tie as tie
-use Rattle.decide.proofs.seal.Reads as reads
-use Rattle.decide.proofs.seal.Lts as lts
-use Rattle.decide.proofs.tests.Reads as tests-reads
-use Rattle.log.proofs.any_publishes.Reads as any-publishes-reads
 
--- src/lib.rt:191:17
-cast-count : tie.Need-cast-count
-cast-count c = ?
-
--- src/lib.rt:192:9
-tests-requires : tie.Need-tests-requires
-tests-requires c κs = ?
-
--- src/lib.rt:194:9
 returns : tie.Need-returns
-returns c = ?
+unfolding sealOn
+returns c = turned _ _ _ _ (c .before .tests .ensures) (c .if1 .taken)
 
--- src/lib.rt:196:8
 any-publishes-requires : tie.Need-any-publishes-requires
-any-publishes-requires c κs = ?
+any-publishes-requires c κs = room _ _ _ _ (c .before .tests .ensures) (c .if1 .left) (c .before .before .before .before .pre .0)
 
--- src/lib.rt:197:9
 returns-2 : tie.Need-returns-2
-returns-2 c = ?
+returns-2 c =
+    let t = c .before .before in
+    seal-writes _ _ _ _ (t .before .tests .ensures) (t .if1 .left) _ (c .before .any-publishes .ensures) (c .if2 .taken)
 
--- src/lib.rt:186:1
 returns-3 : tie.Need-returns-3
-returns-3 c = ?
+returns-3 c =
+    let t = c .before .before in
+    seal-reads _ _ _ _ (t .before .tests .ensures) (t .if1 .left) _ (c .before .any-publishes .ensures) (c .if2 .left)
 
 pub seal-spec : {M : Type 1} → statement M
 seal-spec =
     tie.close
-    (tie.spec cast-count tests-requires returns any-publishes-requires returns-2 returns-3)
+    (tie.spec (λ c. search needs) (λ c κs. search needs) returns any-publishes-requires returns-2 returns-3)

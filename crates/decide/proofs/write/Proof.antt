@@ -1,52 +1,40 @@
+-- Each return is a way through `writeOn`: the tests' number, the cell outside, an odd class, or what the cap leaves.
+use borrow.Author.Needs.{needs}
+use Rattle.decide.specs.Own.{writeOn}
+use Rattle.decide.proofs.Ways.{turned, few, write-outside, write-odd, write-class}
 use Rattle.decide.proofs.write.Statement.{statement}
 use Rattle.decide.proofs.write.Tie as tie
-use Rattle.decide.proofs.write.Reads as reads
-use Rattle.decide.proofs.write.Lts as lts
-use Rattle.decide.proofs.cap.Reads as cap-reads
-use Rattle.decide.proofs.tests.Reads as tests-reads
-use Rattle.decide.proofs.write_capped.Reads as write-capped-reads
 
--- src/lib.rt:168:9
-tests-requires : tie.Need-tests-requires
-tests-requires c κs = ?
-
--- src/lib.rt:170:9
 returns : tie.Need-returns
-returns c = ?
+unfolding writeOn
+returns c = turned _ _ _ _ (c .before .tests .ensures) (c .if1 .taken)
 
--- src/lib.rt:174:9
 returns-2 : tie.Need-returns-2
-returns-2 c = ?
+returns-2 c = write-outside _ _ _ _ (c .before .before .tests .ensures) (c .before .if1 .left) _ _ _ _ (c .if2 .taken)
 
--- src/lib.rt:176:17
 shared-slice-read-class : tie.Need-shared-slice-read-class
-shared-slice-read-class c = ?
+shared-slice-read-class c = c .before .if2 .left
 
--- src/lib.rt:178:9
 returns-3 : tie.Need-returns-3
-returns-3 c = ?
+returns-3 c =
+    let i = c .before .before in
+    let t = i .before in
+    write-odd _ _ _ _ (t .before .tests .ensures) (t .if1 .left) _ _ _ _ (i .if2 .left) (c .if3 .taken)
 
--- src/lib.rt:180:42
-cap-requires : tie.Need-cap-requires
-cap-requires c κs = ?
-
--- src/lib.rt:180:5
 write-capped-requires : tie.Need-write-capped-requires
-write-capped-requires c κs = ?
+write-capped-requires c κs =
+    let t = c .before .before .before .before in
+    (t .before .before .before .before .pre .0, few _ _ _ _ (t .before .tests .ensures) (t .if1 .left))
 
--- src/lib.rt:162:1
 returns-4 : tie.Need-returns-4
-returns-4 c = ?
+returns-4 c =
+    let k = c .before .before in
+    let i = k .before .before in
+    let t = i .before in
+    write-class _ _ _ _ (t .before .tests .ensures) (t .if1 .left) _ _ _ _ (i .if2 .left) (k .if3 .left) _ (c .before .cap .ensures) _
+    (c .write-capped .ensures)
 
 pub write-spec : {M : Type 1} → statement M
 write-spec =
     tie.close
-    (tie.spec
-    tests-requires
-    returns
-    returns-2
-    shared-slice-read-class
-    returns-3
-    cap-requires
-    write-capped-requires
-    returns-4)
+    (tie.spec (λ c κs. search needs) returns returns-2 shared-slice-read-class returns-3 (λ c κs. search needs) write-capped-requires returns-4)

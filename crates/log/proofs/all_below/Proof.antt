@@ -1,18 +1,14 @@
 -- The loop keeps that the cells so far are below n; it ends at one that is not, or past the last.
 use Prim.Native.Nat.{_≤_, _-_}
-use mathlib.Core.Path.{_≡_, refl, sym}
 use mathlib.Core.Bool.{true}
-use native.Mathlib.Omega.{arith}
+use mathlib.Core.Path.{_≡_, refl, sym}
 use native.Mathlib.Numerals.{add-one}
-use borrow.Author.Needs.{needs}
-use Rattle.model.specs.Search.{below}
+use native.Mathlib.Omega.{arith}
 use Rattle.model.specs.Buffers.{cellAt}
+use Rattle.model.specs.Search.{below}
 use Rattle.log.proofs.Searches.{below-stop, below-more}
 use Rattle.log.proofs.all_below.Statement.{statement}
 use Rattle.log.proofs.all_below.Tie as tie
-use Rattle.log.proofs.all_below.Reads as reads
-use Rattle.log.proofs.all_below.Lts as lts
-use Rattle.log.proofs.cell_at.Reads as cell-at-reads
 
 abbrev Inv-loop : tie.InvT-loop
 Inv-loop log count n i₀ i = (i ≤ count) × (below n (cellAt log 0) i ≡ true)

@@ -1,12 +1,13 @@
+-- The loop keeps that no entry so far publishes and is the first of its cell; it ends at one that does, or past the last.
 use Prim.Native.Nat.{ℕ, _<_, _≤_, _-_}
-use mathlib.Core.Path.{_≡_}
 use mathlib.Core.Bool.{false}
+use mathlib.Core.Path.{sym, _∙_, _≡_}
+use native.Mathlib.Omega.{arith}
+use Rattle.model.proofs.Tools.{same}
 use Rattle.log.specs.Slots.{firstPublishes}
+use Rattle.log.proofs.Targets.{any-here, any-nowhere}
 use Rattle.log.proofs.any_publishes.Statement.{statement}
 use Rattle.log.proofs.any_publishes.Tie as tie
-use Rattle.log.proofs.any_publishes.Reads as reads
-use Rattle.log.proofs.any_publishes.Lts as lts
-use Rattle.log.proofs.first_publishes.Reads as first-publishes-reads
 
 abbrev Inv-loop : tie.InvT-loop
 Inv-loop log count i₀ i = (i ≤ count) × ((j : ℕ) → j < i → firstPublishes log j ≡ false)
@@ -14,33 +15,26 @@ Inv-loop log count i₀ i = (i ≤ count) × ((j : ℕ) → j < i → firstPubli
 abbrev μ-loop : tie.MeasureT-loop
 μ-loop log count i₀ i = count - i
 
--- src/lib.rt:135:5
 loop-holds : tie.Need-loop-holds Inv-loop μ-loop
-loop-holds c = ?
+loop-holds c = (omega arith, λ j l. absurd (omega arith))
 
--- src/lib.rt:136:12
 first-publishes-requires : tie.Need-first-publishes-requires Inv-loop μ-loop
-first-publishes-requires c κs = ?
+first-publishes-requires c κs = omega arith
 
--- src/lib.rt:137:13
 returns : tie.Need-returns Inv-loop μ-loop
-returns c = ?
+returns c = any-here _ _ _ (c .before .before .loop-test .taken) (sym (c .before .first-publishes .ensures) ∙ c .if1 .taken)
 
--- src/lib.rt:139:9
 add-i : tie.Need-add-i Inv-loop μ-loop
-add-i c = ?
+add-i c = omega arith
 
--- src/lib.rt:135:5
 loop-less : tie.Need-loop-less Inv-loop μ-loop
-loop-less c = ?
+loop-less c = omega arith
 
--- src/lib.rt:135:5
 loop-again : tie.Need-loop-again Inv-loop μ-loop
-loop-again c = ?
+loop-again c = (omega arith, λ j l. same j _ (λ e. rw e (sym (c .before .first-publishes .ensures) ∙ c .if1 .left)) (λ n. c .before .before .before .loop .inv .1 j (omega arith)))
 
--- src/lib.rt:130:1
 returns-2 : tie.Need-returns-2 Inv-loop μ-loop
-returns-2 c = ?
+returns-2 c = any-nowhere _ _ (λ j l. c .before .loop .inv .1 j (omega arith))
 
 pub any-publishes-spec : {M : Type 1} → statement M
 any-publishes-spec =

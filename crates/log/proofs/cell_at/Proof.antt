@@ -1,11 +1,9 @@
 -- Entry k's cell is the word at 4 × k.
 use mathlib.Core.Path.{sym}
-use Rattle.log.proofs.Searches.{cell-word}
 use borrow.Author.Needs.{needs}
+use Rattle.log.proofs.Searches.{cell-word}
 use Rattle.log.proofs.cell_at.Statement.{statement}
 use Rattle.log.proofs.cell_at.Tie as tie
-use Rattle.log.proofs.cell_at.Reads as reads
-use Rattle.log.proofs.cell_at.Lts as lts
 
 mul-result : tie.Need-mul-result
 mul-result c = search needs

@@ -1,12 +1,10 @@
 -- Entry k's present value is the word at 4 × k + 2.
 use mathlib.Core.Path.{sym}
+use borrow.Author.Needs.{needs}
 use Rattle.model.specs.Buffers.{entryAt}
 use Rattle.log.proofs.Searches.{word-at}
-use borrow.Author.Needs.{needs}
 use Rattle.log.proofs.current.Statement.{statement}
 use Rattle.log.proofs.current.Tie as tie
-use Rattle.log.proofs.current.Reads as reads
-use Rattle.log.proofs.current.Lts as lts
 
 mul-result : tie.Need-mul-result
 mul-result c = search needs

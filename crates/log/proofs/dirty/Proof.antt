@@ -1,12 +1,10 @@
 -- Entry k is written where the word at 4 × k + 3 is odd.
-use Rattle.model.specs.Readers.{odd}
-use Rattle.model.specs.Buffers.{entryAt}
-use Rattle.log.proofs.Searches.{word-at}
 use borrow.Author.Needs.{needs}
+use Rattle.model.specs.Buffers.{entryAt}
+use Rattle.model.specs.Readers.{odd}
+use Rattle.log.proofs.Searches.{word-at}
 use Rattle.log.proofs.dirty.Statement.{statement}
 use Rattle.log.proofs.dirty.Tie as tie
-use Rattle.log.proofs.dirty.Reads as reads
-use Rattle.log.proofs.dirty.Lts as lts
 
 mul-result : tie.Need-mul-result
 mul-result c = search needs

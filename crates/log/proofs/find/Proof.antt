@@ -1,16 +1,12 @@
 -- The loop keeps that no entry so far has the cell; it ends at the first that has it, or past the last.
 use Prim.Native.Nat.{_≤_, _-_}
-use mathlib.Core.Path.{_≡_, sym, _∙_}
 use mathlib.Core.Option.{none}
+use mathlib.Core.Path.{_≡_, sym, _∙_}
 use native.Mathlib.Omega.{arith}
-use borrow.Author.Needs.{needs}
 use Rattle.model.specs.Buffers.{slotIn}
 use Rattle.log.proofs.Searches.{slot-start, slot-step, slot-here, slot-nowhere}
 use Rattle.log.proofs.find.Statement.{statement}
 use Rattle.log.proofs.find.Tie as tie
-use Rattle.log.proofs.find.Reads as reads
-use Rattle.log.proofs.find.Lts as lts
-use Rattle.log.proofs.cell_at.Reads as cell-at-reads
 
 abbrev Inv-loop : tie.InvT-loop
 Inv-loop log count cell i₀ i = (i ≤ count) × (slotIn log 0 i cell ≡ none)

@@ -1,34 +1,27 @@
+-- One way through for each return: the cell is below the start, not below what is held, taken, or not written.
+use mathlib.Core.Path.{sym, _∙_}
 use borrow.Author.Needs.{needs}
+use Rattle.log.proofs.Targets.{lower-before, lower-above, lower-here, lower-unwritten}
 use Rattle.log.proofs.lower.Statement.{statement}
 use Rattle.log.proofs.lower.Tie as tie
-use Rattle.log.proofs.lower.Reads as reads
-use Rattle.log.proofs.lower.Lts as lts
-use Rattle.log.proofs.cell_at.Reads as cell-at-reads
-use Rattle.log.proofs.publishes.Reads as publishes-reads
 
--- src/lib.rt:78:9
 cell-at-requires : tie.Need-cell-at-requires
 cell-at-requires c κs = search needs
 
--- src/lib.rt:80:9
 returns : tie.Need-returns
-returns c = ?
+returns c = lower-before _ _ _ _ _ (c .before .cell-at .ensures) (c .if1 .taken)
 
--- src/lib.rt:83:9
 returns-2 : tie.Need-returns-2
-returns-2 c = ?
+returns-2 c = lower-above _ _ _ _ _ (c .before .before .cell-at .ensures) (c .if2 .taken)
 
--- src/lib.rt:85:8
 publishes-requires : tie.Need-publishes-requires
 publishes-requires c κs = search needs
 
--- src/lib.rt:86:9
 returns-3 : tie.Need-returns-3
-returns-3 c = ?
+returns-3 c = lower-here _ _ _ _ _ (c .before .before .before .before .cell-at .ensures) (c .before .before .before .if1 .left) (c .before .before .if2 .left) (sym (c .before .publishes .ensures) ∙ c .if3 .taken)
 
--- src/lib.rt:74:1
 returns-4 : tie.Need-returns-4
-returns-4 c = ?
+returns-4 c = lower-unwritten _ _ _ _ _ (c .before .before .before .before .cell-at .ensures) (sym (c .before .publishes .ensures) ∙ c .if3 .left)
 
 pub lower-spec : {M : Type 1} → statement M
 lower-spec =

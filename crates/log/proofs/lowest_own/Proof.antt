@@ -1,11 +1,11 @@
+-- The loop keeps the lowest cell of the entries so far.
 use Prim.Native.Nat.{_≤_, _-_}
-use mathlib.Core.Path.{_≡_}
+use mathlib.Core.Path.{refl, _∙_, _≡_}
+use native.Mathlib.Omega.{arith}
 use Rattle.log.specs.Slots.{lowestOwn}
+use Rattle.log.proofs.Targets.{own-more}
 use Rattle.log.proofs.lowest_own.Statement.{statement}
 use Rattle.log.proofs.lowest_own.Tie as tie
-use Rattle.log.proofs.lowest_own.Reads as reads
-use Rattle.log.proofs.lowest_own.Lts as lts
-use Rattle.log.proofs.lower.Reads as lower-reads
 
 abbrev Inv-loop : tie.InvT-loop
 Inv-loop log count n from i₀ held₀ i held = (i ≤ count) × (held ≡ lowestOwn log n from i)
@@ -13,29 +13,24 @@ Inv-loop log count n from i₀ held₀ i held = (i ≤ count) × (held ≡ lowes
 abbrev μ-loop : tie.MeasureT-loop
 μ-loop log count n from i₀ held₀ i held = count - i
 
--- src/lib.rt:98:9
 loop-holds : tie.Need-loop-holds Inv-loop μ-loop
-loop-holds c = ?
+unfolding lowestOwn
+loop-holds c = (omega arith, refl)
 
--- src/lib.rt:102:9
 lower-requires : tie.Need-lower-requires Inv-loop μ-loop
-lower-requires c κs = ?
+lower-requires c κs = omega arith
 
--- src/lib.rt:103:9
 add-i : tie.Need-add-i Inv-loop μ-loop
-add-i c = ?
+add-i c = omega arith
 
--- src/lib.rt:98:9
 loop-less : tie.Need-loop-less Inv-loop μ-loop
-loop-less c = ?
+loop-less c = omega arith
 
--- src/lib.rt:98:9
 loop-again : tie.Need-loop-again Inv-loop μ-loop
-loop-again c = ?
+loop-again c = (omega arith, c .lower .ensures ∙ rw (c .before .before .loop .inv .1) (own-more _ _ _ _))
 
--- src/lib.rt:92:1
 returns : tie.Need-returns Inv-loop μ-loop
-returns c = ?
+returns c = let e : c .before .loop .i ≡ c .before .before .before .args .count = omega arith in rw e at (c .before .loop .inv .1)
 
 pub lowest-own-spec : {M : Type 1} → statement M
 lowest-own-spec =

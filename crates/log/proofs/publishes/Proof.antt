@@ -1,11 +1,8 @@
 -- In the base an entry publishes where it is written.
-use Rattle.model.specs.Buffers.{publishes}
 use borrow.Author.Needs.{needs}
+use Rattle.model.specs.Buffers.{publishes}
 use Rattle.log.proofs.publishes.Statement.{statement}
 use Rattle.log.proofs.publishes.Tie as tie
-use Rattle.log.proofs.publishes.Reads as reads
-use Rattle.log.proofs.publishes.Lts as lts
-use Rattle.log.proofs.dirty.Reads as dirty-reads
 
 dirty-requires : tie.Need-dirty-requires
 dirty-requires c κs = search needs

@@ -1,0 +1,4 @@
+pub mod Carry
+pub mod Refusals
+pub mod Parts
+pub mod Tags

@@ -1,0 +1,56 @@
+use Prim.Native.Nat.{_≤_, _-_}
+use mathlib.Core.Path.{_≡_}
+use mathlib.Core.List.{_++_}
+use lib.ListN.{length, drop, replicate}
+use Rattle.store.proofs.fill_bytes.Statement.{statement}
+use Rattle.store.proofs.fill_bytes.Tie as tie
+use Rattle.store.proofs.fill_bytes.Reads as reads
+use Rattle.store.proofs.fill_bytes.Lts as lts
+
+abbrev Inv-loop : tie.InvT-loop
+Inv-loop s₀ b i₀ s i = (i ≤ length s₀) × (length s ≡ length s₀) × (s ≡ replicate i b ++ drop i s₀)
+
+abbrev μ-loop : tie.MeasureT-loop
+μ-loop s₀ b i₀ s i = length s₀ - i
+
+-- src/lib.rt:66:5
+loop-holds : tie.Need-loop-holds Inv-loop μ-loop
+loop-holds c = ?
+
+-- src/lib.rt:67:9
+slice-write-s : tie.Need-slice-write-s Inv-loop μ-loop
+slice-write-s c = ?
+
+-- src/lib.rt:68:9
+add-i : tie.Need-add-i Inv-loop μ-loop
+add-i c = ?
+
+-- src/lib.rt:66:5
+loop-less : tie.Need-loop-less Inv-loop μ-loop
+loop-less c = ?
+
+-- src/lib.rt:66:5
+loop-again : tie.Need-loop-again Inv-loop μ-loop
+loop-again c = ?
+
+-- src/lib.rt:62:1
+same-length : tie.Need-same-length Inv-loop μ-loop
+same-length c = ?
+
+-- src/lib.rt:62:1
+returns : tie.Need-returns Inv-loop μ-loop
+returns c = ?
+
+pub fill-bytes-spec : {M : Type 1} → statement M
+fill-bytes-spec =
+    tie.close
+    (tie.spec
+    Inv-loop
+    μ-loop
+    loop-holds
+    slice-write-s
+    add-i
+    loop-less
+    loop-again
+    same-length
+    returns)
