@@ -525,3 +525,59 @@ pub fn step(call: Call, sessions: Sessions, values: &mut [u32], classes: &[u8], 
     sweep(locks, logs, t.change);
     t.reply
 }
+
+// Begin: idle only. The session runs with no entry. 100.
+pub fn begin(sessions: Sessions, values: &[u32], classes: &[u8], locks: &[Lock], logs: &[u32], session: u8) -> Reply
+    ensures { λ r. ⌜ outcome (r .answer) (storeOn (now (values .entry)) (now (classes .entry)) (now (locks .entry)) (now (logs .entry)) (r .sessions)) ≡ taken (Begin session) (storeOn (now (values .entry)) (now (classes .entry)) (now (locks .entry)) (now (logs .entry)) sessions) ⌝ }
+{
+    begin_turn(sessions, values.len(), classes.len(), locks.len(), logs, session)
+}
+
+// Read: running only. 101 with a known cell's present value; a new cell is locked and entered, or the session is rolled back, 6.
+pub fn read(sessions: Sessions, values: &mut [u32], classes: &[u8], locks: &mut [Lock], logs: &mut [u32], session: u8, cell: u32) -> Reply
+    ensures { λ r. ⌜ outcome (r .answer) (storeOn (now (values .exit)) (now (classes .entry)) (now (locks .exit)) (now (logs .exit)) (r .sessions)) ≡ taken (Read session cell) (storeOn (now (values .entry)) (now (classes .entry)) (now (locks .entry)) (now (logs .entry)) sessions) ⌝ }
+{
+    step(Call::Read(session, cell), sessions, values, classes, locks, logs)
+}
+
+// Write: running only. A new cell is locked and entered as by read; then the entry is updated. 100.
+pub fn write(sessions: Sessions, values: &mut [u32], classes: &[u8], locks: &mut [Lock], logs: &mut [u32], session: u8, cell: u32, value: u32) -> Reply
+    ensures { λ r. ⌜ outcome (r .answer) (storeOn (now (values .exit)) (now (classes .entry)) (now (locks .exit)) (now (logs .exit)) (r .sessions)) ≡ taken (Write session cell value) (storeOn (now (values .entry)) (now (classes .entry)) (now (locks .entry)) (now (logs .entry)) sessions) ⌝ }
+{
+    step(Call::Write(session, cell, value), sessions, values, classes, locks, logs)
+}
+
+// Seal: running only. The session leaves the readers of each cell entered but not written. 105 with nothing written, else 102.
+pub fn seal(sessions: Sessions, values: &mut [u32], classes: &[u8], locks: &mut [Lock], logs: &mut [u32], session: u8) -> Reply
+    ensures { λ r. ⌜ outcome (r .answer) (storeOn (now (values .exit)) (now (classes .entry)) (now (locks .exit)) (now (logs .exit)) (r .sessions)) ≡ taken (Seal session) (storeOn (now (values .entry)) (now (classes .entry)) (now (locks .entry)) (now (logs .entry)) sessions) ⌝ }
+{
+    step(Call::Seal(session), sessions, values, classes, locks, logs)
+}
+
+// Advance: phases 2 to 4. One written cell is promoted, published or released. 103, 104, 105, or 6.
+pub fn advance(sessions: Sessions, values: &mut [u32], classes: &[u8], locks: &mut [Lock], logs: &mut [u32], session: u8) -> Reply
+    ensures { λ r. ⌜ outcome (r .answer) (storeOn (now (values .exit)) (now (classes .entry)) (now (locks .exit)) (now (logs .exit)) (r .sessions)) ≡ taken (Advance session) (storeOn (now (values .entry)) (now (classes .entry)) (now (locks .entry)) (now (logs .entry)) sessions) ⌝ }
+{
+    step(Call::Advance(session), sessions, values, classes, locks, logs)
+}
+
+// Abandon: phases 1 and 2. The session is rolled back. 100.
+pub fn abandon(sessions: Sessions, values: &mut [u32], classes: &[u8], locks: &mut [Lock], logs: &mut [u32], session: u8) -> Reply
+    ensures { λ r. ⌜ outcome (r .answer) (storeOn (now (values .exit)) (now (classes .entry)) (now (locks .exit)) (now (logs .exit)) (r .sessions)) ≡ taken (Abandon session) (storeOn (now (values .entry)) (now (classes .entry)) (now (locks .entry)) (now (logs .entry)) sessions) ⌝ }
+{
+    step(Call::Abandon(session), sessions, values, classes, locks, logs)
+}
+
+// Peek: running only. One word, the store's own or the log's own; no word where the peek is refused.
+pub fn peek<'a>(sessions: Sessions, values: &'a [u32], classes: &[u8], locks: &[Lock], logs: &'a [u32], session: u8, cell: u32) -> &'a [u32]
+    ensures { λ r. ⌜ Handed (values .entry) (logs .entry) (shown session (planOf (Peek session cell) (storeOn (now (values .entry)) (now (classes .entry)) (now (locks .entry)) (now (logs .entry)) sessions))) r ⌝ }
+{
+    peek_part(sessions, values, classes.len(), locks.len(), logs, session, cell)
+}
+
+// Peek's twin: 100 or a refusal.
+pub fn peek_number(sessions: Sessions, values: &[u32], classes: &[u8], locks: &[Lock], logs: &[u32], session: u8, cell: u32) -> Reply
+    ensures { λ r. ⌜ outcome (r .answer) (storeOn (now (values .entry)) (now (classes .entry)) (now (locks .entry)) (now (logs .entry)) (r .sessions)) ≡ taken (Peek session cell) (storeOn (now (values .entry)) (now (classes .entry)) (now (locks .entry)) (now (logs .entry)) sessions) ⌝ }
+{
+    peek_turn(sessions, values.len(), classes.len(), locks.len(), logs, session, cell)
+}
