@@ -4,3 +4,4 @@ pub mod Row
 pub mod Leave
 pub mod Short
 pub mod Calls
+pub mod Passed

@@ -27,6 +27,7 @@ use Rattle.model.proofs.Sessions.Laws as S′
 use Rattle.model.proofs.Reply as A
 use Rattle.model.proofs.Reply.Laws as A′
 use Rattle.model.specs.declared.Call.{Call}
+use Rattle.model.specs.declared.Call.the-variants.{Read, Write, Seal, Advance, Abandon}
 use Rattle.lockrun.specs.declared.Look.{Look}
 use Rattle.model.proofs.Call as K
 use Rattle.model.proofs.Call.Laws as K′
@@ -188,6 +189,22 @@ module _ {M : Type 1} (𝓤 : URA M) (H : Heap 𝓤) (A₀ : Atoms 𝓤) where
 
   pub typed-k : (W : Given 𝓤 H A₀) (d : Call) (v : Val) → Is RK d (v ∷ []) → T (hasTy K′.mir v) × WT v
   typed-k W d v p = EL.lawful K.the-type K′.the-laws 𝓤 H A₀ W tt .typed d (v ∷ []) p .0
+
+-- a call whose numbers fit is one
+pub read-is : (s c : ℕ) → s < 2 ^ 8 → c < 2 ^ 32 → Is RK (Read s c) (low-k (Read s c) ∷ [])
+read-is s c fs fc = EL.owes K.the-type K′.the-laws (Read s c) ((refl, fs), ((refl, fc), tt))
+
+pub write-is : (s c v : ℕ) → s < 2 ^ 8 → c < 2 ^ 32 → v < 2 ^ 32 → Is RK (Write s c v) (low-k (Write s c v) ∷ [])
+write-is s c v fs fc fv = EL.owes K.the-type K′.the-laws (Write s c v) ((refl, fs), ((refl, fc), ((refl, fv), tt)))
+
+pub seal-is : (s : ℕ) → s < 2 ^ 8 → Is RK (Seal s) (low-k (Seal s) ∷ [])
+seal-is s fs = EL.owes K.the-type K′.the-laws (Seal s) ((refl, fs), tt)
+
+pub advance-is : (s : ℕ) → s < 2 ^ 8 → Is RK (Advance s) (low-k (Advance s) ∷ [])
+advance-is s fs = EL.owes K.the-type K′.the-laws (Advance s) ((refl, fs), tt)
+
+pub abandon-is : (s : ℕ) → s < 2 ^ 8 → Is RK (Abandon s) (low-k (Abandon s) ∷ [])
+abandon-is s fs = EL.owes K.the-type K′.the-laws (Abandon s) ((refl, fs), tt)
 
 -- ---- what is looked at
 
