@@ -87,16 +87,16 @@ module _ {M : Type 1} (𝓤 : URA M) where
 module _ {M : Type 1} {𝓤 : URA M} {H : Heap 𝓤} {A : Atoms 𝓤} {K : Type 0} {W : Given 𝓤 H A} {Γ : List (Item 𝓤)} where
   pub leave : K → (k : ℕ) (ss : List Slot) {E : Env 𝓤 H} {g : Goal 𝓤 H} → behind k Γ ≡ laid 𝓤 E ss [] → Step K W (front k Γ) g Γ (frees E g)
   leave t k ss {E} {g} e = step (λ s.
-    let Δ = front k Γ in
-    let L = laid 𝓤 E ss [] in
-    record {
-      prf =
-        via 𝓤 (⋆ 𝓤 H A (Δ ++ L))
-          (subst (λ (Θ : List (Item 𝓤)). ent 𝓤 (⋆ 𝓤 H A Γ) (⋆ 𝓤 H A (Δ ++ Θ))) e
-          (subst (λ (Θ : List (Item 𝓤)). ent 𝓤 (⋆ 𝓤 H A Γ) (⋆ 𝓤 H A Θ)) (both k Γ) (id⊢ 𝓤 (⋆ 𝓤 H A Γ))))
-        (via 𝓤 (sep 𝓤 (⋆ 𝓤 H A Δ) (⋆ 𝓤 H A L)) (⊢++ 𝓤 H A Δ L)
-        (via 𝓤 (sep 𝓤 (aim 𝓤 H g) (⋆ 𝓤 H A L)) (monoL 𝓤 (⋆ 𝓤 H A L) (s .prf))
-        (via 𝓤 (sep 𝓤 (⋆ 𝓤 H A L) (aim 𝓤 H g)) (comm∗ 𝓤 (aim 𝓤 H g) (⋆ 𝓤 H A L))
-        (via 𝓤 (sep 𝓤 (rooms 𝓤 H E) (aim 𝓤 H g)) (monoL 𝓤 (aim 𝓤 H g) (via 𝓤 (sep 𝓤 (rooms 𝓤 H E) (emp 𝓤)) (all 𝓤 H A W E ss []) (fst∗ 𝓤 (rooms 𝓤 H E) (emp 𝓤))))
-          (released 𝓤 H E (aim 𝓤 H g))))));
-    })
+      let Δ = front k Γ in
+      let L = laid 𝓤 E ss [] in
+      record {
+        prf =
+            via 𝓤 (⋆ 𝓤 H A (Δ ++ L))
+            (subst (λ (Θ : List (Item 𝓤)). ent 𝓤 (⋆ 𝓤 H A Γ) (⋆ 𝓤 H A (Δ ++ Θ))) e
+            (subst (λ (Θ : List (Item 𝓤)). ent 𝓤 (⋆ 𝓤 H A Γ) (⋆ 𝓤 H A Θ)) (both k Γ) (id⊢ 𝓤 (⋆ 𝓤 H A Γ))))
+            (via 𝓤 (sep 𝓤 (⋆ 𝓤 H A Δ) (⋆ 𝓤 H A L)) (⊢++ 𝓤 H A Δ L)
+            (via 𝓤 (sep 𝓤 (aim 𝓤 H g) (⋆ 𝓤 H A L)) (monoL 𝓤 (⋆ 𝓤 H A L) (s .prf))
+            (via 𝓤 (sep 𝓤 (⋆ 𝓤 H A L) (aim 𝓤 H g)) (comm∗ 𝓤 (aim 𝓤 H g) (⋆ 𝓤 H A L))
+            (via 𝓤 (sep 𝓤 (rooms 𝓤 H E) (aim 𝓤 H g)) (monoL 𝓤 (aim 𝓤 H g) (via 𝓤 (sep 𝓤 (rooms 𝓤 H E) (emp 𝓤)) (all 𝓤 H A W E ss []) (fst∗ 𝓤 (rooms 𝓤 H E) (emp 𝓤))))
+            (released 𝓤 H E (aim 𝓤 H g))))));
+      })

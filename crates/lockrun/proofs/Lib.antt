@@ -5,3 +5,7 @@ pub mod Leave
 pub mod Short
 pub mod Calls
 pub mod Passed
+pub mod Changes
+pub mod Ways
+pub mod AdvanceWays
+pub mod Cells

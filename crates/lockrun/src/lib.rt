@@ -4,7 +4,7 @@ ghost use mathlib.Core.Path.{_≡_};
 ghost use mathlib.Core.Bool.{Bool, true, false};
 ghost use Prim.Native.Nat.{ℕ, _+_, _*_, _<_, _≤_};
 ghost use lib.ListN.{length, replicate};
-ghost use Rattle.model.specs.Buffers.{idle, sessionAt, cellAt, publishesIn};
+ghost use Rattle.model.specs.Buffers.{idle, cellAt, fits, allFit};
 ghost use Rattle.model.specs.Step.{outcome, taken, setUpTaken, planOf, shown};
 ghost use Rattle.model.specs.declared.Call.the-variants.{Begin, Read, Write, Seal, Advance, Abandon, Peek};
 ghost use Rattle.decide.specs.declared.Due.the-variants.{Slot};
@@ -12,7 +12,6 @@ ghost use Rattle.lockrun.specs.declared.Change.the-variants.{Leave};
 ghost use Rattle.store.specs.Lent.{Handed};
 ghost use Rattle.lockrun.specs.Run.{storeOn, lockIn, turnsOf, cellOf, changeOf, changedAt, sweptBy, Known, Fits};
 ghost use Rattle.lockrun.specs.Turns.{keeps, tells, dueIn, cellDue, Found, lookAt, lookOf, Turned, Answered, SetUp, Peeks, HandsBack};
-
 use decide::Due;
 use model::Answer;
 use model::Call;
@@ -108,7 +107,11 @@ fn changed(l: Lock, change: Change) -> Lock
         Change::Vacate(s, _) => locks::vacated(l, s),
         Change::Withdraw(s, _) => locks::withdrawn(l, s),
         Change::Leave(s, _) => locks::left(l, s),
-        Change::Clear(_) => Lock { readers: 0, claimant: 16, exclusive: 0 },
+        Change::Clear(_) => Lock {
+            readers: 0,
+            claimant: 16,
+            exclusive: 0,
+        },
     }
 }
 
@@ -121,7 +124,11 @@ fn lock_at(locks: &[Lock], cell: usize) -> Lock
     if cell < locks.len() {
         locks[cell]
     } else {
-        Lock { readers: 0, claimant: 16, exclusive: 0 }
+        Lock {
+            readers: 0,
+            claimant: 16,
+            exclusive: 0,
+        }
     }
 }
 
@@ -168,45 +175,125 @@ fn kept(sessions: Sessions, answer: Answer) -> Turn
     ensures { λ r. ⌜ r ≡ keeps sessions answer ⌝ }
 {
     let reply = Reply { answer, sessions };
-    Turn { reply, change: Change::Keep }
+    Turn {
+        reply,
+        change: Change::Keep,
+    }
 }
 
 // A reply with the run as it was.
 fn told(reply: Reply) -> Turn
     ensures { λ r. ⌜ r ≡ tells reply ⌝ }
 {
-    Turn { reply, change: Change::Keep }
+    Turn {
+        reply,
+        change: Change::Keep,
+    }
 }
 
 // ---- set-up, but for the run
 
-fn set_up_turn(sessions: Sessions, values: &[u32], classes: &[u8], locks: usize, logs: &mut [u32]) -> Turn
+// A class byte of at most 15, and a value within its cap.
+fn fits_cap(class: u8, value: u32) -> bool
+    ensures { λ r. ⌜ r ≡ fits class value ⌝ }
+{
+    if 15 < class {
+        return false;
+    }
+    value <= decide::cap(class)
+}
+
+// Each value within the cap of its class.
+fn all_fit(values: &[u32], classes: &[u8]) -> bool
+    requires { ⌜ length (now classes) ≡ length (now values) ⌝ }
+    ensures { λ r. ⌜ r ≡ allFit (now (values .entry)) (now (classes .entry)) ⌝ }
+{
+    let mut i = 0;
+    while i < values.len() {
+        if !fits_cap(classes[i], values[i]) {
+            return false;
+        }
+        i += 1;
+    }
+    true
+}
+
+// Every word 0.
+fn clear_words(s: &mut [u32])
+    ensures { λ _. ⌜ now (s .exit) ≡ replicate (length (now (s .entry))) 0 ⌝ }
+{
+    let mut i = 0;
+    while i < s.len() {
+        s[i] = 0;
+        i += 1;
+    }
+}
+
+// All sessions idle.
+fn all_idle() -> Sessions
+    ensures { λ r. ⌜ r ≡ record { records = replicate 16 idle } ⌝ }
+{
+    let records = [Session {
+        phase: 0,
+        count: 0,
+        next: 0,
+    }; 16];
+    Sessions { records }
+}
+
+// Set-up but for the locks.
+fn set_up_turn(
+    sessions: Sessions,
+    values: &[u32],
+    classes: &[u8],
+    locks: usize,
+    logs: &mut [u32],
+) -> Turn
     ensures { λ r. ⌜ SetUp (now (values .entry)) (now (classes .entry)) locks (now (logs .entry)) sessions (now (logs .exit)) r ⌝ }
 {
     let n = values.len();
     if !decide::lengths_fit(n, classes.len(), locks, locks, locks, logs.len()) {
         return kept(sessions, Answer::Refused(7));
     }
-    if !store::all_fit(values, classes) {
+    if !all_fit(values, classes) {
         return kept(sessions, Answer::Refused(8));
     }
-    store::clear_words(logs);
-    let idle = store::all_idle();
-    let reply = Reply { answer: Answer::Done, sessions: idle };
-    Turn { reply, change: Change::Clear(n as u32) }
+    clear_words(logs);
+    let idle = all_idle();
+    let reply = Reply {
+        answer: Answer::Done,
+        sessions: idle,
+    };
+    Turn {
+        reply,
+        change: Change::Clear(n as u32),
+    }
 }
 
 // ---- the calls, but for the run
 
 // Begin.
-fn begin_turn(mut sessions: Sessions, n: usize, classes: usize, locks: usize, logs: &[u32], session: u8) -> Reply
+fn begin_turn(
+    mut sessions: Sessions,
+    n: usize,
+    classes: usize,
+    locks: usize,
+    logs: &[u32],
+    session: u8,
+) -> Reply
     ensures { λ r. ⌜ Answered (Begin session) n classes locks (now (logs .entry)) sessions r ⌝ }
 {
     if !decide::lengths_fit(n, classes, locks, locks, locks, logs.len()) {
-        return Reply { answer: Answer::Refused(7), sessions };
+        return Reply {
+            answer: Answer::Refused(7),
+            sessions,
+        };
     }
     if 15 < session {
-        return Reply { answer: Answer::Refused(1), sessions };
+        return Reply {
+            answer: Answer::Refused(1),
+            sessions,
+        };
     }
     let i = session as usize;
     let a = 128 * i;
@@ -215,14 +302,29 @@ fn begin_turn(mut sessions: Sessions, n: usize, classes: usize, locks: usize, lo
     let phase = x.phase;
     let turned = decide::tests(&logs[a..e], n, x, phase == 0);
     if turned != 0 {
-        return Reply { answer: Answer::Refused(turned), sessions };
+        return Reply {
+            answer: Answer::Refused(turned),
+            sessions,
+        };
     }
     sessions.records[i] = x.begun();
-    Reply { answer: Answer::Done, sessions }
+    Reply {
+        answer: Answer::Done,
+        sessions,
+    }
 }
 
 // Read, with the lock of its cell.
-fn read_turn(mut sessions: Sessions, values: &[u32], classes: &[u8], locks: usize, l: Lock, logs: &mut [u32], session: u8, cell: u32) -> Turn
+fn read_turn(
+    mut sessions: Sessions,
+    values: &[u32],
+    classes: &[u8],
+    locks: usize,
+    l: Lock,
+    logs: &mut [u32],
+    session: u8,
+    cell: u32,
+) -> Turn
     ensures { λ r. ⌜ Turned (Read session cell) (now (values .entry)) (now (classes .entry)) locks cell l (now (logs .entry)) sessions (now (values .entry)) (now (logs .exit)) r ⌝ }
 {
     let n = values.len();
@@ -248,16 +350,38 @@ fn read_turn(mut sessions: Sessions, values: &[u32], classes: &[u8], locks: usiz
         let value = values[cell as usize];
         log::append(&mut logs[a..e], count as usize, cell, value);
         sessions.records[i] = x.with_entry();
-        let reply = Reply { answer: Answer::Value(value), sessions };
-        return Turn { reply, change: Change::Join(session, cell) };
+        let reply = Reply {
+            answer: Answer::Value(value),
+            sessions,
+        };
+        return Turn {
+            reply,
+            change: Change::Join(session, cell),
+        };
     }
     sessions.records[i] = x.rested();
-    let reply = Reply { answer: Answer::Refused(6), sessions };
-    Turn { reply, change: Change::Withdraw(session, count) }
+    let reply = Reply {
+        answer: Answer::Refused(6),
+        sessions,
+    };
+    Turn {
+        reply,
+        change: Change::Withdraw(session, count),
+    }
 }
 
 // Write, with the lock of its cell.
-fn write_turn(mut sessions: Sessions, values: &[u32], classes: &[u8], locks: usize, l: Lock, logs: &mut [u32], session: u8, cell: u32, value: u32) -> Turn
+fn write_turn(
+    mut sessions: Sessions,
+    values: &[u32],
+    classes: &[u8],
+    locks: usize,
+    l: Lock,
+    logs: &mut [u32],
+    session: u8,
+    cell: u32,
+    value: u32,
+) -> Turn
     ensures { λ r. ⌜ Turned (Write session cell value) (now (values .entry)) (now (classes .entry)) locks cell l (now (logs .entry)) sessions (now (values .entry)) (now (logs .exit)) r ⌝ }
 {
     if !decide::lengths_fit(values.len(), classes.len(), locks, locks, locks, logs.len()) {
@@ -284,16 +408,36 @@ fn write_turn(mut sessions: Sessions, values: &[u32], classes: &[u8], locks: usi
         log::append(&mut logs[a..e], count as usize, cell, found);
         log::update(&mut logs[a..e], count as usize, v);
         sessions.records[i] = x.with_entry();
-        let reply = Reply { answer: Answer::Done, sessions };
-        return Turn { reply, change: Change::Join(session, cell) };
+        let reply = Reply {
+            answer: Answer::Done,
+            sessions,
+        };
+        return Turn {
+            reply,
+            change: Change::Join(session, cell),
+        };
     }
     sessions.records[i] = x.rested();
-    let reply = Reply { answer: Answer::Refused(6), sessions };
-    Turn { reply, change: Change::Withdraw(session, count) }
+    let reply = Reply {
+        answer: Answer::Refused(6),
+        sessions,
+    };
+    Turn {
+        reply,
+        change: Change::Withdraw(session, count),
+    }
 }
 
 // Seal.
-fn seal_turn(mut sessions: Sessions, values: &[u32], classes: &[u8], locks: usize, l: Lock, logs: &[u32], session: u8) -> Turn
+fn seal_turn(
+    mut sessions: Sessions,
+    values: &[u32],
+    classes: &[u8],
+    locks: usize,
+    l: Lock,
+    logs: &[u32],
+    session: u8,
+) -> Turn
     ensures { λ r. ⌜ Turned (Seal session) (now (values .entry)) (now (classes .entry)) locks 0 l (now (logs .entry)) sessions (now (values .entry)) (now (logs .entry)) r ⌝ }
 {
     let n = values.len();
@@ -314,16 +458,35 @@ fn seal_turn(mut sessions: Sessions, values: &[u32], classes: &[u8], locks: usiz
     let count = x.count;
     if let Plan::CommitReads = p {
         sessions.records[i] = x.rested();
-        let reply = Reply { answer: Answer::Committed, sessions };
-        return Turn { reply, change: Change::Leave(session, count) };
+        let reply = Reply {
+            answer: Answer::Committed,
+            sessions,
+        };
+        return Turn {
+            reply,
+            change: Change::Leave(session, count),
+        };
     }
     sessions.records[i] = x.sealed();
-    let reply = Reply { answer: Answer::Sealed, sessions };
-    Turn { reply, change: Change::Leave(session, count) }
+    let reply = Reply {
+        answer: Answer::Sealed,
+        sessions,
+    };
+    Turn {
+        reply,
+        change: Change::Leave(session, count),
+    }
 }
 
 // The entry that an advance handles, or its refusal.
-fn due_entry(sessions: Sessions, n: usize, classes: usize, locks: usize, logs: &[u32], session: u8) -> Due
+fn due_entry(
+    sessions: Sessions,
+    n: usize,
+    classes: usize,
+    locks: usize,
+    logs: &[u32],
+    session: u8,
+) -> Due
     ensures { λ r. ⌜ r ≡ dueIn sessions n classes locks (now (logs .entry)) session ⌝ }
 {
     if !decide::lengths_fit(n, classes, locks, locks, locks, logs.len()) {
@@ -340,7 +503,16 @@ fn due_entry(sessions: Sessions, n: usize, classes: usize, locks: usize, logs: &
 }
 
 // Advance at entry k, with the lock of its cell.
-fn advance_at(mut sessions: Sessions, values: &mut [u32], classes: &[u8], locks: usize, l: Lock, logs: &[u32], session: u8, k: u32) -> Turn
+fn advance_at(
+    mut sessions: Sessions,
+    values: &mut [u32],
+    classes: &[u8],
+    locks: usize,
+    l: Lock,
+    logs: &[u32],
+    session: u8,
+    k: u32,
+) -> Turn
     requires { ⌜ Slot k ≡ dueIn sessions (length (now values)) (length (now classes)) locks (now logs) session ⌝ }
     ensures { λ r. ⌜ Turned (Advance session) (now (values .entry)) (now (classes .entry)) locks (cellAt (now (logs .entry)) session k) l (now (logs .entry)) sessions (now (values .exit)) (now (logs .entry)) r ⌝ }
 {
@@ -352,14 +524,26 @@ fn advance_at(mut sessions: Sessions, values: &mut [u32], classes: &[u8], locks:
     let cell = log::cell_at(log, k as usize);
     let p = decide::advance(log, x, l, session, k as usize);
     if let Plan::Wait(_) = p {
-        let reply = Reply { answer: Answer::Waiting, sessions };
-        return Turn { reply, change: Change::Claim(session, cell) };
+        let reply = Reply {
+            answer: Answer::Waiting,
+            sessions,
+        };
+        return Turn {
+            reply,
+            change: Change::Claim(session, cell),
+        };
     }
     if let Plan::RollBack = p {
         let count = x.count;
         sessions.records[i] = x.rested();
-        let reply = Reply { answer: Answer::Refused(6), sessions };
-        return Turn { reply, change: Change::Withdraw(session, count) };
+        let reply = Reply {
+            answer: Answer::Refused(6),
+            sessions,
+        };
+        return Turn {
+            reply,
+            change: Change::Withdraw(session, count),
+        };
     }
     let h = decide::handle(log, values.len(), x, cell);
     let y = h.session;
@@ -367,17 +551,35 @@ fn advance_at(mut sessions: Sessions, values: &mut [u32], classes: &[u8], locks:
     sessions.records[i] = y;
     let reply = Reply { answer, sessions };
     if let Plan::Own(_) = p {
-        return Turn { reply, change: Change::Own(session, cell) };
+        return Turn {
+            reply,
+            change: Change::Own(session, cell),
+        };
     }
     if let Plan::Publish(_, value) = p {
         values[cell as usize] = value;
-        return Turn { reply, change: Change::Keep };
+        return Turn {
+            reply,
+            change: Change::Keep,
+        };
     }
-    Turn { reply, change: Change::Vacate(session, cell) }
+    Turn {
+        reply,
+        change: Change::Vacate(session, cell),
+    }
 }
 
 // Advance, with what was looked at.
-fn advance_turn(sessions: Sessions, values: &mut [u32], classes: &[u8], locks: usize, l: Lock, logs: &[u32], session: u8, entry: Due) -> Turn
+fn advance_turn(
+    sessions: Sessions,
+    values: &mut [u32],
+    classes: &[u8],
+    locks: usize,
+    l: Lock,
+    logs: &[u32],
+    session: u8,
+    entry: Due,
+) -> Turn
     requires { ⌜ entry ≡ dueIn sessions (length (now values)) (length (now classes)) locks (now logs) session ⌝ }
     ensures { λ r. ⌜ Turned (Advance session) (now (values .entry)) (now (classes .entry)) locks (cellDue (now (logs .entry)) session entry) l (now (logs .entry)) sessions (now (values .exit)) (now (logs .entry)) r ⌝ }
 {
@@ -388,7 +590,15 @@ fn advance_turn(sessions: Sessions, values: &mut [u32], classes: &[u8], locks: u
 }
 
 // Abandon.
-fn abandon_turn(mut sessions: Sessions, values: &[u32], classes: &[u8], locks: usize, l: Lock, logs: &[u32], session: u8) -> Turn
+fn abandon_turn(
+    mut sessions: Sessions,
+    values: &[u32],
+    classes: &[u8],
+    locks: usize,
+    l: Lock,
+    logs: &[u32],
+    session: u8,
+) -> Turn
     ensures { λ r. ⌜ Turned (Abandon session) (now (values .entry)) (now (classes .entry)) locks 0 l (now (logs .entry)) sessions (now (values .entry)) (now (logs .entry)) r ⌝ }
 {
     let n = values.len();
@@ -409,12 +619,26 @@ fn abandon_turn(mut sessions: Sessions, values: &[u32], classes: &[u8], locks: u
     }
     let count = x.count;
     sessions.records[i] = x.rested();
-    let reply = Reply { answer: Answer::Done, sessions };
-    Turn { reply, change: Change::Withdraw(session, count) }
+    let reply = Reply {
+        answer: Answer::Done,
+        sessions,
+    };
+    Turn {
+        reply,
+        change: Change::Withdraw(session, count),
+    }
 }
 
 // What a peek decides.
-fn peek_plan(sessions: Sessions, n: usize, classes: usize, locks: usize, logs: &[u32], session: u8, cell: u32) -> Plan
+fn peek_plan(
+    sessions: Sessions,
+    n: usize,
+    classes: usize,
+    locks: usize,
+    logs: &[u32],
+    session: u8,
+    cell: u32,
+) -> Plan
     ensures { λ r. ⌜ Peeks n classes locks (now (logs .entry)) sessions session cell r ⌝ }
 {
     if !decide::lengths_fit(n, classes, locks, locks, locks, logs.len()) {
@@ -431,18 +655,40 @@ fn peek_plan(sessions: Sessions, n: usize, classes: usize, locks: usize, logs: &
 }
 
 // A peek's number.
-fn peek_turn(sessions: Sessions, n: usize, classes: usize, locks: usize, logs: &[u32], session: u8, cell: u32) -> Reply
+fn peek_turn(
+    sessions: Sessions,
+    n: usize,
+    classes: usize,
+    locks: usize,
+    logs: &[u32],
+    session: u8,
+    cell: u32,
+) -> Reply
     ensures { λ r. ⌜ Answered (Peek session cell) n classes locks (now (logs .entry)) sessions r ⌝ }
 {
     let p = peek_plan(sessions, n, classes, locks, logs, session, cell);
     if let Plan::Refuse(number) = p {
-        return Reply { answer: Answer::Refused(number), sessions };
+        return Reply {
+            answer: Answer::Refused(number),
+            sessions,
+        };
     }
-    Reply { answer: Answer::Done, sessions }
+    Reply {
+        answer: Answer::Done,
+        sessions,
+    }
 }
 
 // A peek's part.
-fn peek_part<'a>(sessions: Sessions, values: &'a [u32], classes: usize, locks: usize, logs: &'a [u32], session: u8, cell: u32) -> &'a [u32]
+fn peek_part<'a>(
+    sessions: Sessions,
+    values: &'a [u32],
+    classes: usize,
+    locks: usize,
+    logs: &'a [u32],
+    session: u8,
+    cell: u32,
+) -> &'a [u32]
     ensures { λ r. ⌜ HandsBack (values .entry) classes locks (logs .entry) sessions session cell r ⌝ }
 {
     let p = peek_plan(sessions, values.len(), classes, locks, logs, session, cell);
@@ -467,47 +713,108 @@ fn look_due(logs: &[u32], session: u8, entry: Due) -> Look
     ensures { λ r. ⌜ r ≡ lookAt (now (logs .entry)) session entry ⌝ }
 {
     match entry {
-        Due::Refused(_) => Look { cell: 0, due: entry },
-        Due::Slot(k) => Look { cell: entry_cell(logs, session, k as usize), due: entry },
+        Due::Refused(_) => Look {
+            cell: 0,
+            due: entry,
+        },
+        Due::Slot(k) => Look {
+            cell: entry_cell(logs, session, k as usize),
+            due: entry,
+        },
     }
 }
 
 // What is looked at.
-fn look_up(call: Call, sessions: Sessions, n: usize, classes: usize, locks: usize, logs: &[u32]) -> Look
+fn look_up(
+    call: Call,
+    sessions: Sessions,
+    n: usize,
+    classes: usize,
+    locks: usize,
+    logs: &[u32],
+) -> Look
     ensures { λ r. ⌜ r ≡ lookOf call sessions n classes locks (now (logs .entry)) ⌝ }
 {
     match call {
-        Call::Begin(_) => Look { cell: 0, due: Due::Refused(0) },
-        Call::Read(_, c) => Look { cell: c as usize, due: Due::Refused(0) },
-        Call::Write(_, c, _) => Look { cell: c as usize, due: Due::Refused(0) },
-        Call::Seal(_) => Look { cell: 0, due: Due::Refused(0) },
+        Call::Begin(_) => Look {
+            cell: 0,
+            due: Due::Refused(0),
+        },
+        Call::Read(_, c) => Look {
+            cell: c as usize,
+            due: Due::Refused(0),
+        },
+        Call::Write(_, c, _) => Look {
+            cell: c as usize,
+            due: Due::Refused(0),
+        },
+        Call::Seal(_) => Look {
+            cell: 0,
+            due: Due::Refused(0),
+        },
         Call::Advance(s) => look_due(logs, s, due_entry(sessions, n, classes, locks, logs, s)),
-        Call::Abandon(_) => Look { cell: 0, due: Due::Refused(0) },
-        Call::Peek(_, _) => Look { cell: 0, due: Due::Refused(0) },
+        Call::Abandon(_) => Look {
+            cell: 0,
+            due: Due::Refused(0),
+        },
+        Call::Peek(_, _) => Look {
+            cell: 0,
+            due: Due::Refused(0),
+        },
     }
 }
 
 // What is done.
-fn take_turn(call: Call, look: Look, sessions: Sessions, values: &mut [u32], classes: &[u8], locks: usize, l: Lock, logs: &mut [u32]) -> Turn
+fn take_turn(
+    call: Call,
+    look: Look,
+    sessions: Sessions,
+    values: &mut [u32],
+    classes: &[u8],
+    locks: usize,
+    l: Lock,
+    logs: &mut [u32],
+) -> Turn
     requires { ⌜ look ≡ lookOf call sessions (length (now values)) (length (now classes)) locks (now logs) ⌝ }
     ensures { λ r. ⌜ Turned call (now (values .entry)) (now (classes .entry)) locks (look .cell) l (now (logs .entry)) sessions (now (values .exit)) (now (logs .exit)) r ⌝ }
 {
     let entry = look.due;
     match call {
-        Call::Begin(s) => told(begin_turn(sessions, values.len(), classes.len(), locks, &logs[..], s)),
+        Call::Begin(s) => told(begin_turn(
+            sessions,
+            values.len(),
+            classes.len(),
+            locks,
+            &logs[..],
+            s,
+        )),
         Call::Read(s, c) => read_turn(sessions, &values[..], classes, locks, l, logs, s, c),
         Call::Write(s, c, v) => write_turn(sessions, &values[..], classes, locks, l, logs, s, c, v),
         Call::Seal(s) => seal_turn(sessions, &values[..], classes, locks, l, &logs[..], s),
         Call::Advance(s) => advance_turn(sessions, values, classes, locks, l, &logs[..], s, entry),
         Call::Abandon(s) => abandon_turn(sessions, &values[..], classes, locks, l, &logs[..], s),
-        Call::Peek(s, c) => told(peek_turn(sessions, values.len(), classes.len(), locks, &logs[..], s, c)),
+        Call::Peek(s, c) => told(peek_turn(
+            sessions,
+            values.len(),
+            classes.len(),
+            locks,
+            &logs[..],
+            s,
+            c,
+        )),
     }
 }
 
 // ---- set-up and the calls on the run
 
 // Set-up: all sessions idle, all locks empty, all log words 0. 100, 7 or 8.
-pub fn set_up(sessions: Sessions, values: &[u32], classes: &[u8], locks: &mut [Lock], logs: &mut [u32]) -> Reply
+pub fn set_up(
+    sessions: Sessions,
+    values: &[u32],
+    classes: &[u8],
+    locks: &mut [Lock],
+    logs: &mut [u32],
+) -> Reply
     ensures { λ r. ⌜ outcome (r .answer) (storeOn (now (values .entry)) (now (classes .entry)) (now (locks .exit)) (now (logs .exit)) (r .sessions)) ≡ setUpTaken (storeOn (now (values .entry)) (now (classes .entry)) (now (locks .entry)) (now (logs .entry)) sessions) ⌝ }
 {
     let t = set_up_turn(sessions, values, classes, locks.len(), logs);
@@ -516,10 +823,24 @@ pub fn set_up(sessions: Sessions, values: &[u32], classes: &[u8], locks: &mut [L
 }
 
 // Any call of a list.
-pub fn step(call: Call, sessions: Sessions, values: &mut [u32], classes: &[u8], locks: &mut [Lock], logs: &mut [u32]) -> Reply
+pub fn step(
+    call: Call,
+    sessions: Sessions,
+    values: &mut [u32],
+    classes: &[u8],
+    locks: &mut [Lock],
+    logs: &mut [u32],
+) -> Reply
     ensures { λ r. ⌜ outcome (r .answer) (storeOn (now (values .exit)) (now (classes .entry)) (now (locks .exit)) (now (logs .exit)) (r .sessions)) ≡ taken call (storeOn (now (values .entry)) (now (classes .entry)) (now (locks .entry)) (now (logs .entry)) sessions) ⌝ }
 {
-    let at = look_up(call, sessions, values.len(), classes.len(), locks.len(), logs);
+    let at = look_up(
+        call,
+        sessions,
+        values.len(),
+        classes.len(),
+        locks.len(),
+        logs,
+    );
     let l = lock_at(locks, at.cell);
     let t = take_turn(call, at, sessions, values, classes, locks.len(), l, logs);
     sweep(locks, logs, t.change);
@@ -527,57 +848,169 @@ pub fn step(call: Call, sessions: Sessions, values: &mut [u32], classes: &[u8], 
 }
 
 // Begin: idle only. The session runs with no entry. 100.
-pub fn begin(sessions: Sessions, values: &[u32], classes: &[u8], locks: &[Lock], logs: &[u32], session: u8) -> Reply
+pub fn begin(
+    sessions: Sessions,
+    values: &[u32],
+    classes: &[u8],
+    locks: &[Lock],
+    logs: &[u32],
+    session: u8,
+) -> Reply
     ensures { λ r. ⌜ outcome (r .answer) (storeOn (now (values .entry)) (now (classes .entry)) (now (locks .entry)) (now (logs .entry)) (r .sessions)) ≡ taken (Begin session) (storeOn (now (values .entry)) (now (classes .entry)) (now (locks .entry)) (now (logs .entry)) sessions) ⌝ }
 {
-    begin_turn(sessions, values.len(), classes.len(), locks.len(), logs, session)
+    begin_turn(
+        sessions,
+        values.len(),
+        classes.len(),
+        locks.len(),
+        logs,
+        session,
+    )
 }
 
 // Read: running only. 101 with a known cell's present value; a new cell is locked and entered, or the session is rolled back, 6.
-pub fn read(sessions: Sessions, values: &mut [u32], classes: &[u8], locks: &mut [Lock], logs: &mut [u32], session: u8, cell: u32) -> Reply
+pub fn read(
+    sessions: Sessions,
+    values: &mut [u32],
+    classes: &[u8],
+    locks: &mut [Lock],
+    logs: &mut [u32],
+    session: u8,
+    cell: u32,
+) -> Reply
     ensures { λ r. ⌜ outcome (r .answer) (storeOn (now (values .exit)) (now (classes .entry)) (now (locks .exit)) (now (logs .exit)) (r .sessions)) ≡ taken (Read session cell) (storeOn (now (values .entry)) (now (classes .entry)) (now (locks .entry)) (now (logs .entry)) sessions) ⌝ }
 {
-    step(Call::Read(session, cell), sessions, values, classes, locks, logs)
+    step(
+        Call::Read(session, cell),
+        sessions,
+        values,
+        classes,
+        locks,
+        logs,
+    )
 }
 
 // Write: running only. A new cell is locked and entered as by read; then the entry is updated. 100.
-pub fn write(sessions: Sessions, values: &mut [u32], classes: &[u8], locks: &mut [Lock], logs: &mut [u32], session: u8, cell: u32, value: u32) -> Reply
+pub fn write(
+    sessions: Sessions,
+    values: &mut [u32],
+    classes: &[u8],
+    locks: &mut [Lock],
+    logs: &mut [u32],
+    session: u8,
+    cell: u32,
+    value: u32,
+) -> Reply
     ensures { λ r. ⌜ outcome (r .answer) (storeOn (now (values .exit)) (now (classes .entry)) (now (locks .exit)) (now (logs .exit)) (r .sessions)) ≡ taken (Write session cell value) (storeOn (now (values .entry)) (now (classes .entry)) (now (locks .entry)) (now (logs .entry)) sessions) ⌝ }
 {
-    step(Call::Write(session, cell, value), sessions, values, classes, locks, logs)
+    step(
+        Call::Write(session, cell, value),
+        sessions,
+        values,
+        classes,
+        locks,
+        logs,
+    )
 }
 
 // Seal: running only. The session leaves the readers of each cell entered but not written. 105 with nothing written, else 102.
-pub fn seal(sessions: Sessions, values: &mut [u32], classes: &[u8], locks: &mut [Lock], logs: &mut [u32], session: u8) -> Reply
+pub fn seal(
+    sessions: Sessions,
+    values: &mut [u32],
+    classes: &[u8],
+    locks: &mut [Lock],
+    logs: &mut [u32],
+    session: u8,
+) -> Reply
     ensures { λ r. ⌜ outcome (r .answer) (storeOn (now (values .exit)) (now (classes .entry)) (now (locks .exit)) (now (logs .exit)) (r .sessions)) ≡ taken (Seal session) (storeOn (now (values .entry)) (now (classes .entry)) (now (locks .entry)) (now (logs .entry)) sessions) ⌝ }
 {
     step(Call::Seal(session), sessions, values, classes, locks, logs)
 }
 
 // Advance: phases 2 to 4. One written cell is promoted, published or released. 103, 104, 105, or 6.
-pub fn advance(sessions: Sessions, values: &mut [u32], classes: &[u8], locks: &mut [Lock], logs: &mut [u32], session: u8) -> Reply
+pub fn advance(
+    sessions: Sessions,
+    values: &mut [u32],
+    classes: &[u8],
+    locks: &mut [Lock],
+    logs: &mut [u32],
+    session: u8,
+) -> Reply
     ensures { λ r. ⌜ outcome (r .answer) (storeOn (now (values .exit)) (now (classes .entry)) (now (locks .exit)) (now (logs .exit)) (r .sessions)) ≡ taken (Advance session) (storeOn (now (values .entry)) (now (classes .entry)) (now (locks .entry)) (now (logs .entry)) sessions) ⌝ }
 {
-    step(Call::Advance(session), sessions, values, classes, locks, logs)
+    step(
+        Call::Advance(session),
+        sessions,
+        values,
+        classes,
+        locks,
+        logs,
+    )
 }
 
 // Abandon: phases 1 and 2. The session is rolled back. 100.
-pub fn abandon(sessions: Sessions, values: &mut [u32], classes: &[u8], locks: &mut [Lock], logs: &mut [u32], session: u8) -> Reply
+pub fn abandon(
+    sessions: Sessions,
+    values: &mut [u32],
+    classes: &[u8],
+    locks: &mut [Lock],
+    logs: &mut [u32],
+    session: u8,
+) -> Reply
     ensures { λ r. ⌜ outcome (r .answer) (storeOn (now (values .exit)) (now (classes .entry)) (now (locks .exit)) (now (logs .exit)) (r .sessions)) ≡ taken (Abandon session) (storeOn (now (values .entry)) (now (classes .entry)) (now (locks .entry)) (now (logs .entry)) sessions) ⌝ }
 {
-    step(Call::Abandon(session), sessions, values, classes, locks, logs)
+    step(
+        Call::Abandon(session),
+        sessions,
+        values,
+        classes,
+        locks,
+        logs,
+    )
 }
 
 // Peek: running only. One word, the store's own or the log's own; no word where the peek is refused.
-pub fn peek<'a>(sessions: Sessions, values: &'a [u32], classes: &[u8], locks: &[Lock], logs: &'a [u32], session: u8, cell: u32) -> &'a [u32]
+pub fn peek<'a>(
+    sessions: Sessions,
+    values: &'a [u32],
+    classes: &[u8],
+    locks: &[Lock],
+    logs: &'a [u32],
+    session: u8,
+    cell: u32,
+) -> &'a [u32]
     ensures { λ r. ⌜ Handed (values .entry) (logs .entry) (shown session (planOf (Peek session cell) (storeOn (now (values .entry)) (now (classes .entry)) (now (locks .entry)) (now (logs .entry)) sessions))) r ⌝ }
 {
-    peek_part(sessions, values, classes.len(), locks.len(), logs, session, cell)
+    peek_part(
+        sessions,
+        values,
+        classes.len(),
+        locks.len(),
+        logs,
+        session,
+        cell,
+    )
 }
 
 // Peek's twin: 100 or a refusal.
-pub fn peek_number(sessions: Sessions, values: &[u32], classes: &[u8], locks: &[Lock], logs: &[u32], session: u8, cell: u32) -> Reply
+pub fn peek_number(
+    sessions: Sessions,
+    values: &[u32],
+    classes: &[u8],
+    locks: &[Lock],
+    logs: &[u32],
+    session: u8,
+    cell: u32,
+) -> Reply
     ensures { λ r. ⌜ outcome (r .answer) (storeOn (now (values .entry)) (now (classes .entry)) (now (locks .entry)) (now (logs .entry)) (r .sessions)) ≡ taken (Peek session cell) (storeOn (now (values .entry)) (now (classes .entry)) (now (locks .entry)) (now (logs .entry)) sessions) ⌝ }
 {
-    peek_turn(sessions, values.len(), classes.len(), locks.len(), logs, session, cell)
+    peek_turn(
+        sessions,
+        values.len(),
+        classes.len(),
+        locks.len(),
+        logs,
+        session,
+        cell,
+    )
 }
