@@ -9,3 +9,5 @@ pub mod Changes
 pub mod Ways
 pub mod AdvanceWays
 pub mod Cells
+pub mod SetUps
+pub mod Taken

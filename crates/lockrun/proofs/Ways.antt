@@ -29,7 +29,7 @@ use Rattle.decide.proofs.Agree.{abandon-passes}
 use Rattle.store.specs.Lent.{Sized}
 use Rattle.store.proofs.Carry.{carries, carry-refuse, carry-roll-back, carry-cancel, carry-commit-reads, carry-begin-promotion}
 use Rattle.store.proofs.Refusals.{refused-7, refused-1, fit-is, plan-7, plan-1, sized, lengths-of}
-use Rattle.store.proofs.Parts.{cut, cut-is, puts, part-long, part-fits, can-decide, put-appended}
+use Rattle.store.proofs.Parts.{cut, cut-is, puts, part-long, part-fits, can-decide, put-appended, put-updated}
 use Rattle.store.proofs.Peeks.{peek-planned, peeked, inside, in-logs, hands-store, hands-log, hands-nothing, peek-done}
 use Rattle.store.proofs.Tags.{Passed}
 use Rattle.store.proofs.Choices.{Choice, read-choice, write-choice, when-new, when-left, when-known}
@@ -114,6 +114,9 @@ module _ (vs cs W : List ℕ) (ss : Sessions) (m s : ℕ) (z : AllSized vs cs W 
       pub read-new : (i : ℕ) → p ≡ Enter i → (c < length vs) × (x .count < 32) × (p ≡ Enter c)
       read-new i h = when-new chosen (Enter i) tt (λ j. tt) tt h
 
+      pub read-room : (i : ℕ) → p ≡ Enter i → 4 * x .count + 3 < length (cut W s)
+      read-room i h = let w = part-long W s words (one-sized .session) in let r = read-new i h .1 in omega arith
+
       pub read-enters : (i : ℕ) → p ≡ Enter i → (P : List ℕ) (y : Session) → P ≡ appended (cut W s) 0 (x .count) c (getD vs c 0) → y ≡ withEntry x
           → Turned (Read s c) vs cs m c l W ss vs (puts W s P) (ends (Value (getD vs c 0)) y (Join s c))
       read-enters i h P y a f =
@@ -144,6 +147,9 @@ module _ (vs cs W : List ℕ) (ss : Sessions) (m s : ℕ) (z : AllSized vs cs W 
       pub write-new : (i u : ℕ) → p ≡ EnterUpdate i u → (c < length vs) × (x .count < 32) × (p ≡ EnterUpdate c v)
       write-new i u h = when-new choice (EnterUpdate i u) tt (λ j. tt) tt h
 
+      pub write-room-there : (i u : ℕ) → p ≡ EnterUpdate i u → 4 * x .count + 3 < length (cut W s)
+      write-room-there i u h = let w = part-long W s words (one-sized .session) in let r = write-new i u h .1 in omega arith
+
       -- the entry is appended, and then updated
       module _ (i u : ℕ) (h : p ≡ EnterUpdate i u) (P : List ℕ) (a : P ≡ appended (cut W s) 0 (x .count) c (getD vs c 0)) where
         abbrev found : (L : List Lock) → New (storeOn vs cs L W ss) s c (EnterUpdate c v) p
@@ -160,6 +166,11 @@ module _ (vs cs W : List ℕ) (ss : Sessions) (m s : ℕ) (z : AllSized vs cs W 
 
         pub write-room-new : 4 * x .count + 3 < length (cut (puts W s P) s)
         write-room-new = let w = part-long (puts W s P) s long (one-sized .session) in let r = write-new i u h .1 in omega arith
+
+        pub write-still : (Q : List ℕ) → Q ≡ updated (cut (puts W s P) s) 0 (x .count) u → length (puts (puts W s P) s Q) ≡ length W
+        unfolding updated
+        write-still Q b =
+            ap length (put-updated (puts W s P) s long (one-sized .session) Q (x .count) u (write-new i u h .1) b) ∙ simp length-set (long ∙ sym words)
 
         pub write-enters : (Q : List ℕ) (y : Session) → Q ≡ updated (cut (puts W s P) s) 0 (x .count) u → y ≡ withEntry x
             → Turned (Write s c v) vs cs m c l W ss vs (puts (puts W s P) s Q) (ends Done y (Join s c))
