@@ -2,26 +2,12 @@
    Under callgrind the counts of each call's function are read off the profile (benches/instructions).
    usage: store_bench WORKLOAD ENTRIES CELLS SESSIONS CYCLES */
 #include "plain_store.h"
+#include "rukkanei_store.h"
 
 #include <stdio.h>
 #include <stdlib.h>
 #include <string.h>
 #include <time.h>
-
-/* UNPROVED: the store as `benches/build unproved` makes it of crates that are not proved yet, with slices behind pointers. */
-#ifdef UNPROVED
-typedef struct {
-    void *words;
-    size_t len;
-} slice;
-#endif
-
-#ifdef UNPROVED
-uint32_t run_calls(slice *calls, slice *answers, slice *values, slice *classes, slice *readers, slice *claimants, slice *exclusives, slice *logs);
-#else
-uint32_t run_calls(const uint32_t *calls, size_t, uint32_t *answers, size_t, uint32_t *values, size_t, const uint8_t *classes, size_t, uint16_t *readers, size_t,
-                   uint8_t *claimants, size_t, uint8_t *exclusives, size_t, uint32_t *logs, size_t);
-#endif
 
 enum { BEGIN = 1, READ, WRITE, SEAL, ADVANCE, ABANDON, PEEK };
 enum { MAX_CALLS = 1 << 20 };
@@ -49,7 +35,7 @@ static void add(uint32_t kind, uint32_t session, uint32_t cell, uint32_t value)
     c[3] = value;
 }
 
-/* The plain store's run of the list, in the shape of run_calls. */
+/* The plain store's run of the list, in the shape of proved_run. */
 __attribute__((noinline)) static uint32_t plain_run(size_t n)
 {
     plain_session sessions[PLAIN_SESSIONS];
@@ -87,15 +73,42 @@ __attribute__((noinline)) static uint32_t plain_run(size_t n)
     return up.number;
 }
 
+#define LENT values[0], n, classes, n, readers[0], n, claimants[0], n, exclusives[0], n, logs[0], PLAIN_LOG_WORDS
+
+/* The proved store's run of the same list, by its exported calls. */
 __attribute__((noinline)) static uint32_t proved_run(size_t n)
 {
-#ifdef UNPROVED
-    slice c = {calls, 4 * count}, a = {answers[0], 2 * count}, v = {values[0], n}, k = {classes, n}, r = {readers[0], n};
-    slice o = {claimants[0], n}, x = {exclusives[0], n}, l = {logs[0], PLAIN_LOG_WORDS};
-    return run_calls(&c, &a, &v, &k, &r, &o, &x, &l);
-#else
-    return run_calls(calls, 4 * count, answers[0], 2 * count, values[0], n, classes, n, readers[0], n, claimants[0], n, exclusives[0], n, logs[0], PLAIN_LOG_WORDS);
-#endif
+    rukkanei_sessions sessions;
+    uint32_t up, none;
+    memset(&sessions, 0, sizeof sessions);
+    sessions = rukkanei_set_up(sessions, LENT, &up, &none);
+    for (size_t i = 0; i < count; i++) {
+        uint32_t *c = calls + 4 * i, *number = &answers[0][2 * i], *value = number + 1;
+        uint8_t s = (uint8_t)c[1];
+        switch (c[0]) {
+        case BEGIN:
+            sessions = rukkanei_begin(sessions, LENT, s, number, value);
+            break;
+        case READ:
+            sessions = rukkanei_read(sessions, LENT, s, c[2], number, value);
+            break;
+        case WRITE:
+            sessions = rukkanei_write(sessions, LENT, s, c[2], c[3], number, value);
+            break;
+        case SEAL:
+            sessions = rukkanei_seal(sessions, LENT, s, number, value);
+            break;
+        case ADVANCE:
+            sessions = rukkanei_advance(sessions, LENT, s, number, value);
+            break;
+        case ABANDON:
+            sessions = rukkanei_abandon(sessions, LENT, s, number, value);
+            break;
+        default:
+            sessions = rukkanei_peek_number(sessions, LENT, s, c[2], number, value);
+        }
+    }
+    return up;
 }
 
 /* Cells of a session's transaction: spread over the store, each session its own, in an order that is neither up nor down. */

@@ -50,6 +50,14 @@ decoded() {
     tools/calls encode <"examples/$1.txt" | tools/calls decode | diff <(sed 's/#.*//; /^ *$/d' "examples/$1.txt") -
 }
 
+# The proved field functions in the place of the plain ones.
+proved_fields() {
+    mkdir -p target/c/proved
+    [ -e target/staticlib/libfield.a ] || rt staticlib field
+    gcc -O3 $c_flags -fPIC -shared -Itools/src -Iinclude benches/c/plain_store.c tools/src/proved_fields.c target/staticlib/libfield.a \
+        -o target/c/proved/libplain.so
+}
+
 encode_text() {
     printf "$1" | tools/calls encode
 }
@@ -144,6 +152,8 @@ check "replays, each in a process" shown "$compare" replays --program "$plain_re
     --seed "$((seed + 1))" --count 1500
 check "calls on arbitrary buffers" shown "$compare" calls --seed "$seed" --count 1000000
 check "fields" shown "$compare" fields --seed "$seed" --count 1000000
+check "the proved fields are built" proved_fields
+check "the proved fields" shown env LD_LIBRARY_PATH="$PWD/target/c/proved" "$compare" fields --seed "$seed" --count 1000000
 
 echo "-- wrong stores"
 python3 tests/fuzz/wrong_stores.py "$compare" "$work" "$seed" 2>&1 | tee "$work/wrong.log"

@@ -26,7 +26,7 @@ use Rattle.decide.specs.Own
 use Rattle.decide.specs.Own.{lengthsOn, entriesOn, recordOn, tested, guardOn, readSlot, readOn, writeCapped, writeOn, sealOn, dueAt, dueOn, advanceOn, handledOn, peekSlot, peekOn}
 use Rattle.decide.specs.declared.Due.{Due}
 use Rattle.decide.specs.declared.Due.the-variants.{Refused, Slot}
-use Rattle.decide.proofs.Ways.{target-slot, passes, turned, Entries, entries-of, running}
+use Rattle.decide.proofs.Ways.{target-slot, passes, turned, Entries, entries-of, record-entries}
 
 -- ---- a session's part
 
@@ -128,7 +128,7 @@ module _ (B : Buffers) (s : ℕ) (x : Session) (lengths : lengthsFit B ≡ true)
   runs : (p q : Plan) → (x .count ≤ 32 → p ≡ q) → guardOn (recordOn (size B) (part (B .logs) s) x) (eqb (x .phase) 1) p ≡ guard B s x (eqb (x .phase) 1) q
   runs p q h =
       past (recordOn (size B) (part (B .logs) s) x) (eqb (x .phase) 1) p q
-      (λ w f. h (running (size B) (part (B .logs) s) x w (eqb-true (x .phase) 1 f) .count))
+      (λ w f. let one = eqb-true (x .phase) 1 f in h (record-entries (size B) (part (B .logs) s) x w (omega arith) .count))
       ∙ guard-agree (eqb (x .phase) 1) q
 
   -- ---- begin and abandon, whose tests answer a number

@@ -54,6 +54,17 @@ unfolding targetSlot slotOf
 target-there log m from k e =
     found-test m k ∙ ap some? e ∙ which (targetIn log 0 m from) (λ p. rw p) (λ c p. rw (p, target-slot log m from p .1))
 
+-- a seal with a written cell, and with none
+seal-some : (o : Option ℕ) → some? o ≡ true → BeginPromotion ≡ sealPlan o
+unfolding sealPlan
+seal-some none h = absurd (clash false h refl)
+seal-some (some c) h = refl
+
+seal-none : (o : Option ℕ) → some? o ≡ false → CommitReads ≡ sealPlan o
+unfolding sealPlan
+seal-none none h = refl
+seal-none (some c) h = absurd (clash true refl h)
+
 -- ---- the tests
 
 -- what a test of 0 says: the record fits, and the call its phase
@@ -72,17 +83,6 @@ turned true false r p e h = ap Refuse e
 turned false true r p e h = ap Refuse e
 turned false false r p e h = ap Refuse e
 
--- a seal with a written cell, and with none
-seal-some : (o : Option ℕ) → some? o ≡ true → BeginPromotion ≡ sealPlan o
-unfolding sealPlan
-seal-some none h = absurd (clash false h refl)
-seal-some (some c) h = refl
-
-seal-none : (o : Option ℕ) → some? o ≡ false → CommitReads ≡ sealPlan o
-unfolding sealPlan
-seal-none none h = refl
-seal-none (some c) h = absurd (clash true refl h)
-
 -- a session's entries past phase 0: at most 32, each of a cell below n
 pub record Entries (n : ℕ) (log : List ℕ) (x : Session) : Type 0 where
   pub count : x .count ≤ 32
@@ -95,9 +95,9 @@ module _ (n : ℕ) (log : List ℕ) (x : Session) where
       let r : (leb (x .count) 32 && below n (cellAt log 0) (x .count)) ≡ true = rw (ne-eqb (x .phase) 0 ne) at (both-r (leb (x .phase) 4) _ h) in
       record { count = leb-true (x .count) 32 (both-l (leb (x .count) 32) _ r); cells = both-r (leb (x .count) 32) _ r }
 
-  pub running : recordOn n log x ≡ true → x .phase ≡ 1 → Entries n log x
+  pub record-entries : recordOn n log x ≡ true → (x .phase ≡ 0 → ⊥) → Entries n log x
   unfolding recordOn
-  running h e = entries-of (both-l (entriesOn n log x) _ h) (omega arith)
+  record-entries h ne = entries-of (both-l (entriesOn n log x) _ h) ne
 
   pub entries-idle : x .phase ≡ 0 → true ≡ entriesOn n log x
   unfolding entriesOn
@@ -161,7 +161,7 @@ module _ (n : ℕ) (log : List ℕ) (x : Session) where
     runs = passes (recordOn n log x) _ (sym e ∙ z) .1
 
     pub few : x .count ≤ 32
-    few = running whole (eqb-true (x .phase) 1 runs) .count
+    few = let one = eqb-true (x .phase) 1 runs in record-entries whole (omega arith) .count
 
     -- entries lie in the part
     pub room : length log ≡ 128 → 4 * x .count ≤ length log

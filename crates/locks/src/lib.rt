@@ -8,7 +8,6 @@ ghost use lib.ListN.{length, getD, set};
 ghost use Rattle.model.specs.Readers.{withReader, withoutReader, otherReaders};
 ghost use Rattle.model.specs.Buffers.{cellAt, entryAt, publishes, lockAt, setLock, lockOn, join, leave, vacate, withdraw, claim, own};
 ghost use Rattle.locks.specs.Sweeps.{locksOf, Swept, rolledBackIn, DropsReads, marked, mark, droppedSeen, droppedAt};
-
 use model::Lock;
 
 // ---- reader sets
@@ -45,7 +44,11 @@ pub fn joined(l: Lock, session: u8) -> Lock
     requires { ⌜ session < 16 ⌝ }
     ensures { λ r. ⌜ r ≡ join session l ⌝ }
 {
-    Lock { readers: with_reader(l.readers, session), claimant: l.claimant, exclusive: l.exclusive }
+    Lock {
+        readers: with_reader(l.readers, session),
+        claimant: l.claimant,
+        exclusive: l.exclusive,
+    }
 }
 
 // The session leaves the readers.
@@ -53,7 +56,11 @@ pub fn left(l: Lock, session: u8) -> Lock
     requires { ⌜ session < 16 ⌝ }
     ensures { λ r. ⌜ r ≡ leave session l ⌝ }
 {
-    Lock { readers: without_reader(l.readers, session), claimant: l.claimant, exclusive: l.exclusive }
+    Lock {
+        readers: without_reader(l.readers, session),
+        claimant: l.claimant,
+        exclusive: l.exclusive,
+    }
 }
 
 // The session leaves the readers, and claim and mark go.
@@ -61,7 +68,11 @@ pub fn vacated(l: Lock, session: u8) -> Lock
     requires { ⌜ session < 16 ⌝ }
     ensures { λ r. ⌜ r ≡ vacate session l ⌝ }
 {
-    Lock { readers: without_reader(l.readers, session), claimant: 16, exclusive: 0 }
+    Lock {
+        readers: without_reader(l.readers, session),
+        claimant: 16,
+        exclusive: 0,
+    }
 }
 
 // The session leaves the readers, and claim and mark go where the claim is its own.
@@ -80,14 +91,22 @@ pub fn withdrawn(l: Lock, session: u8) -> Lock
 pub fn claimed(l: Lock, session: u8) -> Lock
     ensures { λ r. ⌜ r ≡ claim session l ⌝ }
 {
-    Lock { readers: l.readers, claimant: session, exclusive: l.exclusive }
+    Lock {
+        readers: l.readers,
+        claimant: session,
+        exclusive: l.exclusive,
+    }
 }
 
 // The session is claimant, with the mark.
 pub fn owned(l: Lock, session: u8) -> Lock
     ensures { λ r. ⌜ r ≡ own session l ⌝ }
 {
-    Lock { readers: l.readers, claimant: session, exclusive: 1 }
+    Lock {
+        readers: l.readers,
+        claimant: session,
+        exclusive: 1,
+    }
 }
 
 // ---- the locks of all cells
@@ -99,9 +118,17 @@ pub fn at(readers: &[u16], claimants: &[u8], exclusives: &[u8], cell: u32) -> Lo
 {
     let c = cell as usize;
     if readers.len() <= c {
-        return Lock { readers: 0, claimant: 16, exclusive: 0 };
+        return Lock {
+            readers: 0,
+            claimant: 16,
+            exclusive: 0,
+        };
     }
-    Lock { readers: readers[c], claimant: claimants[c], exclusive: exclusives[c] }
+    Lock {
+        readers: readers[c],
+        claimant: claimants[c],
+        exclusive: exclusives[c],
+    }
 }
 
 // A cell's lock anew.
@@ -116,7 +143,13 @@ pub fn put(readers: &mut [u16], claimants: &mut [u8], exclusives: &mut [u8], cel
 }
 
 // The session withdraws from one cell.
-fn withdraw_at(readers: &mut [u16], claimants: &mut [u8], exclusives: &mut [u8], cell: u32, session: u8)
+fn withdraw_at(
+    readers: &mut [u16],
+    claimants: &mut [u8],
+    exclusives: &mut [u8],
+    cell: u32,
+    session: u8,
+)
     requires { ⌜ (session < 16) × (cell < length (now readers)) × (length (now claimants) ≡ length (now readers)) × (length (now exclusives) ≡ length (now readers)) ⌝ }
     ensures { λ _. ⌜ locksOf (now (readers .exit)) (now (claimants .exit)) (now (exclusives .exit)) ≡ lockOn cell (withdraw session) (locksOf (now (readers .entry)) (now (claimants .entry)) (now (exclusives .entry))) ⌝ }
 {
@@ -129,7 +162,14 @@ fn withdraw_at(readers: &mut [u16], claimants: &mut [u8], exclusives: &mut [u8],
 }
 
 // Rolling back: the session withdraws from the cell of each entry.
-pub fn roll_back(log: &[u32], count: usize, readers: &mut [u16], claimants: &mut [u8], exclusives: &mut [u8], session: u8)
+pub fn roll_back(
+    log: &[u32],
+    count: usize,
+    readers: &mut [u16],
+    claimants: &mut [u8],
+    exclusives: &mut [u8],
+    session: u8,
+)
     requires { ⌜ (Swept session (now log) count (length (now readers))) × (length (now claimants) ≡ length (now readers)) × (length (now exclusives) ≡ length (now readers)) ⌝ }
     ensures { λ _. ⌜ locksOf (now (readers .exit)) (now (claimants .exit)) (now (exclusives .exit)) ≡ rolledBackIn (now (log .entry)) count session (locksOf (now (readers .entry)) (now (claimants .entry)) (now (exclusives .entry))) ⌝ }
 {

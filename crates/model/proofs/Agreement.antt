@@ -55,7 +55,6 @@ unfolding wrote valueWritten readsBeforeWriting snapshot movesIn
 agrees-begin n p s x k a =
     agrees
     (record {
-      live = rw (k, a);
       who = rw k;
       wrote = λ c. rw k;
       value = λ c. rw k;
@@ -63,6 +62,7 @@ agrees-begin n p s x k a =
       snap = rw k;
       moved = rw k;
     })
+    (rw (k, a))
     (sym (ap (ltb 0) (one-commit (tally (λ c. false) n) x (rw k)))) (λ d. absurd (clash false d refl))
 
 agrees-opening : (n p : ℕ) (e : Event) → Agrees n (opening p e) (begins p (e .call) (e .answer))

@@ -86,12 +86,8 @@ or-true false = refl
 
 -- ---- one call more of an open transaction
 
--- the call is the session's own
-abbrev Next : Placed → List Placed → Txn → Type 0
-Next x t u = sessionOf (x .call) ≡ u .who
-
+-- what the ledger must keep with the call x after the calls t, whether it goes on or ends
 pub record Facts (x : Placed) (t : List Placed) (u′ : Txn) : Type 0 where
-  pub live : u′ .live ≡ not (ends x)
   pub who : u′ .who ≡ sessionOf (x .call)
   pub wrote : (c : ℕ) → u′ .wrote c ≡ (writes x c || wrote t c)
   pub value : (c : ℕ) → u′ .value c ≡ cond (writes x c) (argument (x .call)) (valueWritten t c)
@@ -99,12 +95,13 @@ pub record Facts (x : Placed) (t : List Placed) (u′ : Txn) : Type 0 where
   pub snap : u′ .snap ≡ cond (seals x) (x .place) (snapshot t)
   pub moved : u′ .moved ≡ cond (moves x) (suc (movesIn t)) (movesIn t)
 
-pub agrees : {n : ℕ} {x : Placed} {t : List Placed} {u′ : Txn} → Facts x t u′ → u′ .done ≡ ltb 0 (commitBy (tally (u′ .wrote) n) (u′ .snap) (x ∷ t))
+pub agrees : {n : ℕ} {x : Placed} {t : List Placed} {u′ : Txn} → Facts x t u′ → u′ .live ≡ not (ends x)
+    → u′ .done ≡ ltb 0 (commitBy (tally (u′ .wrote) n) (u′ .snap) (x ∷ t))
     → (u′ .done ≡ true → u′ .commit ≡ commitBy (tally (u′ .wrote) n) (u′ .snap) (x ∷ t)) → Agrees n (x ∷ t) u′
 unfolding wrote valueWritten snapshot movesIn
-agrees f d c =
+agrees f l d c =
     record {
-      live = f .live;
+      live = l;
       who = λ y r e. f .who ∙ ap (λ (l : List Placed). ownerOf l) e;
       wrote = fun-ext (f .wrote);
       value = fun-ext (f .value);
@@ -115,6 +112,9 @@ agrees f d c =
       commit = c;
     }
 
+facts-ended : {x : Placed} {t : List Placed} {u′ : Txn} → Facts x t u′ → Facts x t (ended u′)
+facts-ended f = record { who = f .who; wrote = f .wrote; value = f .value; reads = f .reads; snap = f .snap; moved = f .moved }
+
 -- a call that moves nothing leaves the place
 pub still : (m q : ℕ) (x : Placed) (t : List Placed) → moves x ≡ false → commitBy m q (x ∷ t) ≡ commitBy m q t
 unfolding commitBy moveNumber
@@ -122,32 +122,25 @@ still m q x t h = rw h
 
 module _ {n : ℕ} {t : List Placed} {u : Txn} (A : Agrees n t u) (x : Placed) (own : sessionOf (x .call) ≡ u .who) (open′ : u .live ≡ true) where
   -- nothing told; the end, or not
-  bland : Bland x → (b : Bool) → ends x ≡ b → Agrees n (x ∷ t) (cond b (ended u) u)
+  bland-facts : Bland x → Facts x t u
   unfolding readsBeforeWriting
-  bland B false e =
-      agrees
-      (record {
-        live = open′ ∙ sym (ap not e);
+  bland-facts B =
+      record {
         who = sym own;
         wrote = λ c. rw (B .writes c) (ap (λ (f : ℕ → Bool). f c) (A .wrote));
         value = λ c. rw (B .writes c) (ap (λ (f : ℕ → ℕ). f c) (A .value));
         reads = rw (B .reads) (A .reads);
         snap = rw (B .seals) (A .snap);
         moved = rw (B .moves) (A .moved);
-      })
-      (rw (still (tally (u .wrote) n) (u .snap) x t (B .moves)) (A .done)) (rw (still (tally (u .wrote) n) (u .snap) x t (B .moves)) (A .commit))
-  bland B true e =
-      agrees
-      (record {
-        live = sym (ap not e);
-        who = sym own;
-        wrote = λ c. rw (B .writes c) (ap (λ (f : ℕ → Bool). f c) (A .wrote));
-        value = λ c. rw (B .writes c) (ap (λ (f : ℕ → ℕ). f c) (A .value));
-        reads = rw (B .reads) (A .reads);
-        snap = rw (B .seals) (A .snap);
-        moved = rw (B .moves) (A .moved);
-      })
-      (rw (still (tally (u .wrote) n) (u .snap) x t (B .moves)) (A .done)) (rw (still (tally (u .wrote) n) (u .snap) x t (B .moves)) (A .commit))
+      }
+
+  bland : Bland x → (b : Bool) → ends x ≡ b → Agrees n (x ∷ t) (cond b (ended u) u)
+  bland B b e = go b e (rw (still (tally (u .wrote) n) (u .snap) x t (B .moves)) (A .done)) (rw (still (tally (u .wrote) n) (u .snap) x t (B .moves)) (A .commit))
+    where
+      go : (b : Bool) → ends x ≡ b → u .done ≡ ltb 0 (commitBy (tally (u .wrote) n) (u .snap) (x ∷ t))
+          → (u .done ≡ true → u .commit ≡ commitBy (tally (u .wrote) n) (u .snap) (x ∷ t)) → Agrees n (x ∷ t) (cond b (ended u) u)
+      go false e d c = agrees (bland-facts B) (open′ ∙ sym (ap not e)) d c
+      go true e d c = agrees (facts-ended (bland-facts B)) (sym (ap not e)) d c
 
   abbrev m : ℕ
   m = tally (u .wrote) n
@@ -168,7 +161,6 @@ module _ {n : ℕ} {t : List Placed} {u : Txn} (A : Agrees n t u) (x : Placed) (
   read-more s c k a =
       agrees
       (record {
-        live = open′ ∙ rw (k, a);
         who = sym own;
         wrote = λ d. rw k (wrote-at d);
         value = λ d. rw k (value-at d);
@@ -177,6 +169,7 @@ module _ {n : ℕ} {t : List Placed} {u : Txn} (A : Agrees n t u) (x : Placed) (
         snap = rw k (A .snap);
         moved = rw k (A .moved);
       })
+      (open′ ∙ rw (k, a))
       (rw (still m (u .snap) x t (rw k)) (A .done)) (rw (still m (u .snap) x t (rw k)) (A .commit))
 
   write-none : (w : ℕ → Bool) → (u .moved ≡ 0) × (u .snap ≡ 0) → commitBy (tally w n) (u .snap) t ≡ 0
@@ -192,7 +185,6 @@ module _ {n : ℕ} {t : List Placed} {u : Txn} (A : Agrees n t u) (x : Placed) (
   write-more s c v k a set early =
       agrees
       (record {
-        live = open′ ∙ rw (k, a);
         who = sym own;
         wrote = λ d. rw (k, a) (same d c (λ e. rw (e, eq-eqb c c refl)) (λ e. rw (ne-eqb d c e, ne-eqb c d (λ w. e (sym w))) (wrote-at d)));
         value = λ d. rw (k, a) (same d c (λ e. rw (e, eq-eqb c c refl)) (λ e. rw (ne-eqb d c e, ne-eqb c d (λ w. e (sym w))) (value-at d)));
@@ -200,6 +192,7 @@ module _ {n : ℕ} {t : List Placed} {u : Txn} (A : Agrees n t u) (x : Placed) (
         snap = rw k (A .snap);
         moved = rw k (A .moved);
       })
+      (open′ ∙ rw (k, a))
       (rw (still (tally (upd (u .wrote) c true) n) (u .snap) x t (rw k))
       (test (u .done) (λ d. A .done ∙ ap (λ (w : ℕ → Bool). ltb 0 (commitBy (tally w n) (u .snap) t)) (sym (set d .wrote))) (λ d. d ∙ sym (ap (ltb 0) (write-none (upd (u .wrote) c true) early)))))
       (λ d. rw (still (tally (upd (u .wrote) c true) n) (u .snap) x t (rw k)) (A .commit d ∙ ap (λ (w : ℕ → Bool). commitBy (tally w n) (u .snap) t) (sym (set d .wrote))))
@@ -218,35 +211,23 @@ module _ {n : ℕ} {t : List Placed} {u : Txn} (A : Agrees n t u) (x : Placed) (
     unfolding commitBy
     sealed-commit y = rw y
 
-    seal-more : number (x .answer) ≡ 102 → Agrees n (x ∷ t) (sealedAt n (x .place) u)
+    seal-facts : seals x ≡ true → Facts x t (sealedAt n (x .place) u)
     unfolding readsBeforeWriting
-    seal-more a =
-        agrees
-        (record {
-          live = open′ ∙ rw (k, a);
+    seal-facts y =
+        record {
           who = sym own;
           wrote = λ d. rw k (wrote-at d);
           value = λ d. rw k (value-at d);
           reads = rw k (A .reads);
-          snap = rw (k, a);
+          snap = rw y;
           moved = rw k (A .moved);
-        })
-        sealed-done sealed-commit
+        }
+
+    seal-more : number (x .answer) ≡ 102 → Agrees n (x ∷ t) (sealedAt n (x .place) u)
+    seal-more a = agrees (seal-facts (rw (k, a))) (open′ ∙ rw (k, a)) sealed-done sealed-commit
 
     seal-end : number (x .answer) ≡ 105 → Agrees n (x ∷ t) (ended (sealedAt n (x .place) u))
-    unfolding readsBeforeWriting
-    seal-end a =
-        agrees
-        (record {
-          live = rw (k, a);
-          who = sym own;
-          wrote = λ d. rw k (wrote-at d);
-          value = λ d. rw k (value-at d);
-          reads = rw k (A .reads);
-          snap = rw (k, a);
-          moved = rw k (A .moved);
-        })
-        sealed-done sealed-commit
+    seal-end a = agrees (facts-ended (seal-facts (rw (k, a)))) (rw (k, a)) sealed-done sealed-commit
 
   -- an advance answered 103
   module _ (moves-on : moves x ≡ true) where
@@ -278,7 +259,6 @@ module _ {n : ℕ} {t : List Placed} {u : Txn} (A : Agrees n t u) (x : Placed) (
   advance-more s k a late =
       agrees
       (record {
-        live = open′ ∙ rw (k, a);
         who = sym own;
         wrote = λ d. rw k (wrote-at d);
         value = λ d. rw k (value-at d);
@@ -286,6 +266,7 @@ module _ {n : ℕ} {t : List Placed} {u : Txn} (A : Agrees n t u) (x : Placed) (
         snap = rw k (A .snap);
         moved = rw (k, a) (ap suc (A .moved));
       })
+      (open′ ∙ rw (k, a))
       (advance-done (rw (k, a)) late ∙ ap (ltb 0) (advance-place (rw (k, a)))) (λ d. advance-place (rw (k, a)))
 
   -- any call of the session

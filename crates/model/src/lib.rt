@@ -5,6 +5,7 @@ ghost use Prim.Native.Nat.{suc, _<_};
 ghost use Rattle.model.specs.Buffers.{idle, running, withEntry, moveTo};
 
 // A session's record: phase (0 idle, 1 running, 2 promoting, 3 publishing, 4 releasing), entry count, next cell.
+#[repr(C)]
 pub struct Session {
     pub phase: u8,
     pub count: u8,
@@ -12,6 +13,7 @@ pub struct Session {
 }
 
 // The records of the sixteen sessions, passed in and handed back by every call.
+#[repr(C)]
 pub struct Sessions {
     pub records: [Session; 16],
 }
@@ -76,14 +78,22 @@ impl Session {
     pub fn begun(self) -> Session
         ensures { λ r. ⌜ r ≡ running ⌝ }
     {
-        Session { phase: 1, count: 0, next: 0 }
+        Session {
+            phase: 1,
+            count: 0,
+            next: 0,
+        }
     }
 
     // Going idle: count and next are 0.
     pub fn rested(self) -> Session
         ensures { λ r. ⌜ r ≡ idle ⌝ }
     {
-        Session { phase: 0, count: 0, next: 0 }
+        Session {
+            phase: 0,
+            count: 0,
+            next: 0,
+        }
     }
 
     // One entry more.
@@ -91,21 +101,33 @@ impl Session {
         requires { ⌜ self .count < 32 ⌝ }
         ensures { λ r. ⌜ r ≡ withEntry self ⌝ }
     {
-        Session { phase: self.phase, count: self.count + 1, next: self.next }
+        Session {
+            phase: self.phase,
+            count: self.count + 1,
+            next: self.next,
+        }
     }
 
     // Sealed with a cell written: promotion begins.
     pub fn sealed(self) -> Session
         ensures { λ r. ⌜ r ≡ moveTo 2 0 self ⌝ }
     {
-        Session { phase: 2, count: self.count, next: 0 }
+        Session {
+            phase: 2,
+            count: self.count,
+            next: 0,
+        }
     }
 
     // A cell is handled and another is left: next is past the one handled.
     pub fn moved(self, next: u16) -> Session
         ensures { λ r. ⌜ r ≡ moveTo (self .phase) next self ⌝ }
     {
-        Session { phase: self.phase, count: self.count, next }
+        Session {
+            phase: self.phase,
+            count: self.count,
+            next,
+        }
     }
 
     // The last cell is handled: the phase rises.
@@ -113,6 +135,10 @@ impl Session {
         requires { ⌜ self .phase < 4 ⌝ }
         ensures { λ r. ⌜ r ≡ moveTo (suc (self .phase)) 0 self ⌝ }
     {
-        Session { phase: self.phase + 1, count: self.count, next: 0 }
+        Session {
+            phase: self.phase + 1,
+            count: self.count,
+            next: 0,
+        }
     }
 }

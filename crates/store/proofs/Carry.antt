@@ -1,11 +1,12 @@
 -- A call is its plan carried out; and what each plan leaves, in the shape in which the code leaves it: an answer, lists, one record put in its place.
-use mathlib.Core.Path.{_≡_, refl, sym, ap, _∙_}
+use mathlib.Core.Path.{_≡_, refl}
 use Prim.Native.Nat.{ℕ}
 use mathlib.Core.List.{List}
 use lib.ListN.{getD, set}
-use Rattle.model.specs.Buffers.{Locks, Store, idle, running, sessionAt, withSession, withEntry, moveTo, lockOn, join, claim, own, vacate, appended, updated}
-use Rattle.model.specs.Step.{Outcome, outcome, taken, reply, step, planOf, sessionOf, recordOf, answer, after, rolledBack, readsDropped, handled, releasing}
+use Rattle.model.specs.Buffers.{Locks, Store, idle, running, withSession, withEntry, moveTo, lockAt, setLock, lockOn, join, claim, own, vacate, appended, updated}
+use Rattle.model.specs.Step.{outcome, taken, reply, step, planOf, sessionOf, recordOf, answer, after, rolledBack, readsDropped, handled, releasing}
 use Rattle.model.specs.declared.Session.{Session}
+use Rattle.model.specs.declared.Lock.{Lock}
 use Rattle.model.specs.declared.Call.{Call}
 use Rattle.model.specs.declared.Answer.{Answer}
 use Rattle.model.specs.declared.Answer.the-variants.{Done, Value, Sealed, Moved, Waiting, Committed, Refused}
@@ -16,6 +17,11 @@ use Rattle.store.specs.Lent.{carried}
 pub carries : (k : Call) (σ : Store) (p : Plan) → p ≡ planOf k σ → carried (sessionOf k) p σ ≡ taken k σ
 unfolding carried taken reply step
 carries k σ p e = rw e
+
+-- the lock of a cell, changed by f and put back
+pub put-on : (f : Lock → Lock) (c : ℕ) (L M : Locks) (l m : Lock) → M ≡ setLock c m L → m ≡ f l → l ≡ lockAt L c → M ≡ lockOn c f L
+unfolding lockOn
+put-on f c L M l m e g h = rw (← h, ← g) e
 
 -- the store with these locks, values and logs, and record y in place s of the sixteen; or with all records as before
 abbrev pub leaves : Store → ℕ → Locks → List ℕ → List ℕ → Session → Store

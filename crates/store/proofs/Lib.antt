@@ -1,4 +1,11 @@
+pub mod Advances
 pub mod Carry
-pub mod Refusals
+pub mod Choices
+pub mod Entering
 pub mod Parts
+pub mod Peeks
+pub mod Refusals
+pub mod Seals
+pub mod SetUp
 pub mod Tags
+pub mod Tested

@@ -1,15 +1,14 @@
 -- A session's part of the logs, as the code takes it and puts it back. What the code does to the part is what the model does to the logs,
 -- and a sweep over the part's entries is the model's over the session's.
 use mathlib.Core.Path.{_≡_, refl, sym, ap, _∙_}
-use mathlib.Core.Bool.{Bool, true, not}
+use mathlib.Core.Bool.{Bool, not}
 use mathlib.Core.List.{List, [], _∷_, _++_}
 use Prim.Native.Nat.{ℕ, zero, suc, _+_, _*_, _-_, _<_, _≤_}
 use native.Mathlib.Nat.{zero-add, suc-add}
 use native.Mathlib.Omega.{arith}
-use lib.ListN.{length, set, take, drop, length-set, take-append-drop}
+use lib.ListN.{length, getD, set, take, drop, length-set, take-append-drop}
 use lib.Seq.{length-take-le, set-append-left, sets}
-use Rattle.model.specs.Search.{below}
-use Rattle.model.specs.Buffers.{Locks, Store, size, cellAt, publishesIn, appended, updated, sweep, leave, withdraw}
+use Rattle.model.specs.Buffers.{Locks, Store, idle, cellAt, appended, updated, sweep, leave, withdraw}
 use Rattle.model.specs.Step.{rolledBack, readsDropped}
 use Rattle.model.specs.declared.Session.{Session}
 use Rattle.model.specs.declared.Lock.{Lock}
@@ -20,7 +19,10 @@ use Rattle.decide.proofs.Ways.{Entries}
 use Rattle.store.specs.Lent.{Sized}
 use Rattle.store.proofs.Refusals.{Lengths, lengths-of}
 
--- the part as the code takes it
+-- a session's record and its part, as the code reads them
+abbrev pub own : Store → ℕ → Session
+own σ s = getD (σ .sessions .records) s idle
+
 abbrev pub cut : List ℕ → ℕ → List ℕ
 cut logs s = take (128 * s + 128 - 128 * s) (drop (128 * s) logs)
 
@@ -114,9 +116,17 @@ module _ (σ : Store) (s : ℕ) (z : Sized σ s) where
   pub can-decide : (length (cut (σ .lent .logs) s) ≡ 128) × (length (σ .lent .values) ≤ 1024)
   can-decide = (part-long (σ .lent .logs) s (sizes .logs) (z .session), sizes .few)
 
+  pub can-decide-write : (length (cut (σ .lent .logs) s) ≡ 128) × (length (σ .lent .classes) ≤ 1024)
+  can-decide-write = (can-decide .0, rw (sizes .classes) (sizes .few))
+
   pub locks-even : (length (σ .lent .locks .claimants) ≡ length (σ .lent .locks .readers)) × (length (σ .lent .locks .exclusives) ≡ length (σ .lent .locks .readers))
   locks-even = (sizes .claimants ∙ sym (sizes .readers), sizes .exclusives ∙ sym (sizes .readers))
 
   pub can-sweep : (x : Session) → Entries (length (σ .lent .values)) (cut (σ .lent .logs) s) x
       → Swept s (cut (σ .lent .logs) s) (x .count) (length (σ .lent .locks .readers))
   can-sweep x n = let w = can-decide .0 in let f = n .count in record { session = z .session; count = omega arith; cells = rw (sizes .readers) (n .cells) }
+
+  pub can-roll-back : (x : Session) → Entries (length (σ .lent .values)) (cut (σ .lent .logs) s) x
+      → (Swept s (cut (σ .lent .logs) s) (x .count) (length (σ .lent .locks .readers)))
+      × (length (σ .lent .locks .claimants) ≡ length (σ .lent .locks .readers)) × (length (σ .lent .locks .exclusives) ≡ length (σ .lent .locks .readers))
+  can-roll-back x n = let l = locks-even in (can-sweep x n, l .0, l .1)

@@ -1,6 +1,6 @@
 -- The first two refusals of every call, 7 by the lengths and 1 by the session: the plan, and the whole outcome where the code returns it.
 -- Past them the store is `Sized`, which the inner functions ask for.
-use mathlib.Core.Path.{_≡_, refl, sym, _∙_}
+use mathlib.Core.Path.{_≡_, sym, _∙_}
 use mathlib.Core.Bool.{Bool, true, false}
 use Prim.Native.Nat.{ℕ, _<_, _≤_}
 use native.Mathlib.Omega.{arith}

@@ -680,7 +680,7 @@ pub fn abandon(
 // ---- peek
 
 // What a peek decides.
-fn peek_plan(
+pub fn peek_plan(
     sessions: Sessions,
     values: &[u32],
     classes: &[u8],

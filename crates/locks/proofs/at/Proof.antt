@@ -1,32 +1,26 @@
+-- Past the last cell each list gives its default; within the lists the default does not matter.
 use borrow.Author.Needs.{needs}
+use Rattle.locks.proofs.Sweeps.{lock-past, lock-here}
 use Rattle.locks.proofs.at.Statement.{statement}
 use Rattle.locks.proofs.at.Tie as tie
-use Rattle.locks.proofs.at.Reads as reads
-use Rattle.locks.proofs.at.Lts as lts
 
--- src/lib.rt:102:9
 returns : tie.Need-returns
-returns c = ?
+returns c = lock-past _ _ _ _ (c .before .pre .0) (c .before .pre .1) (c .if1 .taken)
 
--- src/lib.rt:104:21
 mul-t6 : tie.Need-mul-t6
 mul-t6 c = search needs
 
--- src/lib.rt:104:21
 shared-slice-read-t9 : tie.Need-shared-slice-read-t9
 shared-slice-read-t9 c = search needs
 
--- src/lib.rt:104:43
 shared-slice-read-t11 : tie.Need-shared-slice-read-t11
 shared-slice-read-t11 c = search needs
 
--- src/lib.rt:104:68
 shared-slice-read-t13 : tie.Need-shared-slice-read-t13
 shared-slice-read-t13 c = search needs
 
--- src/lib.rt:96:1
 returns-2 : tie.Need-returns-2
-returns-2 c = ?
+returns-2 c = lock-here _ _ _ _ (c .before .before .before .before .pre .0) (c .before .before .before .before .pre .1) (c .before .before .before .if1 .left)
 
 pub at-spec : {M : Type 1} → statement M
 at-spec =

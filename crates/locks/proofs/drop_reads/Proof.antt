@@ -1,48 +1,62 @@
+-- The loop keeps what the entries so far leave of the readers, and that the cells seen are theirs.
 use Prim.Native.Nat.{ℕ, _<_, _≤_, _-_}
-use mathlib.Core.Path.{_≡_}
+use mathlib.Core.Path.{refl, _∙_, _≡_}
+use native.Mathlib.Omega.{arith}
 use lib.ListN.{length}
+use Rattle.model.specs.Buffers.{cellAt, slotIn}
 use Rattle.model.specs.Search.{some?}
-use Rattle.model.specs.Buffers.{slotIn}
+use Rattle.model.proofs.Laws.{below-is}
 use Rattle.locks.specs.Sweeps.{marked, DroppedSoFar}
+use Rattle.locks.proofs.Sweeps.{drop-start, drop-more, seen-start, seen-length, seen-more}
 use Rattle.locks.proofs.drop_reads.Statement.{statement}
 use Rattle.locks.proofs.drop_reads.Tie as tie
-use Rattle.locks.proofs.drop_reads.Reads as reads
-use Rattle.locks.proofs.drop_reads.Lts as lts
-use Rattle.locks.proofs.drop_at.Reads as drop-at-reads
 
 abbrev Inv-loop : tie.InvT-loop
-Inv-loop log count readers₀ session seen₀ i₀ readers seen i = (i ≤ count) × (length readers ≡ length readers₀) × DroppedSoFar log count i session readers₀ readers × ((c : ℕ) → c < 1024 → marked seen c ≡ some? (slotIn log 0 i c))
+Inv-loop log count readers₀ session seen₀ i₀ readers seen i =
+    (i ≤ count) × (length readers ≡ length readers₀) × DroppedSoFar log count i session readers₀ readers × (length seen ≡ 16)
+    × ((c : ℕ) → c < 1024 → marked seen c ≡ some? (slotIn log 0 i c))
 
 abbrev μ-loop : tie.MeasureT-loop
 μ-loop log count readers₀ session seen₀ i₀ readers seen i = count - i
 
--- src/lib.rt:199:5
 loop-holds : tie.Need-loop-holds Inv-loop μ-loop
-loop-holds c = ?
+loop-holds c = (omega arith, refl, drop-start _ _ _ _, refl, seen-start _)
 
--- src/lib.rt:200:9
 drop-at-requires : tie.Need-drop-at-requires Inv-loop μ-loop
-drop-at-requires c κs = ?
+drop-at-requires c κs =
+    let a = c .before .before .before .before .before .before in
+    let l = c .before .before .before .loop in
+    let lt = below-is _ (cellAt _ 0) _ (a .pre .0 .cells) (l .i) (c .before .before .loop-test .taken) in
+    (a .pre .0 .session, omega arith, omega arith, omega (arith, l .inv .1))
 
--- src/lib.rt:201:9
 add-i : tie.Need-add-i Inv-loop μ-loop
-add-i c = ?
+add-i c = omega arith
 
--- src/lib.rt:199:5
 loop-less : tie.Need-loop-less Inv-loop μ-loop
-loop-less c = ?
+loop-less c = omega arith
 
--- src/lib.rt:199:5
 loop-again : tie.Need-loop-again Inv-loop μ-loop
-loop-again c = ?
+loop-again c =
+    let a = c .before .before .before .before .before .before .before .before .before in
+    let l = c .before .before .before .before .before .before .loop in
+    let d = c .before .before .drop-at in
+    let h = c .before .before .before .before .before .loop-test .taken in
+    let lR = below-is _ (cellAt _ 0) _ (a .pre .0 .cells) (l .i) h in
+    let lt : cellAt (a .args .log .now) 0 (l .i) < 1024 = omega arith in (
+      omega arith,
+      d .kept .1 .1 .0 ∙ l .inv .1,
+      drop-more _ _ _ _ _ _ _ h lt lR (l .inv .4) (l .inv .2) _ (d .ensures .1),
+      seen-length _ _ _ (l .inv .3) lt (l .inv .4) _ (d .ensures .0),
+      seen-more _ _ _ (l .inv .3) lt (l .inv .4) _ (d .ensures .0),
+    )
 
--- src/lib.rt:193:1
 same-length : tie.Need-same-length Inv-loop μ-loop
-same-length c = ?
+same-length c = c .before .loop .inv .1
 
--- src/lib.rt:193:1
 returns : tie.Need-returns Inv-loop μ-loop
-returns c = ?
+returns c =
+    let e : c .before .loop .i ≡ c .before .before .before .before .args .count = omega arith in
+    rw e at (c .before .loop .inv .2)
 
 pub drop-reads-spec : {M : Type 1} → statement M
 drop-reads-spec =

@@ -1,59 +1,66 @@
+-- The loop keeps the locks that the entries so far leave.
 use Prim.Native.Nat.{_≤_, _-_}
-use mathlib.Core.Path.{_≡_}
+use mathlib.Core.Path.{refl, _∙_, _≡_}
+use native.Mathlib.Omega.{arith}
 use lib.ListN.{length}
+use Rattle.model.specs.Buffers.{cellAt}
+use Rattle.model.proofs.Laws.{below-is}
 use Rattle.locks.specs.Sweeps.{locksOf, rolledBackIn}
+use Rattle.locks.proofs.Sweeps.{roll-start, roll-more}
 use Rattle.locks.proofs.roll_back.Statement.{statement}
 use Rattle.locks.proofs.roll_back.Tie as tie
-use Rattle.locks.proofs.roll_back.Reads as reads
-use Rattle.locks.proofs.roll_back.Lts as lts
-use Rattle.locks.proofs.withdraw_at.Reads as withdraw-at-reads
-use Rattle.log.proofs.cell_at.Reads as cell-at-reads
 
 abbrev Inv-loop : tie.InvT-loop
-Inv-loop log count readers₀ claimants₀ exclusives₀ session i₀ readers claimants exclusives i = (i ≤ count) × (length readers ≡ length readers₀) × (length claimants ≡ length claimants₀) × (length exclusives ≡ length exclusives₀) × (locksOf readers claimants exclusives ≡ rolledBackIn log i session (locksOf readers₀ claimants₀ exclusives₀))
+Inv-loop log count readers₀ claimants₀ exclusives₀ session i₀ readers claimants exclusives i =
+    (i ≤ count) × (length readers ≡ length readers₀) × (length claimants ≡ length claimants₀) × (length exclusives ≡ length exclusives₀)
+    × (locksOf readers claimants exclusives ≡ rolledBackIn log i session (locksOf readers₀ claimants₀ exclusives₀))
 
 abbrev μ-loop : tie.MeasureT-loop
 μ-loop log count readers₀ claimants₀ exclusives₀ session i₀ readers claimants exclusives i = count - i
 
--- src/lib.rt:137:5
 loop-holds : tie.Need-loop-holds Inv-loop μ-loop
-loop-holds c = ?
+loop-holds c = (omega arith, refl, refl, refl, roll-start _ _ _)
 
--- src/lib.rt:138:13
 cell-at-requires : tie.Need-cell-at-requires Inv-loop μ-loop
-cell-at-requires c κs = ?
+cell-at-requires c κs = omega (arith, c .before .before .before .before .before .before .pre .0 .count)
 
--- src/lib.rt:139:9
 withdraw-at-requires : tie.Need-withdraw-at-requires Inv-loop μ-loop
-withdraw-at-requires c κs = ?
+withdraw-at-requires c κs =
+    let a = c .before .before .before .before .before .before .before .before .before .before in
+    let l = c .before .before .before .before .before .loop in
+    let lt = below-is _ (cellAt _ 0) _ (a .pre .0 .cells) (l .i) (c .before .before .before .before .loop-test .taken) in
+    (a .pre .0 .session, omega (arith, lt, c .before .before .before .cell-at .ensures, l .inv .1), omega (arith, l .inv .1, l .inv .2, a .pre .1), omega (arith, l .inv .1, l .inv .3, a .pre .2))
 
--- src/lib.rt:140:9
 add-i : tie.Need-add-i Inv-loop μ-loop
-add-i c = ?
+add-i c = omega arith
 
--- src/lib.rt:137:5
 loop-less : tie.Need-loop-less Inv-loop μ-loop
-loop-less c = ?
+loop-less c = omega arith
 
--- src/lib.rt:137:5
 loop-again : tie.Need-loop-again Inv-loop μ-loop
-loop-again c = ?
+loop-again c =
+    let l = c .before .before .before .before .before .before .before .before .before .before .before .before .loop in
+    let w = c .before .before .before .before .before .before .withdraw-at in (
+      omega arith,
+      w .kept .0 ∙ l .inv .1,
+      w .kept .1 .0 ∙ l .inv .2,
+      w .kept .1 .1 .0 ∙ l .inv .3,
+      roll-more _ _ _ _ _ _ _ (c .before .before .before .before .before .before .before .before .before .before .cell-at .ensures) (l .inv .4) (w .ensures),
+    )
 
--- src/lib.rt:132:1
 same-length : tie.Need-same-length Inv-loop μ-loop
-same-length c = ?
+same-length c = c .before .loop .inv .1
 
--- src/lib.rt:132:1
 same-length-2 : tie.Need-same-length-2 Inv-loop μ-loop
-same-length-2 c = ?
+same-length-2 c = c .before .loop .inv .2
 
--- src/lib.rt:132:1
 same-length-3 : tie.Need-same-length-3 Inv-loop μ-loop
-same-length-3 c = ?
+same-length-3 c = c .before .loop .inv .3
 
--- src/lib.rt:132:1
 returns : tie.Need-returns Inv-loop μ-loop
-returns c = ?
+returns c =
+    let e : c .before .loop .i ≡ c .before .before .before .before .before .before .args .count = omega arith in
+    rw e at (c .before .loop .inv .4)
 
 pub roll-back-spec : {M : Type 1} → statement M
 roll-back-spec =

@@ -1,49 +1,44 @@
+-- The session leaves the readers of the cell; where the claimant is its own, claim and mark go too.
 use borrow.Author.Needs.{needs}
+use Rattle.locks.proofs.Sweeps.{withdraw-own, withdraw-other}
 use Rattle.locks.proofs.withdraw_at.Statement.{statement}
 use Rattle.locks.proofs.withdraw_at.Tie as tie
-use Rattle.locks.proofs.withdraw_at.Reads as reads
-use Rattle.locks.proofs.withdraw_at.Lts as lts
-use Rattle.locks.proofs.leave_at.Reads as leave-at-reads
 
--- src/lib.rt:123:5
 leave-at-requires : tie.Need-leave-at-requires
 leave-at-requires c κs = search needs
 
--- src/lib.rt:125:8
 slice-read-if1 : tie.Need-slice-read-if1
 slice-read-if1 c = search needs
 
--- src/lib.rt:126:9
 slice-write-claimants : tie.Need-slice-write-claimants
 slice-write-claimants c = search needs
 
--- src/lib.rt:127:9
 slice-write-exclusives : tie.Need-slice-write-exclusives
 slice-write-exclusives c = search needs
 
--- src/lib.rt:119:1
 same-length : tie.Need-same-length
 same-length c = search needs
 
--- src/lib.rt:119:1
 same-length-2 : tie.Need-same-length-2
 same-length-2 c = search needs
 
--- src/lib.rt:119:1
 same-length-3 : tie.Need-same-length-3
 same-length-3 c = search needs
 
--- src/lib.rt:119:1
 returns : tie.Need-returns
-returns c = ?
+returns c =
+    let r = c .before .before .before .before in
+    let p = r .before .before .before .before .before .pre in
+    rw (r .leave-at .ensures) (withdraw-own _ _ _ _ (p .2) (p .3) (p .1) _ (c .if1 .taken))
 
--- src/lib.rt:119:1
 same-length-4 : tie.Need-same-length-4
 same-length-4 c = search needs
 
--- src/lib.rt:119:1
 returns-2 : tie.Need-returns-2
-returns-2 c = ?
+returns-2 c =
+    let r = c .before .before .before .before in
+    let p = r .before .before .before .before .before .pre in
+    rw (r .leave-at .ensures) (withdraw-other _ _ _ _ (p .2) (p .3) (p .1) _ (c .if1 .left))
 
 pub withdraw-at-spec : {M : Type 1} → statement M
 withdraw-at-spec =

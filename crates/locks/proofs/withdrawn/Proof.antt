@@ -1,26 +1,23 @@
+-- The test on the claimant is the definition's.
 use borrow.Author.Needs.{needs}
+use borrow.Author.Tests.{eq-eqb, ne-eqb}
+use Rattle.model.specs.Buffers.{withdraw}
 use Rattle.locks.proofs.withdrawn.Statement.{statement}
 use Rattle.locks.proofs.withdrawn.Tie as tie
-use Rattle.locks.proofs.withdrawn.Reads as reads
-use Rattle.locks.proofs.withdrawn.Lts as lts
-use Rattle.locks.proofs.left.Reads as left-reads
-use Rattle.locks.proofs.vacated.Reads as vacated-reads
 
--- src/lib.rt:74:9
 vacated-requires : tie.Need-vacated-requires
 vacated-requires c κs = search needs
 
--- src/lib.rt:74:9
 returns : tie.Need-returns
-returns c = ?
+unfolding withdraw
+returns c = rw (eq-eqb _ _ (c .before .if1 .taken)) (c .vacated .ensures)
 
--- src/lib.rt:76:5
 left-requires : tie.Need-left-requires
 left-requires c κs = search needs
 
--- src/lib.rt:68:1
 returns-2 : tie.Need-returns-2
-returns-2 c = ?
+unfolding withdraw
+returns-2 c = rw (ne-eqb _ _ (c .before .if1 .left)) (c .left .ensures)
 
 pub withdrawn-spec : {M : Type 1} → statement M
 withdrawn-spec = tie.close (tie.spec vacated-requires returns left-requires returns-2)

@@ -1,98 +1,47 @@
+-- `store::begin` meets its contract: refusals 7 and 1 are the model's, and past them the number that `decide::tests` answers is the plan's.
 use borrow.Author.Needs.{needs}
+use borrow.Author.Tests.{not-true, not-false}
+use Rattle.model.specs.Buffers.{Store}
+use Rattle.store.specs.Lent.{storeOf, Sized}
+use Rattle.store.proofs.Refusals.{refused-7, refused-1, sized}
+use Rattle.store.proofs.Parts.{part-fits, can-decide}
+use Rattle.store.proofs.Tested.{begin-refused, begin-starts}
 use Rattle.store.proofs.begin.Statement.{statement}
 use Rattle.store.proofs.begin.Tie as tie
-use Rattle.store.proofs.begin.Reads as reads
-use Rattle.store.proofs.begin.Lts as lts
-use Rattle.decide.proofs.lengths_fit.Reads as lengths-fit-reads
-use Rattle.decide.proofs.tests.Reads as tests-reads
-use Rattle.model.proofs.Session.begun.Reads as begun-reads
 
--- src/lib.rt:116:9
-lengths-fit-requires : tie.Need-lengths-fit-requires
-lengths-fit-requires c κs = search needs
+-- the store at the entry, and what is known past refusals 7 and 1
+abbrev given : tie.Start → Store
+given c =
+    storeOf (c .args .values .now) (c .args .classes .now) (c .args .readers .now) (c .args .claimants .now) (c .args .exclusives .now) (c .args .logs .now) (c .args .t1)
 
--- src/lib.rt:117:9
+abbrev start : tie.Else2 → tie.Start
+start c = c .before .before .before .before .before .before .before .before .before
+
+fits : (c : tie.Else2) → Sized (given (start c)) (start c .args .session)
+fits c = sized (given (start c)) _ (c .before .before .lengths-fit .ensures) _ (not-false _ (c .before .if1 .left)) (c .if2 .left)
+
 returns : tie.Need-returns
-returns c = ?
+returns c = refused-7 _ _ (c .before .lengths-fit .ensures) _ (not-true _ (c .if1 .taken))
 
--- src/lib.rt:120:9
 returns-2 : tie.Need-returns-2
-returns-2 c = ?
+returns-2 c = refused-1 _ _ (c .before .before .lengths-fit .ensures) _ (not-false _ (c .before .if1 .left)) (c .if2 .taken)
 
--- src/lib.rt:123:13
-mul-a : tie.Need-mul-a
-mul-a c = search needs
-
--- src/lib.rt:124:13
-add-e : tie.Need-add-e
-add-e c = search needs
-
--- src/lib.rt:125:13
-mul-x : tie.Need-mul-x
-mul-x c = search needs
-
--- src/lib.rt:125:13
-element-copy-out-x : tie.Need-element-copy-out-x
-element-copy-out-x c = search needs
-
--- src/lib.rt:127:32
-mul-tests : tie.Need-mul-tests
-mul-tests c = search needs
-
--- src/lib.rt:127:32
-sub-tests : tie.Need-sub-tests
-sub-tests c = search needs
-
--- src/lib.rt:127:32
-part-tests-start : tie.Need-part-tests-start
-part-tests-start c = search needs
-
--- src/lib.rt:127:32
 part-tests-end : tie.Need-part-tests-end
-part-tests-end c = ?
+part-tests-end c = part-fits _ _ (fits (c .before))
 
--- src/lib.rt:127:9
 tests-requires : tie.Need-tests-requires
-tests-requires c κs = ?
+tests-requires c κs = can-decide _ _ (fits (c .before .before))
 
--- src/lib.rt:129:9
 returns-3 : tie.Need-returns-3
-returns-3 c = ?
+returns-3 c = let z = c .before .before .before .before in begin-refused _ _ (fits z) _ (c .before .tests .ensures) (c .if3 .taken)
 
--- src/lib.rt:131:27
-begun-requires : tie.Need-begun-requires
-begun-requires c κs = search needs
-
--- src/lib.rt:131:5
-mul-t18 : tie.Need-mul-t18
-mul-t18 c = search needs
-
--- src/lib.rt:131:5
-element-set-from-sessions : tie.Need-element-set-from-sessions
-element-set-from-sessions c = search needs
-
--- src/lib.rt:112:1
 returns-4 : tie.Need-returns-4
-returns-4 c = ?
+returns-4 c = begin-starts _ _ (fits (c .before .before .before .before .before)) _ (c .before .before .tests .ensures) (c .before .if3 .left) _ (c .begun .ensures)
 
 pub begin-spec : {M : Type 1} → statement M
 begin-spec =
     tie.close
     (tie.spec
-    lengths-fit-requires
-    returns
-    returns-2
-    mul-a
-    add-e
-    mul-x
-    element-copy-out-x
-    mul-tests
-    sub-tests
-    part-tests-start
-    part-tests-end
-    tests-requires
-    returns-3
-    begun-requires
-    mul-t18
-    element-set-from-sessions
-    returns-4)
+    (λ c κs. search needs) returns returns-2 (λ c. search needs) (λ c. search needs) (λ c. search needs) (λ c. search needs) (λ c. search needs)
+    (λ c. search needs) (λ c. search needs) part-tests-end tests-requires returns-3 (λ c κs. search needs) (λ c. search needs)
+    (λ c. search needs) returns-4)

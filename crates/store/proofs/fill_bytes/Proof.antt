@@ -1,11 +1,13 @@
+-- The loop keeps a run of b before i, and the slice as it was behind.
 use Prim.Native.Nat.{_≤_, _-_}
-use mathlib.Core.Path.{_≡_}
+use mathlib.Core.Path.{refl, _≡_}
 use mathlib.Core.List.{_++_}
-use lib.ListN.{length, drop, replicate}
+use native.Mathlib.Omega.{arith}
+use borrow.Author.Needs.{needs}
+use lib.ListN.{length-set, length, drop, replicate}
+use Rattle.store.proofs.SetUp.{fill-again, fill-end}
 use Rattle.store.proofs.fill_bytes.Statement.{statement}
 use Rattle.store.proofs.fill_bytes.Tie as tie
-use Rattle.store.proofs.fill_bytes.Reads as reads
-use Rattle.store.proofs.fill_bytes.Lts as lts
 
 abbrev Inv-loop : tie.InvT-loop
 Inv-loop s₀ b i₀ s i = (i ≤ length s₀) × (length s ≡ length s₀) × (s ≡ replicate i b ++ drop i s₀)
@@ -13,33 +15,26 @@ Inv-loop s₀ b i₀ s i = (i ≤ length s₀) × (length s ≡ length s₀) × 
 abbrev μ-loop : tie.MeasureT-loop
 μ-loop s₀ b i₀ s i = length s₀ - i
 
--- src/lib.rt:66:5
 loop-holds : tie.Need-loop-holds Inv-loop μ-loop
-loop-holds c = ?
+loop-holds c = (search needs, search needs, refl)
 
--- src/lib.rt:67:9
 slice-write-s : tie.Need-slice-write-s Inv-loop μ-loop
-slice-write-s c = ?
+slice-write-s c = search needs
 
--- src/lib.rt:68:9
 add-i : tie.Need-add-i Inv-loop μ-loop
-add-i c = ?
+add-i c = search needs
 
--- src/lib.rt:66:5
 loop-less : tie.Need-loop-less Inv-loop μ-loop
-loop-less c = ?
+loop-less c = search needs
 
--- src/lib.rt:66:5
 loop-again : tie.Need-loop-again Inv-loop μ-loop
-loop-again c = ?
+loop-again c = let k = c .before .loop .inv .1 in let h = c .loop-test .taken in (omega arith, simp length-set (c .before .loop .inv .1), fill-again _ _ _ _ (c .before .loop .inv .2) (omega arith))
 
--- src/lib.rt:62:1
 same-length : tie.Need-same-length Inv-loop μ-loop
-same-length c = ?
+same-length c = search needs
 
--- src/lib.rt:62:1
 returns : tie.Need-returns Inv-loop μ-loop
-returns c = ?
+returns c = let k = c .before .loop .inv .1 in let h = c .loop-test .left in fill-end _ _ _ _ (c .before .loop .inv .2) (omega arith) (c .before .loop .inv .0)
 
 pub fill-bytes-spec : {M : Type 1} → statement M
 fill-bytes-spec =

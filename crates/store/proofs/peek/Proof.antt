@@ -1,105 +1,88 @@
+-- The part handed back is the word that the plan names, by pointer; `Peeks` has the three ways.
+use mathlib.Core.Path.{refl, sym, _∙_}
+use native.Mathlib.Omega.{arith}
 use borrow.Author.Needs.{needs}
+use Rattle.store.specs.Lent.{storeOf}
+use Rattle.store.proofs.Peeks.{peeked, inside, in-logs, hands-store, hands-log, hands-nothing}
 use Rattle.store.proofs.peek.Statement.{statement}
 use Rattle.store.proofs.peek.Tie as tie
-use Rattle.store.proofs.peek.Reads as reads
-use Rattle.store.proofs.peek.Lts as lts
-use Rattle.store.proofs.peek_plan.Reads as peek-plan-reads
 
--- src/lib.rt:348:9
 peek-plan-requires : tie.Need-peek-plan-requires
 peek-plan-requires c κs = search needs
 
--- src/lib.rt:350:17
 enum-told : tie.Need-enum-told
 enum-told c = search needs
 
--- src/lib.rt:351:17
 add-d : tie.Need-add-d
 add-d c = search needs
 
--- src/lib.rt:352:16
 mul-result : tie.Need-mul-result
 mul-result c = search needs
 
--- src/lib.rt:352:16
 sub-result : tie.Need-sub-result
 sub-result c = search needs
 
--- src/lib.rt:352:16
 part-result-start : tie.Need-part-result-start
 part-result-start c = search needs
 
--- src/lib.rt:352:16
 part-result-end : tie.Need-part-result-end
-part-result-end c = ?
+part-result-end c = let a = c .before .before .before .before .before .before .before .before .before .args in let σ = storeOf (a .values .now) (a .classes .now) (a .readers .now) (a .claimants .now) (a .exclusives .now) (a .logs .now) (a .sessions) in
+    omega (arith, inside (peeked σ (a .session) (a .cell)) (sym (c .before .before .peek-plan .ensures) ∙ c .enum-told .given .1))
 
--- src/lib.rt:352:9
 returns : tie.Need-returns
-returns c = ?
+returns c = let a = c .before .before .before .before .before .before .before .before .before .before .args in let σ = storeOf (a .values .now) (a .classes .now) (a .readers .now) (a .claimants .now) (a .exclusives .now) (a .logs .now) (a .sessions) in
+    hands-store (a .values) (a .logs) _ (peeked σ (a .session) (a .cell)) (sym (c .before .before .before .peek-plan .ensures) ∙ c .before .enum-told .given .1)
 
--- src/lib.rt:354:26
 enum-known-p : tie.Need-enum-known-p
 enum-known-p c = search needs
 
--- src/lib.rt:355:20
 mul-from : tie.Need-mul-from
 mul-from c = search needs
 
--- src/lib.rt:355:53
 cast-from : tie.Need-cast-from
 cast-from c = search needs
 
--- src/lib.rt:355:48
 mul-from-2 : tie.Need-mul-from-2
 mul-from-2 c = search needs
 
--- src/lib.rt:355:48
 add-from : tie.Need-add-from
 add-from c = search needs
 
--- src/lib.rt:355:20
 add-from-2 : tie.Need-add-from-2
 add-from-2 c = search needs
 
--- src/lib.rt:356:18
 add-to : tie.Need-add-to
 add-to c = search needs
 
--- src/lib.rt:357:16
 mul-result-2 : tie.Need-mul-result-2
 mul-result-2 c = search needs
 
--- src/lib.rt:357:16
 sub-result-2 : tie.Need-sub-result-2
 sub-result-2 c = search needs
 
--- src/lib.rt:357:16
 part-result-start-2 : tie.Need-part-result-start-2
 part-result-start-2 c = search needs
 
--- src/lib.rt:357:16
 part-result-end-2 : tie.Need-part-result-end-2
-part-result-end-2 c = ?
+part-result-end-2 c = let a = c .before .before .before .before .before .before .before .before .before .before .before .args in let σ = storeOf (a .values .now) (a .classes .now) (a .readers .now) (a .claimants .now) (a .exclusives .now) (a .logs .now) (a .sessions) in
+    omega (arith, in-logs (peeked σ (a .session) (a .cell)) (sym (c .before .before .before .before .peek-plan .ensures) ∙ c .before .p .given .1))
 
--- src/lib.rt:357:9
 returns-2 : tie.Need-returns-2
-returns-2 c = ?
+returns-2 c = let a = c .before .before .before .before .before .before .before .before .before .before .before .before .args in let σ = storeOf (a .values .now) (a .classes .now) (a .readers .now) (a .claimants .now) (a .exclusives .now) (a .logs .now) (a .sessions) in
+    hands-log (a .values) (a .logs) _ (peeked σ (a .session) (a .cell)) (sym (c .before .before .before .before .before .peek-plan .ensures) ∙ c .before .before .p .given .1)
 
--- src/lib.rt:359:5
 sub-result-3 : tie.Need-sub-result-3
 sub-result-3 c = search needs
 
--- src/lib.rt:359:5
 part-result-start-3 : tie.Need-part-result-start-3
 part-result-start-3 c = search needs
 
--- src/lib.rt:359:5
 part-result-end-3 : tie.Need-part-result-end-3
 part-result-end-3 c = search needs
 
--- src/lib.rt:345:1
 returns-3 : tie.Need-returns-3
-returns-3 c = ?
+returns-3 c = let a = c .before .before .before .before .before .before .before .before .before .before .args in let σ = storeOf (a .values .now) (a .classes .now) (a .readers .now) (a .claimants .now) (a .exclusives .now) (a .logs .now) (a .sessions) in
+    hands-nothing (peeked σ (a .session) (a .cell)) _ (c .before .before .before .peek-plan .ensures) (c .before .before .match .keys2) (c .before .match2 .keys2) (a .values) (a .logs) _ refl
 
 pub peek-spec : {M : Type 1} → statement M
 peek-spec =

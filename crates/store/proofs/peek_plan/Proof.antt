@@ -1,62 +1,63 @@
+-- Refused by the lengths or the session, or what `decide` plans on the session's part.
+use mathlib.Core.Path.{sym, _∙_}
+use native.Mathlib.Omega.{arith}
+use borrow.Author.Tests.{not-true, not-false}
 use borrow.Author.Needs.{needs}
+use Rattle.model.specs.Buffers.{sessionAt}
+use Rattle.store.specs.Lent.{storeOf}
+use Rattle.store.proofs.Refusals.{fit-is, plan-7, plan-1, sized}
+use Rattle.store.proofs.Parts.{part-fits, can-decide}
+use Rattle.store.proofs.Peeks.{peek-planned}
 use Rattle.store.proofs.peek_plan.Statement.{statement}
 use Rattle.store.proofs.peek_plan.Tie as tie
-use Rattle.store.proofs.peek_plan.Reads as reads
-use Rattle.store.proofs.peek_plan.Lts as lts
-use Rattle.decide.proofs.lengths_fit.Reads as lengths-fit-reads
-use Rattle.decide.proofs.peek.Reads as peek-reads
 
--- src/lib.rt:331:9
 lengths-fit-requires : tie.Need-lengths-fit-requires
 lengths-fit-requires c κs = search needs
 
--- src/lib.rt:332:9
 returns : tie.Need-returns
-returns c = ?
+returns c = let a = c .before .before .before .before .before .before .before .before .args in let σ = storeOf (a .values .now) (a .classes .now) (a .readers .now) (a .claimants .now) (a .exclusives .now) (a .logs .now) (a .t1) in
+    sym (plan-7 _ σ (sym (fit-is σ _ (c .before .lengths-fit .ensures)) ∙ not-true _ (c .if1 .taken)))
 
--- src/lib.rt:335:9
 returns-2 : tie.Need-returns-2
-returns-2 c = ?
+returns-2 c = let a = c .before .before .before .before .before .before .before .before .before .args in let σ = storeOf (a .values .now) (a .classes .now) (a .readers .now) (a .claimants .now) (a .exclusives .now) (a .logs .now) (a .t1) in
+    sym (plan-1 _ σ (sym (fit-is σ _ (c .before .before .lengths-fit .ensures)) ∙ not-false _ (c .before .if1 .left)) (c .if2 .taken))
 
--- src/lib.rt:338:13
 mul-a : tie.Need-mul-a
 mul-a c = search needs
 
--- src/lib.rt:339:13
 add-e : tie.Need-add-e
 add-e c = search needs
 
--- src/lib.rt:340:13
 mul-x : tie.Need-mul-x
 mul-x c = search needs
 
--- src/lib.rt:340:13
 element-copy-out-x : tie.Need-element-copy-out-x
 element-copy-out-x c = search needs
 
--- src/lib.rt:341:18
 mul-peek : tie.Need-mul-peek
 mul-peek c = search needs
 
--- src/lib.rt:341:18
 sub-peek : tie.Need-sub-peek
 sub-peek c = search needs
 
--- src/lib.rt:341:18
 part-peek-start : tie.Need-part-peek-start
 part-peek-start c = search needs
 
--- src/lib.rt:341:18
 part-peek-end : tie.Need-part-peek-end
-part-peek-end c = ?
+part-peek-end c = let a = c .before .before .before .before .before .before .before .before .before .before .args in let σ = storeOf (a .values .now) (a .classes .now) (a .readers .now) (a .claimants .now) (a .exclusives .now) (a .logs .now) (a .t1) in
+    let z = sized σ _ (c .before .before .before .lengths-fit .ensures) (a .session) (not-false _ (c .before .before .if1 .left)) (c .before .if2 .left) in
+    omega (arith, part-fits σ (a .session) z)
 
--- src/lib.rt:341:5
 peek-requires : tie.Need-peek-requires
-peek-requires c κs = ?
+peek-requires c κs = let a = c .before .before .before .before .before .before .before .before .before .before .before .args in let σ = storeOf (a .values .now) (a .classes .now) (a .readers .now) (a .claimants .now) (a .exclusives .now) (a .logs .now) (a .t1) in
+    let z = sized σ _ (c .before .before .before .before .lengths-fit .ensures) (a .session) (not-false _ (c .before .before .before .if1 .left)) (c .before .before .if2 .left) in
+    can-decide σ (a .session) z
 
--- src/lib.rt:327:1
 returns-3 : tie.Need-returns-3
-returns-3 c = ?
+unfolding sessionAt
+returns-3 c = let a = c .before .before .before .before .before .before .before .before .before .before .before .before .args in let σ = storeOf (a .values .now) (a .classes .now) (a .readers .now) (a .claimants .now) (a .exclusives .now) (a .logs .now) (a .t1) in
+    let z = sized σ _ (c .before .before .before .before .before .lengths-fit .ensures) (a .session) (not-false _ (c .before .before .before .before .if1 .left)) (c .before .before .before .if2 .left) in
+    peek-planned σ (a .session) (a .cell) z _ (c .peek .ensures)
 
 pub peek-plan-spec : {M : Type 1} → statement M
 peek-plan-spec =

@@ -1,332 +1,120 @@
+-- `store::write_as` meets its contract: each way through it is one law of proofs/Entering.antt, at the plan that `decide::write` answers.
+use native.Mathlib.Omega.{arith}
 use borrow.Author.Needs.{needs}
+use Prim.Native.Nat.{ℕ}
+use Rattle.model.specs.Buffers.{Store}
+use Rattle.model.specs.declared.Lock.{Lock}
+use Rattle.model.specs.declared.Call.{Call}
+use Rattle.model.specs.declared.Plan.{Plan}
+use Rattle.model.specs.declared.Plan.the-variants.{EnterUpdate}
+use Rattle.store.specs.Lent.{storeOf}
+use Rattle.store.proofs.Parts.{part-fits, can-decide-write, locks-even, can-roll-back}
+use Rattle.store.proofs.Entering.{Decided, New, Left, OfWrite, write-decided, refused, told-new, told-left, can-enter, rolled, can-update, write-updated, entered-fits, can-update-new, logs-still, write-entered}
 use Rattle.store.proofs.write_as.Statement.{statement}
 use Rattle.store.proofs.write_as.Tie as tie
-use Rattle.store.proofs.write_as.Reads as reads
-use Rattle.store.proofs.write_as.Lts as lts
-use Rattle.decide.proofs.write.Reads as write-reads
-use Rattle.locks.proofs.at.Reads as at-reads
-use Rattle.locks.proofs.roll_back.Reads as roll-back-reads
-use Rattle.log.proofs.update.Reads as update-reads
-use Rattle.model.proofs.Session.rested.Reads as rested-reads
-use Rattle.model.proofs.Session.with_entry.Reads as with-entry-reads
-use Rattle.store.proofs.enter.Reads as enter-reads
 
--- src/lib.rt:194:13
-mul-a : tie.Need-mul-a
-mul-a c = search needs
+-- the store at the entry
+abbrev given : tie.Start → Store
+given c =
+    storeOf (c .args .values .now) (c .args .classes .now) (c .args .readers .now) (c .args .claimants .now) (c .args .exclusives .now) (c .args .logs .now) (c .args .t1)
 
--- src/lib.rt:195:13
-add-e : tie.Need-add-e
-add-e c = search needs
+-- what is known once the plan is: of any, of a new cell's, and of that which is left
+abbrev start : tie.After-write → tie.Start
+start c = c .before .before .before .before .before .before .before .before .before .before .before .before .before .before
 
--- src/lib.rt:196:13
-mul-x : tie.Need-mul-x
-mul-x c = search needs
+abbrev At : (Store → Call → ℕ → Lock → (ℕ → Plan) → Plan → Plan → Type 0) → tie.After-write → Type 0
+At D c = OfWrite D (given (start c)) (start c .args .session) (start c .args .cell) (start c .args .value) (c .before .before .before .at .result) (c .write .result)
 
--- src/lib.rt:196:13
-element-copy-out-x : tie.Need-element-copy-out-x
-element-copy-out-x c = search needs
+decided : (c : tie.After-write) → At Decided c
+decided c = write-decided (given (start c)) _ _ (start c .pre) _ (c .before .before .before .at .ensures) _ _ (c .write .ensures)
 
--- src/lib.rt:197:9
+is-new : (c : tie.After-p3) → At New (c .before .before .before .before .before)
+is-new c = told-new (decided (c .before .before .before .before .before)) (EnterUpdate _ _) tt (λ j. tt) tt (c .p3 .given .1)
+
+is-left : (c : tie.At-match3-keys2) → At Left (c .before .before .before .before)
+is-left c = told-left (decided (c .before .before .before .before)) 4 5 (λ j. tt) tt (c .before .before .before .match .keys2) (c .before .before .match2 .keys2) (c .match3 .keys2)
+
 at-requires : tie.Need-at-requires
-at-requires c κs = ?
+at-requires c κs = locks-even _ _ (c .before .before .before .before .before .before .before .before .before .before .pre)
 
--- src/lib.rt:198:27
-mul-write : tie.Need-mul-write
-mul-write c = search needs
-
--- src/lib.rt:198:27
-sub-write : tie.Need-sub-write
-sub-write c = search needs
-
--- src/lib.rt:198:27
-part-write-start : tie.Need-part-write-start
-part-write-start c = search needs
-
--- src/lib.rt:198:27
 part-write-end : tie.Need-part-write-end
-part-write-end c = ?
+part-write-end c = part-fits _ _ (c .before .before .before .before .before .before .before .before .before .before .before .before .pre)
 
--- src/lib.rt:198:9
 write-requires : tie.Need-write-requires
-write-requires c κs = ?
+write-requires c κs = can-decide-write _ _ (c .before .before .before .before .before .before .before .before .before .before .before .before .before .pre)
 
--- src/lib.rt:199:25
-enum-known-p : tie.Need-enum-known-p
-enum-known-p c = search needs
-
--- src/lib.rt:200:21
-mul-update : tie.Need-mul-update
-mul-update c = search needs
-
--- src/lib.rt:200:21
-sub-update : tie.Need-sub-update
-sub-update c = search needs
-
--- src/lib.rt:200:21
-part-update-start : tie.Need-part-update-start
-part-update-start c = search needs
-
--- src/lib.rt:200:21
 part-update-end : tie.Need-part-update-end
-part-update-end c = ?
+part-update-end c = part-fits _ _ (decided (c .before .before .before) .sized)
 
--- src/lib.rt:200:38
-cast-update : tie.Need-cast-update
-cast-update c = search needs
-
--- src/lib.rt:200:9
 update-requires : tie.Need-update-requires
-update-requires c κs = ?
+update-requires c κs = can-update (decided (c .before .before .before .before)) _ _ (c .before .before .p .given .1)
 
--- src/lib.rt:201:9
-same-length : tie.Need-same-length
-same-length c = search needs
-
--- src/lib.rt:201:9
-same-length-2 : tie.Need-same-length-2
-same-length-2 c = search needs
-
--- src/lib.rt:201:9
-same-length-3 : tie.Need-same-length-3
-same-length-3 c = search needs
-
--- src/lib.rt:201:9
-same-length-4 : tie.Need-same-length-4
-same-length-4 c = search needs
-
--- src/lib.rt:201:9
 returns : tie.Need-returns
-returns c = ?
+returns c = write-updated (decided (c .before .before .before .before .before .before .before)) _ _ (c .before .before .before .before .before .p .given .1) _ (c .before .before .update .ensures)
 
--- src/lib.rt:203:25
-enum-known-p-2 : tie.Need-enum-known-p-2
-enum-known-p-2 c = search needs
-
--- src/lib.rt:204:9
-same-length-5 : tie.Need-same-length-5
-same-length-5 c = search needs
-
--- src/lib.rt:204:9
-same-length-6 : tie.Need-same-length-6
-same-length-6 c = search needs
-
--- src/lib.rt:204:9
-same-length-7 : tie.Need-same-length-7
-same-length-7 c = search needs
-
--- src/lib.rt:204:9
-same-length-8 : tie.Need-same-length-8
-same-length-8 c = search needs
-
--- src/lib.rt:204:9
 returns-2 : tie.Need-returns-2
-returns-2 c = ?
+returns-2 c = refused (decided (c .before .before .before .before)) _ (c .before .p2 .given .1)
 
--- src/lib.rt:206:17
-cast-count : tie.Need-cast-count
-cast-count c = search needs
-
--- src/lib.rt:207:33
-enum-known-p-3 : tie.Need-enum-known-p-3
-enum-known-p-3 c = search needs
-
--- src/lib.rt:208:21
-mul-found : tie.Need-mul-found
-mul-found c = search needs
-
--- src/lib.rt:208:21
 shared-slice-read-found : tie.Need-shared-slice-read-found
-shared-slice-read-found c = ?
+shared-slice-read-found c = is-new (c .before .before) .inside
 
--- src/lib.rt:209:47
-mul-enter : tie.Need-mul-enter
-mul-enter c = search needs
-
--- src/lib.rt:209:47
-sub-enter : tie.Need-sub-enter
-sub-enter c = search needs
-
--- src/lib.rt:209:47
-part-enter-start : tie.Need-part-enter-start
-part-enter-start c = search needs
-
--- src/lib.rt:209:47
 part-enter-end : tie.Need-part-enter-end
-part-enter-end c = ?
+part-enter-end c = part-fits _ _ (is-new (c .before .before .before .before .before) .decided .sized)
 
--- src/lib.rt:209:9
 enter-requires : tie.Need-enter-requires
-enter-requires c κs = ?
+enter-requires c κs = can-enter (is-new (c .before .before .before .before .before .before))
 
--- src/lib.rt:210:21
 mul-update-2 : tie.Need-mul-update-2
-mul-update-2 c = ?
+mul-update-2 c = omega (arith, is-new (c .before .before .before .before .before .before .before .before .before .before .before .before .before .before .before) .decided .sized .session)
 
--- src/lib.rt:210:21
-sub-update-2 : tie.Need-sub-update-2
-sub-update-2 c = search needs
-
--- src/lib.rt:210:21
-part-update-start-2 : tie.Need-part-update-start-2
-part-update-start-2 c = search needs
-
--- src/lib.rt:210:21
 part-update-end-2 : tie.Need-part-update-end-2
-part-update-end-2 c = ?
+part-update-end-2 c = let e = c .before .before .before .before .before .before .before .before in entered-fits (is-new (e .before .before .before .before .before .before .before)) _ (e .enter .ensures .1)
 
--- src/lib.rt:210:9
 update-requires-2 : tie.Need-update-requires-2
-update-requires-2 c κs = ?
+update-requires-2 c κs = let e = c .before .before .before .before .before .before .before .before .before in can-update-new (is-new (e .before .before .before .before .before .before .before)) _ (e .enter .ensures .1)
 
--- src/lib.rt:211:31
 with-entry-requires : tie.Need-with-entry-requires
-with-entry-requires c κs = ?
+with-entry-requires c κs = is-new (c .before .before .before .before .before .before .before .before .before .before .before .before .before .before .before .before .before .before .before) .room
 
--- src/lib.rt:211:9
 mul-t50 : tie.Need-mul-t50
-mul-t50 c = ?
+mul-t50 c = omega (arith, is-new (c .before .before .before .before .before .before .before .before .before .before .before .before .before .before .before .before .before .before .before .before) .decided .sized .session)
 
--- src/lib.rt:211:9
 element-set-from-sessions : tie.Need-element-set-from-sessions
-element-set-from-sessions c = ?
+element-set-from-sessions c = is-new (c .before .before .before .before .before .before .before .before .before .before .before .before .before .before .before .before .before .before .before .before) .decided .sized .session
 
--- src/lib.rt:212:9
-same-length-9 : tie.Need-same-length-9
-same-length-9 c = search needs
-
--- src/lib.rt:212:9
-same-length-10 : tie.Need-same-length-10
-same-length-10 c = search needs
-
--- src/lib.rt:212:9
-same-length-11 : tie.Need-same-length-11
-same-length-11 c = search needs
-
--- src/lib.rt:212:9
 same-length-12 : tie.Need-same-length-12
-same-length-12 c = ?
+same-length-12 c = let e = c .before .before .before .before .before .before .before .before .before .before .before .before .before in let p = e .before .before .before .before .before .before .before in
+    logs-still (is-new p) _ (e .enter .ensures .1) _ _ (p .p3 .given .1) _ (c .before .before .before .update2 .ensures)
 
--- src/lib.rt:212:9
 returns-3 : tie.Need-returns-3
-returns-3 c = ?
+returns-3 c = let e = c .before .before .before .before .before .before .before .before .before .before .before .before .before in let p = e .before .before .before .before .before .before .before in
+    write-entered (is-new p) _ (e .enter .ensures .1) _ _ (p .p3 .given .1) _ (c .before .before .before .update2 .ensures) _ _ (e .enter .ensures .0) (c .with-entry .ensures)
 
--- src/lib.rt:214:22
-mul-roll-back : tie.Need-mul-roll-back
-mul-roll-back c = search needs
-
--- src/lib.rt:214:22
-sub-roll-back : tie.Need-sub-roll-back
-sub-roll-back c = search needs
-
--- src/lib.rt:214:22
-part-roll-back-start : tie.Need-part-roll-back-start
-part-roll-back-start c = search needs
-
--- src/lib.rt:214:22
 part-roll-back-end : tie.Need-part-roll-back-end
-part-roll-back-end c = ?
+part-roll-back-end c = part-fits _ _ (is-left (c .before) .decided .sized)
 
--- src/lib.rt:214:5
 roll-back-requires : tie.Need-roll-back-requires
-roll-back-requires c κs = ?
+roll-back-requires c κs = let w = is-left (c .before .before .before .before .before) in can-roll-back _ _ (w .decided .sized) _ (w .entries)
 
--- src/lib.rt:215:27
-rested-requires : tie.Need-rested-requires
-rested-requires c κs = search needs
-
--- src/lib.rt:215:5
 mul-t35 : tie.Need-mul-t35
-mul-t35 c = ?
+mul-t35 c = omega (arith, is-left (c .before .before .before .before .before .before .before .before .before .before .before .before .before) .decided .sized .session)
 
--- src/lib.rt:215:5
 element-set-from-sessions-2 : tie.Need-element-set-from-sessions-2
-element-set-from-sessions-2 c = ?
+element-set-from-sessions-2 c = is-left (c .before .before .before .before .before .before .before .before .before .before .before .before .before) .decided .sized .session
 
--- src/lib.rt:189:1
-same-length-13 : tie.Need-same-length-13
-same-length-13 c = search needs
-
--- src/lib.rt:189:1
-same-length-14 : tie.Need-same-length-14
-same-length-14 c = search needs
-
--- src/lib.rt:189:1
-same-length-15 : tie.Need-same-length-15
-same-length-15 c = search needs
-
--- src/lib.rt:189:1
-same-length-16 : tie.Need-same-length-16
-same-length-16 c = search needs
-
--- src/lib.rt:189:1
 returns-4 : tie.Need-returns-4
-returns-4 c = ?
+returns-4 c = let r = c .before .before .before .before .before .before .before in rolled (is-left (r .before .before .before .before .before .before)) _ _ (r .roll-back .ensures) (c .rested .ensures)
 
 pub write-as-spec : {M : Type 1} → statement M
 write-as-spec =
     tie.close
     (tie.spec
-    mul-a
-    add-e
-    mul-x
-    element-copy-out-x
-    at-requires
-    mul-write
-    sub-write
-    part-write-start
-    part-write-end
-    write-requires
-    enum-known-p
-    mul-update
-    sub-update
-    part-update-start
-    part-update-end
-    cast-update
-    update-requires
-    same-length
-    same-length-2
-    same-length-3
-    same-length-4
-    returns
-    enum-known-p-2
-    same-length-5
-    same-length-6
-    same-length-7
-    same-length-8
-    returns-2
-    cast-count
-    enum-known-p-3
-    mul-found
-    shared-slice-read-found
-    mul-enter
-    sub-enter
-    part-enter-start
-    part-enter-end
-    enter-requires
-    mul-update-2
-    sub-update-2
-    part-update-start-2
-    part-update-end-2
-    update-requires-2
-    with-entry-requires
-    mul-t50
-    element-set-from-sessions
-    same-length-9
-    same-length-10
-    same-length-11
-    same-length-12
-    returns-3
-    mul-roll-back
-    sub-roll-back
-    part-roll-back-start
-    part-roll-back-end
-    roll-back-requires
-    rested-requires
-    mul-t35
-    element-set-from-sessions-2
-    same-length-13
-    same-length-14
-    same-length-15
-    same-length-16
-    returns-4)
+    (λ c. search needs) (λ c. search needs) (λ c. search needs) (λ c. search needs) at-requires (λ c. search needs) (λ c. search needs)
+    (λ c. search needs) part-write-end write-requires (λ c. search needs) (λ c. search needs) (λ c. search needs) (λ c. search needs)
+    part-update-end (λ c. search needs) update-requires (λ c. search needs) (λ c. search needs) (λ c. search needs) (λ c. search needs) returns
+    (λ c. search needs) (λ c. search needs) (λ c. search needs) (λ c. search needs) (λ c. search needs) returns-2 (λ c. search needs)
+    (λ c. search needs) (λ c. search needs) shared-slice-read-found (λ c. search needs) (λ c. search needs) (λ c. search needs) part-enter-end
+    enter-requires mul-update-2 (λ c. search needs) (λ c. search needs) part-update-end-2 update-requires-2 with-entry-requires mul-t50
+    element-set-from-sessions (λ c. search needs) (λ c. search needs) (λ c. search needs) same-length-12 returns-3 (λ c. search needs)
+    (λ c. search needs) (λ c. search needs) part-roll-back-end roll-back-requires (λ c κs. search needs) mul-t35 element-set-from-sessions-2
+    (λ c. search needs) (λ c. search needs) (λ c. search needs) (λ c. search needs) returns-4)

@@ -1,0 +1,31 @@
+-- A call's outcome in numbers, from its answer taken apart: the one law behind every exported call; and where a peek's word is, by its plan.
+use Prim.Native.Nat.{ℕ, _+_, _*_}
+use mathlib.Core.Path.{_≡_, refl, sym, ap, _∙_}
+use Rattle.model.specs.declared.Answer.{Answer}
+use Rattle.model.specs.Buffers.{Store}
+use Rattle.model.specs.Step.{Outcome, outcome, number, valueOf, shown}
+use Rattle.model.specs.declared.Plan.{Plan}
+use Rattle.model.specs.declared.Plan.the-variants.{Refuse, ShowStore, ShowLog}
+use Rattle.store.proofs.Peeks.{Peeked, turned, plain, written}
+use Rattle.store.proofs.Tags.{Passed, passed}
+use Rattle.exports.specs.Said.{Said, said, inNumbers, Place, at, placeOf}
+
+pub in-numbers : (a : Answer) (σ : Store) (o : Outcome) (n v : ℕ) → outcome a σ ≡ o → n ≡ number a → v ≡ valueOf a → said n v σ ≡ inNumbers o
+in-numbers a σ o n v e p q = rw (p, q) (ap inNumbers e)
+
+-- ---- the three plans of a peek
+
+module _ (s j : ℕ) {p q : Plan} (e : p ≡ q) where
+  pub place-store : {c : ℕ} → p ≡ ShowStore c → at 1 c ≡ placeOf (shown s q) j
+  unfolding shown
+  place-store f = rw (sym e ∙ f)
+
+  pub place-log : {k : ℕ} → p ≡ ShowLog k → at 2 (128 * s + (4 * k + 2)) ≡ placeOf (shown s q) j
+  unfolding shown
+  place-log f = rw (sym e ∙ f)
+
+pub place-none : (s j : ℕ) {σ : Store} {c : ℕ} {p q : Plan} → Peeked σ s c q → p ≡ q → Passed 14 p → Passed 15 p → at 0 j ≡ placeOf (shown s q) j
+unfolding shown
+place-none s j {p = p} turned e a b = refl
+place-none s j {c = c} {p = p} (plain h) e a b = absurd (passed 14 p (ShowStore c) tt e a)
+place-none s j {p = p} (written {k} h l m) e a b = absurd (passed 15 p (ShowLog k) tt e b)

@@ -1,0 +1,42 @@
+-- `field::exported::rukkanei_field_read` meets its contract: each arm hands over what the definition says of its reading.
+-- Assumes nothing.
+use Rattle.field.specs.Exported.{handing}
+use borrow.Author.Needs.{needs}
+use Rattle.field.proofs.exported.rukkanei_field_read.Statement.{statement}
+use Rattle.field.proofs.exported.rukkanei_field_read.Tie as tie
+
+read-field-requires : tie.Need-read-field-requires
+read-field-requires c κs = search needs
+
+enum-known-found : tie.Need-enum-known-found
+enum-known-found c = search needs
+
+enum-told : tie.Need-enum-told
+enum-told c = search needs
+
+enum-known-number : tie.Need-enum-known-number
+enum-known-number c = search needs
+
+returns : tie.Need-returns
+unfolding handing
+returns c = rw (← c .before .before .before .read-field .ensures, c .before .found .given .1)
+
+returns-2 : tie.Need-returns-2
+unfolding handing
+returns-2 c = rw (← c .before .before .read-field .ensures, c .enum-told .given .1)
+
+returns-3 : tie.Need-returns-3
+unfolding handing
+returns-3 c = rw (← c .before .before .before .read-field .ensures, c .before .number .given .1)
+
+pub rukkanei-field-read-spec : {M : Type 1} → statement M
+rukkanei-field-read-spec =
+    tie.close
+    (tie.spec
+    read-field-requires
+    enum-known-found
+    enum-told
+    enum-known-number
+    returns
+    returns-2
+    returns-3)

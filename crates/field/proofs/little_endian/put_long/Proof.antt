@@ -1,0 +1,79 @@
+-- `field::little_endian::put_long` meets its contract: its stores are those of the number's bytes at the one width.
+-- Assumes nothing.
+use Prim.Native.Nat.{suc, _+_}
+use mathlib.Core.Path.{_≡_}
+use native.Mathlib.Numerals.{add-one}
+use native.Mathlib.Omega.{arith}
+use lib.ListN.{length-set}
+use Rattle.field.specs.LittleEndian.{bytesOf}
+use Rattle.field.proofs.Numbers.{all-of, write-none, write-all}
+use borrow.Author.Needs.{needs}
+use Rattle.field.proofs.little_endian.put_long.Statement.{statement}
+use Rattle.field.proofs.little_endian.put_long.Tie as tie
+
+returns : tie.Need-returns
+returns c = write-none _ _ _ _ (c .if1 .taken)
+
+cast-target : tie.Need-cast-target
+cast-target c = search needs
+
+slice-write-target : tie.Need-slice-write-target
+slice-write-target c = search needs
+
+cast-target-2 : tie.Need-cast-target-2
+cast-target-2 c = search needs
+
+add-target : tie.Need-add-target
+add-target c = search needs
+
+slice-write-target-2 : tie.Need-slice-write-target-2
+slice-write-target-2 c = simp length-set (omega (arith, all-of 4 _ (c .before .pre .0) (c .if1 .left)))
+
+cast-target-3 : tie.Need-cast-target-3
+cast-target-3 c = search needs
+
+add-target-2 : tie.Need-add-target-2
+add-target-2 c = search needs
+
+slice-write-target-3 : tie.Need-slice-write-target-3
+slice-write-target-3 c = simp length-set (omega (arith, all-of 4 _ (c .before .pre .0) (c .if1 .left)))
+
+cast-target-4 : tie.Need-cast-target-4
+cast-target-4 c = search needs
+
+add-target-3 : tie.Need-add-target-3
+add-target-3 c = search needs
+
+slice-write-target-4 : tie.Need-slice-write-target-4
+slice-write-target-4 c = simp length-set (omega (arith, all-of 4 _ (c .before .pre .0) (c .if1 .left)))
+
+same-length : tie.Need-same-length
+same-length c = search needs
+
+returns-2 : tie.Need-returns-2
+unfolding bytesOf
+returns-2 c =
+    let entry = c .before in
+    let at = entry .args .at in
+    let e : at + 2 ≡ suc (suc at) = omega arith in
+    let f : at + 3 ≡ suc (suc (suc at)) = omega arith in
+    rw (add-one, e, f) (write-all 4 _ _ _ (entry .args .x) (entry .pre .0) (c .if1 .left))
+
+pub put-long-spec : {M : Type 1} → statement M
+put-long-spec =
+    tie.close
+    (tie.spec
+    returns
+    cast-target
+    slice-write-target
+    cast-target-2
+    add-target
+    slice-write-target-2
+    cast-target-3
+    add-target-2
+    slice-write-target-3
+    cast-target-4
+    add-target-3
+    slice-write-target-4
+    same-length
+    returns-2)

@@ -1,0 +1,50 @@
+-- `field::little_endian::put_word` meets its contract: its stores are those of the number's bytes at the one width.
+-- Assumes nothing.
+use native.Mathlib.Numerals.{add-one}
+use native.Mathlib.Omega.{arith}
+use lib.ListN.{length-set}
+use Rattle.field.specs.LittleEndian.{bytesOf}
+use Rattle.field.proofs.Numbers.{all-of, write-none, write-all}
+use borrow.Author.Needs.{needs}
+use Rattle.field.proofs.little_endian.put_word.Statement.{statement}
+use Rattle.field.proofs.little_endian.put_word.Tie as tie
+
+returns : tie.Need-returns
+returns c = write-none _ _ _ _ (c .if1 .taken)
+
+cast-target : tie.Need-cast-target
+cast-target c = search needs
+
+slice-write-target : tie.Need-slice-write-target
+slice-write-target c = search needs
+
+cast-target-2 : tie.Need-cast-target-2
+cast-target-2 c = search needs
+
+add-target : tie.Need-add-target
+add-target c = search needs
+
+slice-write-target-2 : tie.Need-slice-write-target-2
+slice-write-target-2 c = simp length-set (omega (arith, all-of 2 _ (c .before .pre .0) (c .if1 .left)))
+
+same-length : tie.Need-same-length
+same-length c = search needs
+
+returns-2 : tie.Need-returns-2
+unfolding bytesOf
+returns-2 c =
+    let entry = c .before in
+    rw (add-one) (write-all 2 _ _ _ (entry .args .x) (entry .pre .0) (c .if1 .left))
+
+pub put-word-spec : {M : Type 1} → statement M
+put-word-spec =
+    tie.close
+    (tie.spec
+    returns
+    cast-target
+    slice-write-target
+    cast-target-2
+    add-target
+    slice-write-target-2
+    same-length
+    returns-2)

@@ -1,0 +1,58 @@
+-- `field::little_endian::word_at` meets its contract: its bytes, written out, are the number at the one width.
+-- Assumes nothing.
+use Rattle.field.proofs.Numbers.{all-of, read-none, read-all}
+use native.Mathlib.Nat.{add-zero}
+use native.Mathlib.Omega.{arith}
+use Prim.Native.Nat.{ℕ}
+use mathlib.Core.Path.{ap}
+use lib.ListN.{getD}
+use borrow.Author.Needs.{needs}
+use Rattle.field.proofs.little_endian.word_at.Statement.{statement}
+use Rattle.field.proofs.little_endian.word_at.Tie as tie
+
+returns : tie.Need-returns
+returns c = read-none _ _ _ (c .if1 .taken)
+
+shared-slice-read-wide16 : tie.Need-shared-slice-read-wide16
+shared-slice-read-wide16 c = search needs
+
+wide16-requires : tie.Need-wide16-requires
+wide16-requires c κs = search needs
+
+add-wide16 : tie.Need-add-wide16
+add-wide16 c = search needs
+
+shared-slice-read-wide16-2 : tie.Need-shared-slice-read-wide16-2
+shared-slice-read-wide16-2 c =
+    let entry = (c .before .before .before .before .before) in
+    omega (arith, entry .pre .1, all-of 2 _ (entry .pre .0) ((c .before .before .before) .if1 .left))
+
+wide16-requires-2 : tie.Need-wide16-requires-2
+wide16-requires-2 c κs = search needs
+
+mul-result : tie.Need-mul-result
+mul-result c = search needs
+
+add-result : tie.Need-add-result
+add-result c = search needs
+
+returns-2 : tie.Need-returns-2
+returns-2 c =
+    let entry = (c .before .before .before .before .before .before) in
+    let bytes = entry .args .bytes .now in
+    let e = read-all 2 bytes (entry .args .at) _ (entry .pre .0) ((c .before .before .before .before) .if1 .left) (entry .pre .1) in
+    omega (arith, ap (λ (j : ℕ). getD bytes j 0) (add-zero (entry .args .at)), (c .before .before) .wide16 .ensures .0, c .wide162 .ensures .0)
+
+pub word-at-spec : {M : Type 1} → statement M
+word-at-spec =
+    tie.close
+    (tie.spec
+    returns
+    shared-slice-read-wide16
+    wide16-requires
+    add-wide16
+    shared-slice-read-wide16-2
+    wide16-requires-2
+    mul-result
+    add-result
+    returns-2)

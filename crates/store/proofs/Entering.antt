@@ -1,0 +1,180 @@
+-- Each way through `read_as` and `write_as`, past refusals 7 and 1: what the callees ask there, and what is left.
+use mathlib.Core.Path.{_≡_, refl, sym, ap, _∙_}
+use mathlib.Core.Bool.{not}
+use mathlib.Core.List.{List}
+use Prim.Native.Nat.{ℕ, _+_, _*_, _<_, _≤_}
+use native.Mathlib.Omega.{arith}
+use lib.Dec.{T, eqb}
+use lib.ListN.{length, getD, length-set}
+use Rattle.model.specs.Buffers.{Locks, Store, size, idle, sessionAt, withEntry, lockAt, lockOn, entryAt, join, appended, updated}
+use Rattle.model.specs.Step.{outcome, taken, planOf, sessionOf}
+use Rattle.model.specs.declared.Session.{Session}
+use Rattle.model.specs.declared.Lock.{Lock}
+use Rattle.model.specs.declared.Call.{Call}
+use Rattle.model.specs.declared.Call.the-variants.{Read, Write}
+use Rattle.model.specs.declared.Answer.the-variants.{Done, Value, Refused}
+use Rattle.model.specs.declared.Plan.{Plan}
+use Rattle.model.specs.declared.Plan.the-variants.{Refuse, Tell, Enter, Update, EnterUpdate, RollBack}
+use Rattle.locks.specs.Sweeps.{rolledBackIn}
+use Rattle.decide.specs.Own.{readOn, writeOn}
+use Rattle.decide.proofs.Ways.{Entries}
+use Rattle.decide.proofs.Agree.{read-agree, write-agree}
+use Rattle.store.specs.Lent.{Sized}
+use Rattle.store.proofs.Carry.{carries, leaves, keeps, carry-refuse, carry-tell, carry-enter, carry-update, carry-enter-update, carry-roll-back}
+use Rattle.store.proofs.Refusals.{lengths-of}
+use Rattle.store.proofs.Parts.{own, cut, cut-is, puts, part-long, put-appended, put-updated, rolled-back, can-decide, locks-even}
+use Rattle.store.proofs.Tags.{tag, Passed, Passes}
+use Rattle.store.proofs.Choices.{Choice, read-choice, write-choice, when-new, when-left, when-known}
+
+-- the plan p of call k, on cell c with lock l; `known` and `new` are the plans of an entry in the log and of a new cell
+pub record Decided (σ : Store) (k : Call) (c : ℕ) (l : Lock) (known : ℕ → Plan) (new p : Plan) : Type 0 where
+  pub sized : Sized σ (sessionOf k)
+  pub lock : l ≡ lockAt (σ .lent .locks) c
+  pub planned : p ≡ planOf k σ
+  pub choice : Choice (length (σ .lent .values)) (cut (σ .lent .logs) (sessionOf k)) (own σ (sessionOf k)) c known new p
+
+-- it is that of a new cell: the cell is one of the store, and there is room in the log
+pub record New (σ : Store) (k : Call) (c : ℕ) (l : Lock) (known : ℕ → Plan) (new p : Plan) : Type 0 where
+  pub decided : Decided σ k c l known new p
+  pub inside : c < length (σ .lent .values)
+  pub room : own σ (sessionOf k) .count < 32
+  pub plan : p ≡ new
+
+-- it rolls the session back, whose entries fit
+pub record Left (σ : Store) (k : Call) (c : ℕ) (l : Lock) (known : ℕ → Plan) (new p : Plan) : Type 0 where
+  pub decided : Decided σ k c l known new p
+  pub entries : Entries (length (σ .lent .values)) (cut (σ .lent .logs) (sessionOf k)) (own σ (sessionOf k))
+  pub plan : p ≡ RollBack
+
+-- one of the three, of a read and of a write
+abbrev pub OfRead : (Store → Call → ℕ → Lock → (ℕ → Plan) → Plan → Plan → Type 0) → Store → ℕ → ℕ → Lock → Plan → Type 0
+OfRead D σ s c l p = D σ (Read s c) c l (λ j. Tell (entryAt (cut (σ .lent .logs) s) 0 j .current)) (Enter c) p
+
+abbrev pub OfWrite : (Store → Call → ℕ → Lock → (ℕ → Plan) → Plan → Plan → Type 0) → Store → ℕ → ℕ → ℕ → Lock → Plan → Type 0
+OfWrite D σ s c v l p = D σ (Write s c v) c l (λ j. Update j v) (EnterUpdate c v) p
+
+module _ (σ : Store) (s c : ℕ) (z : Sized σ s) (l : Lock) (f : l ≡ lockAt (σ .lent .locks) c) (p : Plan) where
+  pub read-decided : p ≡ readOn (length (σ .lent .values)) (cut (σ .lent .logs) s) (own σ s) l c → OfRead Decided σ s c l p
+  unfolding planOf size sessionAt
+  read-decided e =
+      record {
+        sized = z;
+        lock = f;
+        planned = e ∙ rw (cut-is, f) (read-agree (σ .lent) s (own σ s) (z .lengths) (z .session) c);
+        choice = rw e (read-choice (length (σ .lent .values)) (cut (σ .lent .logs) s) (own σ s) l c);
+      }
+
+  pub write-decided : (v : ℕ) → p ≡ writeOn (σ .lent .classes) (length (σ .lent .classes)) (cut (σ .lent .logs) s) (own σ s) l c v
+      → OfWrite Decided σ s c v l p
+  unfolding planOf size sessionAt
+  write-decided v e =
+      let g = rw (lengths-of (σ .lent) (z .lengths) .classes) at e in
+      record {
+        sized = z;
+        lock = f;
+        planned = g ∙ rw (cut-is, f) (write-agree (σ .lent) s (own σ s) (z .lengths) (z .session) c v);
+        choice = rw g (write-choice (length (σ .lent .values)) (cut (σ .lent .logs) s) (own σ s) l c (σ .lent .classes) v);
+      }
+
+-- ---- a refusal, a new cell and rolling back, for both
+
+module _ {σ : Store} {k : Call} {c : ℕ} {l : Lock} {known : ℕ → Plan} {new p : Plan} where
+  module _ (d : Decided σ k c l known new p) where
+    pub refused : (r : ℕ) → p ≡ Refuse r → outcome (Refused r) σ ≡ taken k σ
+    refused r e = carry-refuse (sessionOf k) σ r ∙ carries k σ (Refuse r) (sym e ∙ d .planned)
+
+    -- a match told the variant of a new cell, or passed over those of a known cell, of refusals and of a new cell
+    pub told-new : (q : Plan) → T (not (eqb 0 (tag q))) → ((j : ℕ) → T (not (eqb (tag (known j)) (tag q)))) → T (not (eqb 6 (tag q))) → p ≡ q
+        → New σ k c l known new p
+    told-new q t u v e = let w = when-new (d .choice) q t u v e in record { decided = d; inside = w .0; room = w .1; plan = w .2 }
+
+    pub told-left : (a b : ℕ) → ((j : ℕ) → Passes a (known j)) → Passes b new → Passed a p → Passed 0 p → Passed b p → Left σ k c l known new p
+    told-left a b t u m n o = let w = when-left (d .choice) a b t u m n o in record { decided = d; entries = w .0; plan = w .1 }
+
+    -- entry j lies in the part
+    pub in-part : (j : ℕ) → j < 32 → 4 * j + 3 < length (cut (σ .lent .logs) (sessionOf k))
+    in-part j h = let w = can-decide σ (sessionOf k) (d .sized) .0 in omega arith
+
+  pub can-enter : New σ k c l known new p
+      → (sessionOf k < 16) × (c < length (σ .lent .locks .readers)) × (length (σ .lent .locks .claimants) ≡ length (σ .lent .locks .readers))
+      × (length (σ .lent .locks .exclusives) ≡ length (σ .lent .locks .readers))
+      × (4 * own σ (sessionOf k) .count + 3 < length (cut (σ .lent .logs) (sessionOf k))) × (l ≡ lockAt (σ .lent .locks) c)
+  can-enter n =
+      let d = n .decided in let z = d .sized in let w = locks-even σ (sessionOf k) z in
+      (z .session, rw (lengths-of (σ .lent) (z .lengths) .readers) (n .inside), w .0, w .1, in-part d (own σ (sessionOf k) .count) (n .room), d .lock)
+
+  pub rolled : Left σ k c l known new p → (L : Locks) (y : Session)
+      → L ≡ rolledBackIn (cut (σ .lent .logs) (sessionOf k)) (own σ (sessionOf k) .count) (sessionOf k) (σ .lent .locks) → y ≡ idle
+      → outcome (Refused 6) (leaves σ (sessionOf k) L (σ .lent .values) (σ .lent .logs) y) ≡ taken k σ
+  unfolding sessionAt
+  rolled w L y h e =
+      carry-roll-back (sessionOf k) σ L y (rolled-back σ (sessionOf k) (own σ (sessionOf k)) (w .entries .count) L h) e
+      ∙ carries k σ RollBack (sym (w .plan) ∙ w .decided .planned)
+
+-- ---- read
+
+module _ {σ : Store} {s c : ℕ} {l : Lock} {p : Plan} where
+  pub read-told : OfRead Decided σ s c l p → (v : ℕ) → p ≡ Tell v → outcome (Value v) σ ≡ taken (Read s c) σ
+  read-told d v e = carry-tell s σ v ∙ carries (Read s c) σ (Tell v) (sym e ∙ d .planned)
+
+  pub read-entered : OfRead New σ s c l p → (L : Locks) (P : List ℕ) (y : Session) → L ≡ lockOn c (join s) (σ .lent .locks)
+      → P ≡ appended (cut (σ .lent .logs) s) 0 (own σ s .count) c (getD (σ .lent .values) c 0) → y ≡ withEntry (own σ s)
+      → outcome (Value (getD (σ .lent .values) c 0)) (leaves σ s L (σ .lent .values) (puts (σ .lent .logs) s P) y) ≡ taken (Read s c) σ
+  unfolding sessionAt
+  read-entered n L P y g h e =
+      let z = n .decided .sized in
+      carry-enter s σ c (getD (σ .lent .values) c 0) L (puts (σ .lent .logs) s P) y refl g e
+      (put-appended (σ .lent .logs) s (lengths-of (σ .lent) (z .lengths) .logs) (z .session) P _ c _ (n .room) h)
+      ∙ carries (Read s c) σ (Enter c) (sym (n .plan) ∙ n .decided .planned)
+
+-- ---- write
+
+module _ {σ : Store} {s c v : ℕ} {l : Lock} {p : Plan} where
+  module _ (d : OfWrite Decided σ s c v l p) (j u : ℕ) (e : p ≡ Update j u) where
+    pub can-update : 4 * j + 3 < length (cut (σ .lent .logs) s)
+    can-update = in-part d j (when-known (d .choice) j u e)
+
+    pub write-updated : (P : List ℕ) → P ≡ updated (cut (σ .lent .logs) s) 0 j u
+        → outcome Done (keeps σ (σ .lent .locks) (puts (σ .lent .logs) s P)) ≡ taken (Write s c v) σ
+    write-updated P h =
+        carry-update s σ j u (puts (σ .lent .logs) s P)
+        (put-updated (σ .lent .logs) s (lengths-of (σ .lent) (d .sized .lengths) .logs) (d .sized .session) P j u (when-known (d .choice) j u e) h)
+        ∙ carries (Write s c v) σ (Update j u) (sym e ∙ d .planned)
+
+  -- the entry is appended, and then updated
+  module _ (n : OfWrite New σ s c v l p) (P : List ℕ) (h : P ≡ appended (cut (σ .lent .logs) s) 0 (own σ s .count) c (getD (σ .lent .values) c 0)) where
+    low : s < 16
+    low = n .decided .sized .session
+
+    words : length (σ .lent .logs) ≡ 2048
+    words = lengths-of (σ .lent) (n .decided .sized .lengths) .logs
+
+    appended-is : puts (σ .lent .logs) s P ≡ appended (σ .lent .logs) s (own σ s .count) c (getD (σ .lent .values) c 0)
+    appended-is = put-appended (σ .lent .logs) s words low P _ c _ (n .room) h
+
+    words-still : length (puts (σ .lent .logs) s P) ≡ 2048
+    unfolding appended
+    words-still = ap length appended-is ∙ simp length-set words
+
+    pub entered-fits : 128 * s + 128 ≤ length (puts (σ .lent .logs) s P)
+    entered-fits = let w = words-still in let z = low in omega arith
+
+    pub can-update-new : 4 * own σ s .count + 3 < length (cut (puts (σ .lent .logs) s P) s)
+    can-update-new = let w = part-long (puts (σ .lent .logs) s P) s words-still low in let r = n .room in omega arith
+
+    module _ (b u : ℕ) (e : p ≡ EnterUpdate b u) (Q : List ℕ) (q : Q ≡ updated (cut (puts (σ .lent .logs) s P) s) 0 (own σ s .count) u) where
+      updated-is : puts (puts (σ .lent .logs) s P) s Q
+          ≡ updated (appended (σ .lent .logs) s (own σ s .count) c (getD (σ .lent .values) c 0)) s (own σ s .count) u
+      updated-is = put-updated (puts (σ .lent .logs) s P) s words-still low Q _ u (n .room) q ∙ rw appended-is
+
+      pub logs-still : length (puts (puts (σ .lent .logs) s P) s Q) ≡ length (σ .lent .logs)
+      unfolding appended updated
+      logs-still = ap length updated-is ∙ simp length-set
+
+      pub write-entered : (L : Locks) (y : Session) → L ≡ lockOn c (join s) (σ .lent .locks) → y ≡ withEntry (own σ s)
+          → outcome Done (leaves σ s L (σ .lent .values) (puts (puts (σ .lent .logs) s P) s Q) y) ≡ taken (Write s c v) σ
+      unfolding sessionAt
+      write-entered L y g r =
+          let f : u ≡ v = let w = n .plan in cc in
+          carry-enter-update s σ c (getD (σ .lent .values) c 0) L (puts (puts (σ .lent .logs) s P) s Q) y refl g r u updated-is
+          ∙ carries (Write s c v) σ (EnterUpdate c u) (rw f (sym (n .plan) ∙ n .decided .planned))

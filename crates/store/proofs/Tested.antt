@@ -1,0 +1,53 @@
+-- Begin and abandon past refusals 7 and 1: the tests answer a number, 0 where the call goes through.
+use mathlib.Core.Path.{_≡_, sym, _∙_}
+use mathlib.Core.Bool.{_||_}
+use Prim.Native.Nat.{ℕ}
+use lib.Dec.{eqb}
+use lib.ListN.{length}
+use Rattle.model.specs.Buffers.{Locks, Store, size, idle, running, sessionAt}
+use Rattle.model.specs.Step.{outcome, taken, planOf}
+use Rattle.model.specs.declared.Session.{Session}
+use Rattle.model.specs.declared.Call.the-variants.{Begin, Abandon}
+use Rattle.model.specs.declared.Answer.the-variants.{Done, Refused}
+use Rattle.model.specs.declared.Plan.the-variants.{Refuse, Start, Cancel}
+use Rattle.model.proofs.Tools.{clash}
+use Rattle.locks.specs.Sweeps.{rolledBackIn}
+use Rattle.decide.specs.Own.{recordOn, tested}
+use Rattle.decide.proofs.Ways.{Entries, passes, record-entries}
+use Rattle.decide.proofs.Agree.{begin-passes, begin-turned, abandon-passes, abandon-turned}
+use Rattle.store.specs.Lent.{Sized}
+use Rattle.store.proofs.Carry.{carries, leaves, carry-refuse, carry-start, carry-cancel}
+use Rattle.store.proofs.Parts.{own, cut, cut-is, rolled-back}
+
+module _ (σ : Store) (s : ℕ) (z : Sized σ s) (r : ℕ) where
+  module _ (e : r ≡ tested (recordOn (length (σ .lent .values)) (cut (σ .lent .logs) s) (own σ s)) (eqb (own σ s .phase) 0)) where
+    pub begin-refused : (r ≡ 0 → ⊥) → outcome (Refused r) σ ≡ taken (Begin s) σ
+    unfolding planOf size sessionAt
+    begin-refused n =
+        carry-refuse s σ r ∙ carries (Begin s) σ (Refuse r) (begin-turned (σ .lent) s (own σ s) (z .lengths) (z .session) r (rw cut-is at e) n)
+
+    pub begin-starts : r ≡ 0 → (y : Session) → y ≡ running
+        → outcome Done (leaves σ s (σ .lent .locks) (σ .lent .values) (σ .lent .logs) y) ≡ taken (Begin s) σ
+    unfolding planOf size sessionAt
+    begin-starts o y f =
+        carry-start s σ y f ∙ carries (Begin s) σ Start (begin-passes (σ .lent) s (own σ s) (z .lengths) (z .session) (sym (rw cut-is at e) ∙ o))
+
+  module _ (e : r ≡ tested (recordOn (length (σ .lent .values)) (cut (σ .lent .logs) s) (own σ s)) (eqb (own σ s .phase) 1 || eqb (own σ s .phase) 2)) where
+    pub abandon-refused : (r ≡ 0 → ⊥) → outcome (Refused r) σ ≡ taken (Abandon s) σ
+    unfolding planOf size sessionAt
+    abandon-refused n =
+        carry-refuse s σ r ∙ carries (Abandon s) σ (Refuse r) (abandon-turned (σ .lent) s (own σ s) (z .lengths) (z .session) r (rw cut-is at e) n)
+
+    module _ (o : r ≡ 0) where
+      -- the session is in phase 1 or 2, so that its entries fit
+      pub abandon-entries : Entries (length (σ .lent .values)) (cut (σ .lent .logs) s) (own σ s)
+      abandon-entries =
+          let w = passes _ (eqb (own σ s .phase) 1 || eqb (own σ s .phase) 2) (sym e ∙ o) in
+          record-entries _ _ _ (w .0) (λ q. clash (eqb (own σ s .phase) 1 || eqb (own σ s .phase) 2) (w .1) (rw q))
+
+      pub abandon-cancels : (L : Locks) (y : Session) → L ≡ rolledBackIn (cut (σ .lent .logs) s) (own σ s .count) s (σ .lent .locks) → y ≡ idle
+          → outcome Done (leaves σ s L (σ .lent .values) (σ .lent .logs) y) ≡ taken (Abandon s) σ
+      unfolding planOf size sessionAt
+      abandon-cancels L y l f =
+          carry-cancel s σ L y (rolled-back σ s (own σ s) (abandon-entries .count) L l) f
+          ∙ carries (Abandon s) σ Cancel (abandon-passes (σ .lent) s (own σ s) (z .lengths) (z .session) (sym (rw cut-is at e) ∙ o))

@@ -1,0 +1,151 @@
+-- Set-up: whatever stands in the locks, logs and records that are handed to it, it answers and leaves what the text takes; and the whole text from there.
+use Prim.Native.Nat.{ℕ, _+_, _≤_, _<_}
+use native.Mathlib.Omega.{arith}
+use mathlib.Core.Path.{_≡_, refl, sym, _∙_, ap}
+use mathlib.Core.Bool.{Bool, true, false, and-false}
+use mathlib.Core.List.{List, _++_}
+use lib.Dec.{leb}
+use lib.ListN.{length, take, drop, length-replicate, length-append}
+use lib.Seq.{sets, sets-eq, length-take-le}
+use borrow.Author.Tests.{le-leb, lt-leb, eq-eqb, ne-eqb, leb-true}
+use Rattle.model.specs.declared.Answer.{Answer}
+use Rattle.model.specs.declared.Sessions.{Sessions}
+use Rattle.model.specs.Buffers.{Store, size, lengthsFit, fresh}
+use Rattle.model.specs.Step.{number, Outcome, outcome, setUpAnswer, setUp, setUpTaken}
+use Rattle.model.proofs.Demand3.{set-up-fresh}
+use Rattle.model.proofs.Tools.{clash, both-l, both-r}
+use Rattle.store.specs.Lent.{storeOf}
+use Rattle.transcript.specs.declared.Printed.{Printed}
+use Rattle.transcript.specs.declared.Printed.the-variants.{Bytes, Short}
+use Rattle.transcript.specs.Items.{Item, itemsAt, values, classes}
+use Rattle.transcript.specs.Lines.{sizeLine, setUpLine}
+use Rattle.transcript.specs.Replay.{longEnough, Replayed, replayed, replaying}
+use Rattle.transcript.specs.Output.{Out, out, put, Leading, Fitted, Roomy}
+use Rattle.transcript.specs.Transcript.{given, callsText, afterSetUp, setUpText, itemsText, transcript}
+use Rattle.transcript.proofs.Puts.{ends-at}
+
+-- ---- set-up on lent buffers
+
+module _ (vs ks readers claimants exclusives logs : List ℕ) (ss : Sessions) (f : Fitted vs ks readers claimants exclusives logs) where
+  same-lengths : lengthsFit (storeOf vs ks readers claimants exclusives logs ss .lent) ≡ lengthsFit (given vs ks .lent)
+  unfolding lengthsFit size given
+  same-lengths = simp (f .read, f .claimed, f .marked, f .logged, length-replicate)
+
+  same-answer : setUpAnswer (storeOf vs ks readers claimants exclusives logs ss .lent) ≡ setUpAnswer (given vs ks .lent)
+  unfolding setUpAnswer given
+  same-answer = rw same-lengths
+
+  same-fresh : fresh (storeOf vs ks readers claimants exclusives logs ss .lent) ≡ fresh (given vs ks .lent)
+  unfolding fresh size given
+  same-fresh = refl
+
+  module _ {a : Answer} {φ : Store} (e : outcome a φ ≡ setUpTaken (storeOf vs ks readers claimants exclusives logs ss)) where
+    said : a ≡ setUpAnswer (given vs ks .lent)
+    unfolding setUpTaken
+    said = ap (λ (r : Outcome). r .answer) e ∙ same-answer
+
+    left : number a ≡ 100 → φ ≡ setUp (given vs ks)
+    unfolding setUpTaken
+    left h =
+        let mine = ap (λ (r : Outcome). r .answer) e in
+        ap (λ (r : Outcome). r .store) e
+        ∙ set-up-fresh (storeOf vs ks readers claimants exclusives logs ss) (sym (ap number mine) ∙ h)
+        ∙ same-fresh
+        ∙ sym (set-up-fresh (given vs ks) (sym (ap number said) ∙ h))
+
+    -- a refused set-up is all that is printed
+    pub refused-text : (n : ℕ) (items : List Item) → n ≡ number a → (n ≡ 100 → ⊥) → setUpLine n ≡ setUpText (given vs ks) items
+    unfolding setUpText afterSetUp
+    refused-text n items k h =
+        let same : n ≡ number (setUpAnswer (given vs ks .lent)) = k ∙ ap number said in
+        rw (← same, ne-eqb n 100 h)
+
+    -- an accepted one is followed by the calls
+    pub accepted-text : (n : ℕ) (items : List Item) → n ≡ number a → n ≡ 100 → callsText 1 φ items ≡ setUpText (given vs ks) items
+    unfolding setUpText afterSetUp
+    accepted-text n items k h =
+        let done : number (setUpAnswer (given vs ks .lent)) ≡ 100 = sym (ap number said) ∙ sym k ∙ h in
+        ap (λ (x : Store). callsText 1 x items) (left (sym k ∙ h)) ∙ rw (eq-eqb _ _ done)
+
+-- ---- the whole text
+
+-- more than 65,536 bytes
+pub size-text : (input : List ℕ) → 65536 < length input → sizeLine ≡ transcript input
+unfolding transcript
+size-text input h = simp (lt-leb _ _ h)
+
+-- more than 1,024 cells
+over : (vs ks : List ℕ) → 1025 ≤ length vs → lengthsFit (given vs ks .lent) ≡ false
+unfolding lengthsFit size given
+over vs ks h = simp (lt-leb (length vs) 1024 h, and-false)
+
+pub too-many-text : (input : List ℕ) → length input ≤ 65536 → 1025 ≤ length (values (itemsAt input 0)) → setUpLine 7 ≡ transcript input
+unfolding transcript itemsText setUpText afterSetUp setUpAnswer
+too-many-text input h k = simp (le-leb _ _ h, over (values (itemsAt input 0)) (classes (itemsAt input 0)) k)
+
+-- the cells that were read, and the items from the field that closes them
+pub leading-text : (input vs ks : List ℕ) (n place : ℕ) → length input ≤ 65536 → Leading input vs ks n place → setUpText (given (take n vs) (take n ks)) (itemsAt input place) ≡ transcript input
+unfolding transcript itemsText
+leading-text input vs ks n place h l = simp (le-leb _ _ h, l .cells, l .kinds, l .closed)
+
+-- ---- what is lent
+
+-- the parts that set-up is handed
+pub fitted : (vs ks readers claimants exclusives logs : List ℕ) (n o : ℕ) → n ≤ 1024 → Roomy o (length vs) (length ks) (length readers) (length claimants) (length exclusives) (length logs)
+    → Fitted (take n vs) (take n ks) (take n readers) (take n claimants) (take n exclusives) (take 2048 logs)
+fitted vs ks readers claimants exclusives logs n o h r =
+    let first : (xs : List ℕ) → 1024 ≤ length xs → length (take n xs) ≡ n = λ xs k. length-take-le n xs (omega arith) in
+    let v = first vs (r .values) in
+    record {
+      few = omega arith;
+      classed = first ks (r .classes) ∙ sym v;
+      read = first readers (r .readers) ∙ sym v;
+      claimed = first claimants (r .claimants) ∙ sym v;
+      marked = first exclusives (r .exclusives) ∙ sym v;
+      logged = length-take-le 2048 logs (r .logs);
+    }
+
+pub roomy : (o v k r c e l : ℕ) → longEnough o v k r c e l ≡ true → Roomy o v k r c e l
+unfolding longEnough
+roomy o v k r c e l h =
+    let from-v = both-r (leb 409600 o) _ h in
+    let from-k = both-r (leb 1024 v) _ from-v in
+    let from-r = both-r (leb 1024 k) _ from-k in
+    let from-c = both-r (leb 1024 r) _ from-r in
+    let from-e = both-r (leb 1024 c) _ from-c in
+    record {
+      output = leb-true _ _ (both-l _ _ h);
+      values = leb-true _ _ (both-l _ _ from-v);
+      classes = leb-true _ _ (both-l _ _ from-k);
+      readers = leb-true _ _ (both-l _ _ from-r);
+      claimants = leb-true _ _ (both-l _ _ from-c);
+      exclusives = leb-true _ _ (both-l _ _ from-e);
+      logs = leb-true _ _ (both-r (leb 1024 e) _ from-e);
+    }
+
+-- the text at the front of an output that is long enough
+pub printed-text : (input o : List ℕ) {a : ℕ} {p : List ℕ} (b : Bool) → b ≡ true → a ≤ length o → out a p ≡ put o 0 (transcript input) → replayed (Bytes a) p ≡ replaying b input o
+unfolding put replaying
+printed-text input o {a} {p} true t h e =
+    let none : 0 + length (transcript input) ≡ length (transcript input) = omega arith in
+    let place : a ≡ length (transcript input) = ends-at o 0 (transcript input) e ∙ none in
+    let text : p ≡ sets o 0 (transcript input) = ap (λ (x : Out). x .output) e in
+    ap (λ (n : ℕ). replayed (Bytes n) p) place ∙ ap (replayed (Bytes (length (transcript input)))) (text ∙ sets-eq (transcript input) o 0 (omega arith) ∙ ap (λ (n : ℕ). transcript input ++ drop n o) none)
+printed-text input o false t h e = absurd (clash false t refl)
+
+-- too little lent
+pub short : (input o : List ℕ) (b : Bool) → b ≡ false → replayed Short o ≡ replaying b input o
+unfolding replaying
+short input o b f = rw f
+
+-- what was printed lies inside the output
+pub within : (b : Bool) (input o p : List ℕ) (r : Printed) (n : ℕ) → replayed r p ≡ replaying b input o → r ≡ Bytes n → n ≤ length p
+unfolding replaying
+within true input o p r n e h =
+    let text : p ≡ transcript input ++ drop (length (transcript input)) o = ap (λ (x : Replayed). x .output) e in
+    let said : r ≡ Bytes (length (transcript input)) = ap (λ (x : Replayed). x .answer) e in
+    let many : n ≡ length (transcript input) = cc in
+    omega (arith, simp length-append at (ap length text))
+within false input o p r n e h =
+    let said : r ≡ Short = ap (λ (x : Replayed). x .answer) e in
+    absurd (let z : _≡_ {A = ℕ} 0 1 = cc in omega arith)

@@ -1,0 +1,44 @@
+-- One call: what the store's step and the line's writer ensure is the call's turn, and after it the rest of the text is that of the items behind it.
+use Prim.Native.Nat.{ℕ, _+_}
+use native.Mathlib.Numerals.{add-one}
+use mathlib.Core.Path.{_≡_, sym, _∙_, ap}
+use mathlib.Core.List.{List, [], _∷_, _++_}
+use denote.Enum.Declared.{tagOf}
+use types.Run.{OneOf, miss}
+use Rattle.model.specs.declared.Answer.{Answer}
+use Rattle.model.specs.declared.Call.{Call}
+use Rattle.model.specs.Buffers.{Store}
+use Rattle.model.specs.Step.{Outcome, outcome, taken, step, reply}
+use Rattle.transcript.specs.declared.Next.{Next}
+use Rattle.transcript.specs.declared.Next.the-variants as next
+use Rattle.transcript.specs.Items.{Item, asked, following}
+use Rattle.transcript.specs.Lines.{answerLine, cellLines}
+use Rattle.transcript.specs.Output.{Out, out, put, Turned, turned, turn, stopLine}
+use Rattle.transcript.specs.Transcript.{callsText}
+use Rattle.transcript.proofs.Forward.{text-asked, text-end, text-refused, text-late-cell}
+use Rattle.transcript.proofs.Next.{the-type}
+use Rattle.transcript.proofs.Puts.{after}
+
+module _ (k : Call) (i : ℕ) (o : List ℕ) (at : ℕ) (σ : Store) where
+  pub turning : {x : Answer} {φ : Store} {a : ℕ} {p : List ℕ} → outcome x φ ≡ taken k σ → out a p ≡ put o at (answerLine i x) → turned (out a p) φ ≡ turn k i o at σ
+  unfolding taken turn
+  turning {x} {φ} {a} {p} e f =
+      let said : x ≡ reply k σ = ap (λ (r : Outcome). r .answer) e in
+      let left : φ ≡ step k σ = ap (λ (r : Outcome). r .store) e in
+      ap (λ (w : Out). turned w φ) (f ∙ ap (λ (y : Answer). put o at (answerLine i y)) said) ∙ ap (turned (put o at (answerLine i (reply k σ)))) left
+
+  -- what is left of the text after a call
+  pub turned-text : (items : List Item) {φ : Store} {a : ℕ} {p : List ℕ} → turned (out a p) φ ≡ turn k i o at σ → put p a (callsText (i + 1) φ items) ≡ put o at (callsText i σ (asked k ∷ items))
+  unfolding turn
+  turned-text items {φ} {a} {p} e =
+      let line : out a p ≡ put o at (answerLine i (reply k σ)) = ap (λ (t : Turned). t .out) e in
+      let left : φ ≡ step k σ = ap (λ (t : Turned). t .store) e in
+      rw (add-one, left) (after o at _ _ line ∙ ap (put o at) (sym (text-asked σ k i items)))
+
+-- what is no call ends them
+pub stops : (place : ℕ) (x : Next) (f : ℕ → List Item) (i : ℕ) (σ : Store) → OneOf (0 ∷ 2 ∷ 3 ∷ []) (tagOf the-type x) → callsText i σ (following place x f) ≡ stopLine place x ++ cellLines 0 (σ .lent .values)
+unfolding following stopLine
+stops place (next.Cell class value n) f i σ h = text-late-cell i σ place class value (f (place + n))
+stops place (next.Call k n) f i σ h = absurd (miss (0 ∷ 2 ∷ 3 ∷ []) 1 tt h)
+stops place next.End f i σ h = text-end i σ
+stops place (next.Refused number) f i σ h = text-refused i σ place number []

@@ -1,0 +1,102 @@
+-- `transcript::lines::put_answer` meets its contract: the ordinal and the number, and after 101 the value. Assumes nothing.
+use Prim.Native.Nat.{ℕ}
+use native.Mathlib.Omega.{arith}
+use mathlib.Core.Path.{sym, _∙_, ap}
+use Rattle.transcript.specs.Lines.{word, newline, answerLine}
+use Rattle.transcript.specs.Output.{put}
+use Rattle.transcript.proofs.Answers.{plain-words, value-words}
+use Rattle.transcript.proofs.Decimals.{length-word}
+use Rattle.transcript.proofs.Puts.{ends-at, then}
+use borrow.Author.Needs.{needs}
+use Rattle.transcript.proofs.lines.put_answer.Statement.{statement}
+use Rattle.transcript.proofs.lines.put_answer.Tie as tie
+
+number-of-requires : tie.Need-number-of-requires
+number-of-requires c κs = search needs
+
+put-word-requires : tie.Need-put-word-requires
+put-word-requires c κs = omega (arith, length-word 4 (c .before .before .before .args .ordinal) 32 (omega arith))
+
+enum-known-answer : tie.Need-enum-known-answer
+enum-known-answer c = search needs
+
+cast-put-word : tie.Need-cast-put-word
+cast-put-word c = search needs
+
+put-word-requires-2 : tie.Need-put-word-requires-2
+put-word-requires-2 c κs =
+    omega (arith, ends-at _ _ _ (c .before .before .before .before .put-word .ensures), length-word 4 (c .before .before .before .before .before .before .before .before .args .ordinal) 32 (omega arith), length-word 2 (c .before .before .before .before .before .before .number-of .result) 10 (omega arith))
+
+same-length : tie.Need-same-length
+same-length c = search needs
+
+returns : tie.Need-returns
+unfolding answerLine
+returns c =
+    let a = c .before .before .before .before .before .before .before .put-word .ensures in
+    let e = c .before .before .put-word2 .ensures in (
+      then _ _ _ _ a (e ∙ ap (put _ _) (ap (λ (n : ℕ). word n newline) (c .before .before .before .before .before .before .before .before .before .number-of .ensures) ∙ sym (plain-words _ (c .before .before .before .before .match .keys2)))),
+      omega (
+        arith,
+        ends-at _ _ _ a,
+        ends-at _ _ _ e,
+        length-word 4 (c .before .before .before .before .before .before .before .before .before .before .before .args .ordinal) 32 (omega arith),
+        length-word 2 (c .before .before .before .before .before .before .before .before .before .number-of .result) 10 (omega arith),
+      ),
+    )
+
+cast-put-word-2 : tie.Need-cast-put-word-2
+cast-put-word-2 c = search needs
+
+put-word-requires-3 : tie.Need-put-word-requires-3
+put-word-requires-3 c κs =
+    omega (arith, ends-at _ _ _ (c .before .before .before .before .before .before .put-word .ensures), length-word 4 (c .before .before .before .before .before .before .before .before .before .before .args .ordinal) 32 (omega arith), length-word 2 (c .before .before .before .before .before .before .before .before .number-of .result) 32 (omega arith))
+
+put-word-requires-4 : tie.Need-put-word-requires-4
+put-word-requires-4 c κs =
+    omega (
+      arith,
+      ends-at _ _ _ (c .before .before .before .before .before .before .before .before .before .before .put-word .ensures),
+      ends-at _ _ _ (c .before .before .before .put-word3 .ensures),
+      length-word 4 (c .before .before .before .before .before .before .before .before .before .before .before .before .before .before .args .ordinal) 32 (omega arith),
+      length-word 2 (c .before .before .before .before .before .before .before .before .before .before .before .before .number-of .result) 32 (omega arith),
+      length-word 9 (c .before .before .before .before .before .before .answer .given .0 .0) 10 (omega arith),
+    )
+
+same-length-2 : tie.Need-same-length-2
+same-length-2 c = search needs
+
+returns-2 : tie.Need-returns-2
+unfolding answerLine
+returns-2 c =
+    let a = c .before .before .before .before .before .before .before .before .before .before .before .before .before .put-word .ensures in
+    let b = c .before .before .before .before .before .before .put-word3 .ensures in
+    let e = c .before .before .put-word4 .ensures in (
+      then _ _ _ _ a (then _ _ _ _ b e ∙ ap (put _ _) (value-words _ _ _ (c .before .before .before .before .before .before .before .before .before .before .before .before .before .before .before .number-of .ensures) (c .before .before .before .before .before .before .before .before .before .answer .given .1))),
+      omega (
+        arith,
+        ends-at _ _ _ a,
+        ends-at _ _ _ b,
+        ends-at _ _ _ e,
+        length-word 4 (c .before .before .before .before .before .before .before .before .before .before .before .before .before .before .before .before .before .args .ordinal) 32 (omega arith),
+        length-word 2 (c .before .before .before .before .before .before .before .before .before .before .before .before .before .before .before .number-of .result) 32 (omega arith),
+        length-word 9 (c .before .before .before .before .before .before .before .before .before .answer .given .0 .0) 10 (omega arith),
+      ),
+    )
+
+pub put-answer-spec : {M : Type 1} → statement M
+put-answer-spec =
+    tie.close
+    (tie.spec
+    number-of-requires
+    put-word-requires
+    enum-known-answer
+    cast-put-word
+    put-word-requires-2
+    same-length
+    returns
+    cast-put-word-2
+    put-word-requires-3
+    put-word-requires-4
+    same-length-2
+    returns-2)

@@ -1,0 +1,73 @@
+-- `transcript::lines::put_stop` meets its contract: a line, or nothing. Assumes nothing.
+use native.Mathlib.Omega.{arith}
+use mathlib.Core.Path.{sym}
+use Rattle.transcript.specs.Output.{stopLine}
+use Rattle.transcript.proofs.Puts.{put-nothing}
+use borrow.Author.Needs.{needs}
+use Rattle.transcript.proofs.lines.put_stop.Statement.{statement}
+use Rattle.transcript.proofs.lines.put_stop.Tie as tie
+
+enum-known-next : tie.Need-enum-known-next
+enum-known-next c = search needs
+
+cast-put-field : tie.Need-cast-put-field
+cast-put-field c = search needs
+
+put-field-requires : tie.Need-put-field-requires
+put-field-requires c κs = search needs
+
+enum-told : tie.Need-enum-told
+enum-told c = search needs
+
+cast-put-field-2 : tie.Need-cast-put-field-2
+cast-put-field-2 c = search needs
+
+put-field-requires-2 : tie.Need-put-field-requires-2
+put-field-requires-2 c κs = search needs
+
+enum-told-2 : tie.Need-enum-told-2
+enum-told-2 c = search needs
+
+enum-told-3 : tie.Need-enum-told-3
+enum-told-3 c = search needs
+
+same-length : tie.Need-same-length
+same-length c = search needs
+
+returns : tie.Need-returns
+unfolding stopLine
+returns c = (rw (c .before .before .before .before .before .next .given .1) (c .before .before .put-field .ensures .0), c .before .before .put-field .ensures .1)
+
+same-length-2 : tie.Need-same-length-2
+same-length-2 c = search needs
+
+returns-2 : tie.Need-returns-2
+unfolding stopLine
+returns-2 c = (rw (c .before .before .before .before .enum-told .given .1) (c .before .before .put-field2 .ensures .0), c .before .before .put-field2 .ensures .1)
+
+returns-3 : tie.Need-returns-3
+unfolding stopLine
+returns-3 c = (rw (c .enum-told2 .given .1) (sym (put-nothing _ _)), omega arith)
+
+returns-4 : tie.Need-returns-4
+unfolding stopLine
+returns-4 c = (rw (c .enum-told3 .given .1) (sym (put-nothing _ _)), omega arith)
+
+pub put-stop-spec : {M : Type 1} → statement M
+put-stop-spec =
+    tie.close
+    (tie.spec
+    enum-known-next
+    cast-put-field
+    put-field-requires
+    enum-told
+    cast-put-field-2
+    put-field-requires-2
+    enum-told-2
+    enum-told-3
+    same-length
+    returns
+    same-length-2
+    returns-2
+    returns-3
+    returns-4)

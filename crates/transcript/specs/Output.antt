@@ -1,0 +1,88 @@
+-- What the inner functions leave: a text put into the output, one call with its line, the cells that were read, and what is lent to set-up.
+-- Nothing here is part of what `replay` promises.
+use Prim.Native.Nat.{ℕ, _+_, _≤_}
+use mathlib.Core.Path.{_≡_}
+use mathlib.Core.List.{List, []}
+use lib.ListN.{length, take}
+use lib.Seq.{sets}
+use Rattle.model.specs.declared.Call.{Call}
+use Rattle.model.specs.Buffers.{Store}
+use Rattle.model.specs.Step.{step, reply}
+use Rattle.transcript.specs.declared.Next.{Next}
+use Rattle.transcript.specs.declared.Next.the-variants as next
+use Rattle.transcript.specs.declared.Cells.{Cells}
+use Rattle.transcript.specs.declared.Cells.the-variants.{Found, TooMany}
+use Rattle.transcript.specs.Items.{itemsAt, values, classes, later}
+use Rattle.transcript.specs.Lines.{fieldLine, answerLine}
+
+-- ---- one text
+
+-- the place after what was written, and the output
+pub record Out : Type 0 where
+  pub at : ℕ
+  pub output : List ℕ
+
+abbrev pub out : ℕ → List ℕ → Out
+out at output = record { at = at; output = output }
+
+-- a text put at a place
+unfoldable pub put : List ℕ → ℕ → List ℕ → Out
+put output at text = out (at + length text) (sets output at text)
+
+-- ---- what ends the calls
+
+-- the line of what stands at a place, where it is no call
+unfoldable pub stopLine : ℕ → Next → List ℕ
+stopLine place (next.Cell class value n) = fieldLine place 11
+stopLine place (next.Call k n) = []
+stopLine place next.End = []
+stopLine place (next.Refused number) = fieldLine place number
+
+-- ---- one call
+
+-- the output and the store after a call
+pub record Turned : Type 0 where
+  pub out : Out
+  pub store : Store
+
+abbrev pub turned : Out → Store → Turned
+turned o σ = record { out = o; store = σ }
+
+-- a call's line is put, and the call is made
+unfoldable pub turn : Call → ℕ → List ℕ → ℕ → Store → Turned
+turn k ordinal output at σ = turned (put output at (answerLine ordinal (reply k σ))) (step k σ)
+
+-- ---- the cells
+
+-- the leading cells of the input, at the front of vs and ks, and the place of the field that closes them; or more than 1,024
+pub record Leading (input vs ks : List ℕ) (n place : ℕ) : Type 0 where
+  pub cells : values (itemsAt input 0) ≡ take n vs
+  pub kinds : classes (itemsAt input 0) ≡ take n ks
+  pub closed : later (itemsAt input 0) ≡ itemsAt input place
+  pub few : n ≤ 1024
+  pub inside : place ≤ length input
+
+abbrev pub ReadCells : List ℕ → List ℕ → List ℕ → Cells → Type 0
+ReadCells input vs ks (Found n place) = Leading input vs ks n place
+ReadCells input vs ks TooMany = 1025 ≤ length (values (itemsAt input 0))
+
+-- what set-up is handed: at most 1,024 cells, with a class and a lock for each, and 2,048 words of logs
+pub record Fitted (vs ks readers claimants exclusives logs : List ℕ) : Type 0 where
+  pub few : length vs ≤ 1024
+  pub classed : length ks ≡ length vs
+  pub read : length readers ≡ length vs
+  pub claimed : length claimants ≡ length vs
+  pub marked : length exclusives ≡ length vs
+  pub logged : length logs ≡ 2048
+
+-- ---- what is lent
+
+-- `longEnough` as facts
+pub record Roomy (o v k r c e l : ℕ) : Type 0 where
+  pub output : 409600 ≤ o
+  pub values : 1024 ≤ v
+  pub classes : 1024 ≤ k
+  pub readers : 1024 ≤ r
+  pub claimants : 1024 ≤ c
+  pub exclusives : 1024 ≤ e
+  pub logs : 2048 ≤ l

@@ -1,0 +1,65 @@
+#!/usr/bin/env bash
+# The proved store and the proved replay against the second program, by running: 1,000,000 single calls on arbitrary buffers through the calls
+# for C, and random files through the replay. The proofs come first (rt ci). SEED changes the cases, REPLAYS the number of files.
+set -uo pipefail
+cd "$(dirname "$0")/.."
+
+seed=${SEED:-1}
+replays=${REPLAYS:-20000}
+work=$PWD/target/store-tests
+mkdir -p "$work"
+passed=0
+failed=0
+
+# check NAME COMMAND...: one test; its output is shown.
+check() {
+    local name=$1
+    shift
+    if "$@" >"$work/log" 2>&1; then
+        echo "passed: $name"
+        passed=$((passed + 1))
+    else
+        echo "FAILED: $name"
+        failed=$((failed + 1))
+    fi
+    tail -n 16 "$work/log"
+}
+
+# The proved calls in the place of the plain C store.
+calls_for_c() {
+    rt staticlib exports
+    mkdir -p target/c/proved-store
+    gcc -O3 $c_flags -fPIC -shared -Itools/src -Iinclude -Ibenches/c tests/c/proved_store.c tests/plain_fields.c target/staticlib/libexports.a \
+        -o target/c/proved-store/libplain.so
+}
+
+example() {
+    tools/calls encode <"examples/$1.txt" >"$work/$1.bin" && target/bin/replay <"$work/$1.bin" >"$work/$1.out" &&
+        diff "examples/$1.expected" "$work/$1.out"
+}
+
+# Every file that the guided fuzzer kept: the proved replay and the second program print the same.
+corpus() {
+    local file count=0
+    for file in tests/fuzz/corpus/*; do
+        target/bin/replay <"$file" >"$work/corpus.proved" && "$replay_peer" <"$file" >"$work/corpus.peer" && cmp "$work/corpus.proved" "$work/corpus.peer" ||
+            { echo "$file differs"; return 1; }
+        count=$((count + 1))
+    done
+    echo "$count files"
+    [ "$count" -ge 100 ]
+}
+
+check "the second program is built" bash -c '. tests/fuzz/build.sh'
+. tests/fuzz/build.sh
+check "the replay is built" test -x target/bin/replay
+for name in listing skew mixed; do
+    check "the replay of $name" example $name
+done
+check "the calls for C are built" calls_for_c
+check "the proved calls on arbitrary buffers" env LD_LIBRARY_PATH="$PWD/target/c/proved-store" "$compare" calls --seed "$seed" --count 1000000
+check "the replay on the fuzzer's corpus" corpus
+check "the proved replay on random files" "$compare" replays --program "$PWD/target/bin/replay" --mode spawn --seed "$seed" --count "$replays"
+
+echo "$passed passed, $failed failed"
+[ "$failed" -eq 0 ]
