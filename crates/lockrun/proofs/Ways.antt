@@ -33,9 +33,9 @@ use Rattle.store.proofs.Parts.{cut, cut-is, puts, part-long, part-fits, can-dec
 use Rattle.store.proofs.Peeks.{peek-planned, peeked, inside, in-logs, hands-store, hands-log, hands-nothing, peek-done}
 use Rattle.store.proofs.Tags.{Passed}
 use Rattle.store.proofs.Choices.{Choice, read-choice, write-choice, when-new, when-left, when-known}
-use Rattle.store.proofs.Entering.{Decided, ReadDecided, WriteDecided, New, read-decided, write-decided, refused, read-told, read-entered, write-updated, write-entered}
+use Rattle.store.proofs.Entering.{Decided, New, OfRead, OfWrite, read-decided, write-decided, refused, read-told, read-entered, write-updated, write-entered}
 use Rattle.store.proofs.Seals.{seal-planned, seal-entries, seal-begins}
-use Rattle.store.proofs.Tested.{begin-refused, begin-starts, abandon-refused, can-abandon}
+use Rattle.store.proofs.Tested.{begin-refused, begin-starts, abandon-refused, abandon-entries}
 use Rattle.lockrun.specs.declared.Change.{Change}
 use Rattle.lockrun.specs.declared.Change.the-variants.{Keep, Join, Withdraw, Leave}
 use Rattle.lockrun.specs.declared.Turn.{Turn}
@@ -101,7 +101,7 @@ module _ (vs cs W : List ℕ) (ss : Sessions) (m s : ℕ) (z : AllSized vs cs W 
   module _ (c : ℕ) (l : Lock) (p : Plan) where
     -- ---- read
     module _ (e : p ≡ readOn (length vs) (cut W s) x l c) where
-      pub read-known : (L : List Lock) → length L ≡ m → lockIn L c ≡ l → ReadDecided (storeOn vs cs L W ss) s c l p
+      pub read-known : (L : List Lock) → length L ≡ m → lockIn L c ≡ l → OfRead Decided (storeOn vs cs L W ss) s c l p
       read-known L q g = read-decided (storeOn vs cs L W ss) s c (z L q) l (sym (apart-at L c ∙ g)) p e
 
       chosen : Choice (length vs) (cut W s) x c (λ j. Tell (entryAt (cut W s) 0 j .current)) (Enter c) p
@@ -122,14 +122,14 @@ module _ (vs cs W : List ℕ) (ss : Sessions) (m s : ℕ) (z : AllSized vs cs W 
       read-enters i h P y a f =
           let n = read-new i h in
           (one-sized .session,
-          λ L q g. read-entered (read-known L q g) (record { inside = n .0; room = n .1; plan = n .2 }) (apart (sweptBy (puts W s P) (Join s c) L)) P y (joins (puts W s P) s c L) a f)
+          λ L q g. read-entered (record { decided = read-known L q g; inside = n .0; room = n .1; plan = n .2 }) (apart (sweptBy (puts W s P) (Join s c) L)) P y (joins (puts W s P) s c L) a f)
 
       pub read-left : Passed 2 p → Passed 0 p → Passed 3 p → Entries (length vs) (cut W s) x × (p ≡ RollBack)
       read-left a b f = when-left chosen 2 3 (λ j. tt) tt a b f
 
     -- ---- write
     module _ (v : ℕ) (e : p ≡ writeOn cs (length cs) (cut W s) x l c v) where
-      pub write-known : (L : List Lock) → length L ≡ m → lockIn L c ≡ l → WriteDecided (storeOn vs cs L W ss) s c v l p
+      pub write-known : (L : List Lock) → length L ≡ m → lockIn L c ≡ l → OfWrite Decided (storeOn vs cs L W ss) s c v l p
       write-known L q g = write-decided (storeOn vs cs L W ss) s c (z L q) l (sym (apart-at L c ∙ g)) p v e
 
       choice : Choice (length vs) (cut W s) x c (λ j. Update j v) (EnterUpdate c v) p
@@ -152,9 +152,6 @@ module _ (vs cs W : List ℕ) (ss : Sessions) (m s : ℕ) (z : AllSized vs cs W 
 
       -- the entry is appended, and then updated
       module _ (i u : ℕ) (h : p ≡ EnterUpdate i u) (P : List ℕ) (a : P ≡ appended (cut W s) 0 (x .count) c (getD vs c 0)) where
-        abbrev found : (L : List Lock) → New (storeOn vs cs L W ss) s c (EnterUpdate c v) p
-        found L = let n = write-new i u h in record { inside = n .0; room = n .1; plan = n .2 }
-
         long : length (puts W s P) ≡ 2048
         unfolding appended
         long =
@@ -175,8 +172,9 @@ module _ (vs cs W : List ℕ) (ss : Sessions) (m s : ℕ) (z : AllSized vs cs W 
         pub write-enters : (Q : List ℕ) (y : Session) → Q ≡ updated (cut (puts W s P) s) 0 (x .count) u → y ≡ withEntry x
             → Turned (Write s c v) vs cs m c l W ss vs (puts (puts W s P) s Q) (ends Done y (Join s c))
         write-enters Q y b f =
+            let n = write-new i u h in
             (one-sized .session,
-            λ L q g. write-entered (write-known L q g) (found L) P a i u h Q b (apart (sweptBy (puts (puts W s P) s Q) (Join s c) L)) y (joins (puts (puts W s P) s Q) s c L) f)
+            λ L q g. write-entered (record { decided = write-known L q g; inside = n .0; room = n .1; plan = n .2 }) P a i u h Q b (apart (sweptBy (puts (puts W s P) s Q) (Join s c) L)) y (joins (puts (puts W s P) s Q) s c L) f)
 
       pub write-left : Passed 4 p → Passed 0 p → Passed 5 p → Entries (length vs) (cut W s) x × (p ≡ RollBack)
       write-left a b f = when-left choice 4 5 (λ j. tt) tt a b f
@@ -216,9 +214,8 @@ module _ (vs cs W : List ℕ) (ss : Sessions) (m s : ℕ) (z : AllSized vs cs W 
     pub abandons : r ≡ 0 → (y : Session) → y ≡ idle → Turned (Abandon s) vs cs m 0 l W ss vs W (ends Done y (Withdraw s (x .count)))
     unfolding planOf size sessionAt
     abandons o y f =
-        let n = can-abandon (storeOn vs cs (replicate m free) W ss) s one-sized r e o .0 .count in
-        let w = part-long W s words (one-sized .session) in
-        ((one-sized .session, omega arith, words),
+        let few = abandon-entries (storeOn vs cs (replicate m free) W ss) s one-sized r e o .count in
+        ((one-sized .session, few, words),
         λ L q g. carry-cancel s (storeOn vs cs L W ss) (apart (sweptBy W (Withdraw s (x .count)) L)) y (back L) f
         ∙ carries (Abandon s) (storeOn vs cs L W ss) Cancel (abandon-passes (storeOn vs cs L W ss .lent) s x (z L q .lengths) (z L q .session) (sym (rw cut-is at e) ∙ o)))
 
