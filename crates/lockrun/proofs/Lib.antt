@@ -11,3 +11,4 @@ pub mod AdvanceWays
 pub mod Cells
 pub mod SetUps
 pub mod Taken
+pub mod Agreement
