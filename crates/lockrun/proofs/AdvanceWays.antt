@@ -1,0 +1,211 @@
+-- Each way through the covered part of an advance: what its callees ask there, and what is left, of every run of the length given with the lock given.
+use mathlib.Core.Path.{_≡_, refl, sym, ap, _∙_}
+use mathlib.Core.Bool.{Bool, true, false}
+use mathlib.Core.List.{List}
+use Prim.Native.Nat.{ℕ, _+_, _*_, _<_, _≤_}
+use native.Mathlib.Omega.{arith}
+use borrow.Author.Tests.{ltb-true, ltb-false, lt-ltb, le-ltb}
+use lib.Dec.{ltb}
+use lib.ListN.{length, getD, set, replicate, length-replicate}
+use Rattle.model.specs.Search.{below}
+use Rattle.model.specs.Buffers.{Locks, Store, free, idle, sessionAt, cellAt, lockAt, setLock, claim, own, vacate}
+use Rattle.model.specs.Step.{outcome, taken, planOf}
+use Rattle.model.specs.declared.Session.{Session}
+use Rattle.model.specs.declared.Sessions.{Sessions}
+use Rattle.model.specs.declared.Lock.{Lock}
+use Rattle.model.specs.declared.Call.the-variants.{Advance}
+use Rattle.model.specs.declared.Answer.{Answer}
+use Rattle.model.specs.declared.Answer.the-variants
+use Rattle.model.specs.declared.Plan.{Plan}
+use Rattle.model.specs.declared.Plan.the-variants.{Refuse, RollBack, Wait, Publish}
+use Rattle.model.specs.declared.Plan.the-variants as plans
+use Rattle.model.proofs.Tools.{test}
+use Rattle.log.specs.Slots.{part}
+use Rattle.decide.specs.Own.{lengthsOn, dueOn, advanceOn, handledOn}
+use Rattle.decide.specs.declared.Due.{Due}
+use Rattle.decide.specs.declared.Due.the-variants.{Refused, Slot}
+use Rattle.decide.specs.declared.Handled.{Handled}
+use Rattle.decide.proofs.Agree.{part-cell, due-known}
+use Rattle.store.specs.Lent.{carried, Sized, Admitted}
+use Rattle.store.proofs.Carry.{carries, carry-refuse, carry-roll-back}
+use Rattle.store.proofs.Refusals.{refused-7, refused-1, lengths-of}
+use Rattle.store.proofs.Parts.{cut, cut-is, part-fits, can-decide}
+use Rattle.store.proofs.Tags.{Passed}
+use Rattle.store.proofs.Advances.{atEntry, due-refused, due-planned, due-admits, inside, can-handle, leaves-waiting, leaves-owned, leaves-published, leaves-released}
+use Rattle.lockrun.specs.declared.Change.{Change}
+use Rattle.lockrun.specs.declared.Change.the-variants.{Keep, Claim, Own, Vacate, Withdraw}
+use Rattle.lockrun.specs.declared.Turn.{Turn}
+use Rattle.lockrun.specs.Run.{apart, storeOn, lockIn, turnsOf, cellOf, changeOf, swept, sweptBy}
+use Rattle.lockrun.specs.Turns.{keeps, dueIn, Found, Turned}
+use Rattle.lockrun.proofs.Changes.{apart-at, apart-set}
+use Rattle.lockrun.proofs.Ways.{AllSized, all-sized, one-sized, words, ends, back, runs-fit, plain-sized}
+
+-- two entries that differ
+other : {P : Type 0} → _≡_ {A = ℕ} 0 1 → P
+other e = absurd (omega arith)
+
+-- ---- the entry that is due, of n values, j classes and m locks
+
+module _ (ss : Sessions) (n j m : ℕ) (W : List ℕ) (s : ℕ) where
+  -- the test's answer b
+  module _ (b : Bool) (e : b ≡ lengthsOn n j m m m (length W)) where
+    pub due-7 : b ≡ false → Refused 7 ≡ dueIn ss n j m W s
+    unfolding dueIn
+    due-7 h = rw (← e, h)
+
+    pub due-1 : b ≡ true → 15 < s → Refused 1 ≡ dueIn ss n j m W s
+    unfolding dueIn
+    due-1 h l = rw (← e, h, le-ltb s 16 l)
+
+    pub due-on : b ≡ true → s ≤ 15 → (d : Due) → d ≡ dueOn n (cut W s) (getD (ss .records) s idle) → d ≡ dueIn ss n j m W s
+    unfolding dueIn sessionAt
+    due-on h l d f = let k : s < 16 = omega arith in f ∙ rw (← e, h, lt-ltb s 16 k, cut-is)
+
+  pub due-is : (k : ℕ) → Slot k ≡ dueIn ss n j m W s → (lengthsOn n j m m m (length W) ≡ true) × ((s < 16) × (dueOn n (cut W s) (getD (ss .records) s idle) ≡ Slot k))
+  unfolding dueIn sessionAt
+  due-is k e =
+      test (lengthsOn n j m m m (length W))
+      (λ h. test (ltb s 16) (λ i. (h, (ltb-true s 16 i, rw cut-is (sym (rw (h, i) at e))))) (λ i. let d = rw (h, i) at e in other (cc)))
+      (λ h. let d = rw h at e in other (cc))
+
+  pub due-found : (d : Due) → d ≡ dueIn ss n j m W s → Found W s d
+  due-found (Refused r) e = tt
+  due-found (Slot k) e =
+      let f = due-is k e in
+      let l = lengths-of (storeOn (replicate n 0) (replicate j 0) (replicate m free) W ss .lent) (plain-sized n j m W ss (lengthsOn n j m m m (length W)) refl s (f .0) (let i = f .1 .0 in omega arith) .lengths) .logs in
+      let a = due-known n (cut W s) (getD (ss .records) s idle) k (f .1 .1) in
+      let c = a .entries .count in let i = a .slot in
+      (f .1 .0, omega arith, l)
+
+module _ (vs cs W : List ℕ) (ss : Sessions) (m s : ℕ) where
+  abbrev fit : Bool
+  fit = lengthsOn (length vs) (length cs) m m m (length W)
+
+  abbrev x : Session
+  x = getD (ss .records) s idle
+
+  -- ---- refused: 7, 1, 9 or 2
+
+  pub advance-turned : (c : ℕ) (l : Lock) (r : ℕ) → Refused r ≡ dueIn ss (length vs) (length cs) m W s → (t : Turn) → t ≡ keeps ss (the-variants.Refused r) → Turned (Advance s) vs cs m c l W ss vs W t
+  unfolding turnsOf swept dueIn sessionAt
+  advance-turned c l r e t f = rw f (tt, λ L q g.
+      test fit
+      (λ h. test (ltb s 16)
+      (λ i.
+      let z = all-sized vs cs W ss m fit refl s h (let k = ltb-true s 16 i in omega arith) L q in
+      let d : dueOn (length vs) (cut W s) x ≡ Refused r = rw cut-is (sym (rw (h, i) at e)) in
+      carry-refuse s (storeOn vs cs L W ss) r ∙ carries (Advance s) (storeOn vs cs L W ss) (Refuse r) (due-refused (storeOn vs cs L W ss) s z r d))
+      (λ i. let n : r ≡ 1 = let d = rw (h, i) at e in cc in rw n (refused-1 (storeOn vs cs L W ss) fit (runs-fit (length vs) (length cs) m (length W) fit refl L q) (Advance s) h (let k = ltb-false s 16 i in omega arith))))
+      (λ h. let n : r ≡ 7 = let d = rw h at e in cc in rw n (refused-7 (storeOn vs cs L W ss) fit (runs-fit (length vs) (length cs) m (length W) fit refl L q) (Advance s) h)))
+
+  -- ---- at entry k
+
+  module _ (k : ℕ) (due : Slot k ≡ dueIn ss (length vs) (length cs) m W s) where
+    known : (fit ≡ true) × ((s < 16) × (dueOn (length vs) (cut W s) x ≡ Slot k))
+    known = due-is ss (length vs) (length cs) m W s k due
+
+    pub sizes : AllSized vs cs W ss m s
+    sizes = all-sized vs cs W ss m fit refl s (known .0) (let i = known .1 .0 in omega arith)
+
+    admits : (L : List Lock) → length L ≡ m → Admitted (storeOn vs cs L W ss) s × (k < x .count) × (2 ≤ x .phase) × (x .phase ≤ 4)
+    unfolding sessionAt
+    admits L q = due-admits (storeOn vs cs L W ss) s (sizes L q) k (known .1 .1)
+
+    -- what does not depend on the run
+    facts : Admitted (storeOn vs cs (replicate m free) W ss) s × (k < x .count) × (2 ≤ x .phase) × (x .phase ≤ 4)
+    facts = admits (replicate m free) (length-replicate m free)
+
+    sized : Sized (storeOn vs cs (replicate m free) W ss) s
+    sized = one-sized vs cs W ss m s sizes
+
+    few : x .count ≤ 32
+    unfolding sessionAt
+    few = facts .0 .count
+
+    pub part-ends : 128 * s + 128 ≤ length W
+    part-ends = part-fits (storeOn vs cs (replicate m free) W ss) s sized
+
+    pub in-part : 4 * k + 3 < length (cut W s)
+    in-part = let w = can-decide (storeOn vs cs (replicate m free) W ss) s sized .0 in let f = few in let i = facts .1 in omega arith
+
+    pub can-advance : (s < 16) × (4 * k + 3 < length (cut W s))
+    can-advance = (sized .session, in-part)
+
+    module _ (c : ℕ) (cell : c ≡ cellAt (cut W s) 0 k) where
+      pub in-values : c < length vs
+      unfolding sessionAt
+      in-values = inside (storeOn vs cs (replicate m free) W ss) s k (facts .0) (facts .1) c cell
+
+      pub handles : (length (cut W s) ≡ 128) × (length vs ≤ 1024) × (x .count ≤ 32) × (x .phase ≤ 4) × (c < length vs) × (below (length vs) (cellAt (cut W s) 0) (x .count) ≡ true)
+      unfolding sessionAt
+      handles = can-handle (storeOn vs cs (replicate m free) W ss) s k (facts .0) (facts .1) c cell (facts .3)
+
+      -- l is the lock of the cell, and p the plan that the code decides
+      module _ (l : Lock) (p : Plan) (e : p ≡ advanceOn (cut W s) x l s k) where
+        same : c ≡ cellAt W s k
+        same = cell ∙ rw cut-is (part-cell W s k (let f = few in let i = facts .1 in omega arith))
+
+        -- of a run with that lock
+        module _ (L : List Lock) (q : length L ≡ m) (g : lockIn L (cellAt W s k) ≡ l) where
+          abbrev σ : Store
+          σ = storeOn vs cs L W ss
+
+          held : lockIn L c ≡ l
+          held = rw same g
+
+          lock : l ≡ lockAt (σ .lent .locks) c
+          lock = sym (apart-at L c ∙ held)
+
+          finish : carried s (atEntry σ s k) σ ≡ taken (Advance s) σ
+          unfolding sessionAt
+          finish = carries (Advance s) σ (atEntry σ s k) (due-planned σ s (sizes L q) k (known .1 .1))
+
+          planned : p ≡ planOf (Advance s) σ
+          unfolding sessionAt
+          planned = e ∙ rw (lock, cell, cut-is) (due-planned σ s (sizes L q) k (known .1 .1))
+
+          put : (f : Lock → Lock) → apart (set L c (f (lockIn L c))) ≡ setLock c (f l) (apart L)
+          put f = apart-set L c (f (lockIn L c)) ∙ ap (λ (h : Lock). setLock c (f h) (apart L)) held
+
+          waited : {i : ℕ} → p ≡ Wait i → outcome the-variants.Waiting (storeOn vs cs (sweptBy W (Claim s c) L) W ss) ≡ taken (Advance s) σ
+          unfolding turnsOf swept cellOf changeOf sessionAt
+          waited h = leaves-waiting σ s k (admits L q .0) (admits L q .1) c cell l lock p e h (claim s l) (apart (sweptBy W (Claim s c) L)) refl (put (claim s)) ∙ finish
+
+          rolled : p ≡ RollBack → (y : Session) → y ≡ idle
+              → outcome (the-variants.Refused 6) (storeOn vs cs (sweptBy W (Withdraw s (x .count)) L) W (record { records = set (ss .records) s y })) ≡ taken (Advance s) σ
+          rolled h y f = carry-roll-back s σ (apart (sweptBy W (Withdraw s (x .count)) L)) y (back vs cs W ss m s sizes L) f ∙ carries (Advance s) σ RollBack (sym h ∙ planned)
+
+          -- h is what handling the cell answers
+          module _ (h : Handled) (d : h ≡ handledOn (cut W s) x c) where
+            owned : {i : ℕ} → p ≡ plans.Own i → outcome (h .answer) (storeOn vs cs (sweptBy W (Own s c) L) W (record { records = set (ss .records) s (h .session) })) ≡ taken (Advance s) σ
+            unfolding turnsOf swept cellOf changeOf sessionAt
+            owned f = leaves-owned σ s k (admits L q .0) (admits L q .1) c cell l lock p e h d f (own s l) (apart (sweptBy W (Own s c) L)) refl (put (own s)) ∙ finish
+
+            published : {i v : ℕ} → p ≡ Publish i v → outcome (h .answer) (storeOn (set vs c v) cs (sweptBy W Keep L) W (record { records = set (ss .records) s (h .session) })) ≡ taken (Advance s) σ
+            unfolding turnsOf swept sessionAt
+            published f = leaves-published σ s k (admits L q .0) (admits L q .1) c cell l lock p e h d f ∙ finish
+
+            released : Passed 10 p → Passed 6 p → Passed 11 p → Passed 12 p
+                → outcome (h .answer) (storeOn vs cs (sweptBy W (Vacate s c) L) W (record { records = set (ss .records) s (h .session) })) ≡ taken (Advance s) σ
+            unfolding turnsOf swept cellOf changeOf sessionAt
+            released a b f i =
+                leaves-released σ s k (admits L q .0) (admits L q .1) c cell l lock p e h d (facts .2) (facts .3) a b f i (vacate s l) (apart (sweptBy W (Vacate s c) L)) refl (put (vacate s)) ∙ finish
+
+        abbrev Left : List ℕ → Turn → Type 0
+        Left vs′ t = Turned (Advance s) vs cs m (cellAt W s k) l W ss vs′ W t
+
+        pub advance-waits : {i : ℕ} → p ≡ Wait i → Left vs (record { reply = record { answer = the-variants.Waiting; sessions = ss }; change = Claim s c })
+        advance-waits h = (sized .session, λ L q g. waited L q g h)
+
+        pub advance-rolls : p ≡ RollBack → (y : Session) → y ≡ idle → Left vs (ends vs cs W ss m s sizes (the-variants.Refused 6) y (Withdraw s (x .count)))
+        advance-rolls h y f = ((sized .session, few, words vs cs W ss m s sizes), λ L q g. rolled L q g h y f)
+
+        module _ (h : Handled) (d : h ≡ handledOn (cut W s) x c) where
+          pub advance-owns : {i : ℕ} → p ≡ plans.Own i → Left vs (ends vs cs W ss m s sizes (h .answer) (h .session) (Own s c))
+          advance-owns f = (sized .session, λ L q g. owned L q g h d f)
+
+          pub advance-publishes : {i v : ℕ} → p ≡ Publish i v → Left (set vs c v) (ends vs cs W ss m s sizes (h .answer) (h .session) Keep)
+          advance-publishes f = (tt, λ L q g. published L q g h d f)
+
+          pub advance-releases : Passed 10 p → Passed 6 p → Passed 11 p → Passed 12 p → Left vs (ends vs cs W ss m s sizes (h .answer) (h .session) (Vacate s c))
+          advance-releases a b f i = (sized .session, λ L q g. released L q g h d a b f i)

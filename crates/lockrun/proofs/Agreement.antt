@@ -1,0 +1,87 @@
+-- The two forms agree: taking the records apart into three lists, calling, and putting the lists together is calling on the records.
+-- So the contract of a call on the run fixes every lock, and demand 3 speaks of the run too.
+use mathlib.Core.Path.{_≡_, refl, sym, ap, subst, _∙_}
+use mathlib.Core.List.{List, [], _∷_, reverse}
+use Prim.Native.Nat.{ℕ}
+use Rattle.model.specs.Buffers.{Locks, Store}
+use Rattle.model.specs.History.{Event, run, history}
+use Rattle.model.specs.Isolation.{Demand3, Isolated, HoldsAtCommit}
+use Rattle.model.specs.Step.{Outcome, outcome, number, taken, setUpTaken, reply, step, setUp, setUpAnswer, planOf}
+use Rattle.model.specs.declared.Lock.{Lock}
+use Rattle.model.specs.declared.Sessions.{Sessions}
+use Rattle.model.specs.declared.Call.{Call}
+use Rattle.model.specs.declared.Answer.{Answer}
+use Rattle.model.proofs.Demand3.{demand3}
+use Rattle.locks.specs.Sweeps.{locksOf}
+use Rattle.store.specs.Lent.{storeOf}
+use Rattle.lockrun.specs.Run.{each, apart, storeOn}
+use Rattle.lockrun.specs.Forms.{together, Left, Kept, whole, Ran, none, then}
+
+-- ---- apart and together
+
+pub together-apart : (L : List Lock) → together (apart L .readers) (apart L .claimants) (apart L .exclusives) ≡ L
+together-apart [] = refl
+together-apart (l ∷ L) = ap (λ (r : List Lock). l ∷ r) (together-apart L)
+
+pub apart-injective : (L M : List Lock) → apart L ≡ apart M → L ≡ M
+apart-injective L M e = sym (together-apart L) ∙ ap (λ (K : Locks). together (K .readers) (K .claimants) (K .exclusives)) e ∙ together-apart M
+
+-- ---- one call, on three lists and on records
+
+-- x is what the number slices are left with, of a store whose three lists are the run L taken apart; y is what the run is left with
+module _ (cs : List ℕ) (x : Left Locks) (y : Left (List Lock)) (same : outcome (y .answer) (storeOn (y .values) cs (y .locks) (y .logs) (y .sessions))
+    ≡ outcome (x .answer) (storeOf (x .values) cs (x .locks .readers) (x .locks .claimants) (x .locks .exclusives) (x .logs) (x .sessions))) where
+  -- the same answer, values, logs and records; and the records are the lists put together
+  agrees : y ≡ record { answer = x .answer; values = x .values; locks = together (x .locks .readers) (x .locks .claimants) (x .locks .exclusives); logs = x .logs; sessions = x .sessions }
+  agrees =
+      let a = ap (λ (o : Outcome). o .answer) same in
+      let v = ap (λ (o : Outcome). o .store .lent .values) same in
+      let l = ap (λ (o : Outcome). o .store .lent .locks) same in
+      let w = ap (λ (o : Outcome). o .store .lent .logs) same in
+      let s = ap (λ (o : Outcome). o .store .sessions) same in
+      let k = sym (together-apart (y .locks)) ∙ ap (λ (K : Locks). together (K .readers) (K .claimants) (K .exclusives)) l in
+      rw (← a, ← v, ← w, ← s, ← k)
+
+-- a call, by the contracts of the two forms
+pub calls-agree : (k : Call) (vs cs : List ℕ) (L : List Lock) (W : List ℕ) (ss : Sessions) (x : Left Locks) (y : Left (List Lock))
+    → outcome (x .answer) (storeOf (x .values) cs (x .locks .readers) (x .locks .claimants) (x .locks .exclusives) (x .logs) (x .sessions))
+    ≡ taken k (storeOf vs cs (apart L .readers) (apart L .claimants) (apart L .exclusives) W ss)
+    → outcome (y .answer) (storeOn (y .values) cs (y .locks) (y .logs) (y .sessions)) ≡ taken k (storeOn vs cs L W ss)
+    → y ≡ record { answer = x .answer; values = x .values; locks = together (x .locks .readers) (x .locks .claimants) (x .locks .exclusives); logs = x .logs; sessions = x .sessions }
+calls-agree k vs cs L W ss x y e f = agrees cs x y (f ∙ sym e)
+
+-- set-up
+pub set-ups-agree : (vs cs : List ℕ) (L : List Lock) (W : List ℕ) (ss : Sessions) (x : Left Locks) (y : Left (List Lock))
+    → outcome (x .answer) (storeOf (x .values) cs (x .locks .readers) (x .locks .claimants) (x .locks .exclusives) (x .logs) (x .sessions))
+    ≡ setUpTaken (storeOf vs cs (apart L .readers) (apart L .claimants) (apart L .exclusives) W ss)
+    → outcome (y .answer) (storeOn (y .values) cs (y .locks) (y .logs) (y .sessions)) ≡ setUpTaken (storeOn vs cs L W ss)
+    → y ≡ record { answer = x .answer; values = x .values; locks = together (x .locks .readers) (x .locks .claimants) (x .locks .exclusives); logs = x .logs; sessions = x .sessions }
+set-ups-agree vs cs L W ss x y e f = agrees cs x y (f ∙ sym e)
+
+-- a peek goes by the plan, and the plans are the same
+pub plans-agree : (k : Call) (vs cs : List ℕ) (L : List Lock) (W : List ℕ) (ss : Sessions)
+    → planOf k (storeOn vs cs L W ss) ≡ planOf k (storeOf vs cs (apart L .readers) (apart L .claimants) (apart L .exclusives) W ss)
+plans-agree k vs cs L W ss = refl
+
+-- ---- a list of calls on the run
+
+-- its events and what it leaves are the model's
+pub ran-is : (x : Kept) {ks : List Call} {h : List Event} {y : Kept} → Ran x ks h y → (h ≡ history (whole x) ks) × (whole y ≡ run (whole x) ks)
+unfolding history run taken
+ran-is x none = (refl, refl)
+ran-is x (then r k a y e) =
+    let i = ran-is x r in
+    let f = ap (λ (o : Outcome). o .answer) e in
+    let g = ap (λ (o : Outcome). o .store) e in
+    (rw (f, i .0, i .1), g ∙ ap (step k) (i .1))
+
+-- demand 3, of calls on the run after a set-up on the run that was answered 100
+pub demand3-on-run : (x y : Kept) (a : Answer) → outcome a (whole y) ≡ setUpTaken (whole x) → number a ≡ 100
+    → (calls : List Call) (h : List Event) (z : Kept) → Ran y (reverse calls) h z
+    → Isolated (y .values) h × HoldsAtCommit (whole y) (reverse calls)
+unfolding setUpTaken
+demand3-on-run x y a e n calls h z r =
+    let f = ap (λ (o : Outcome). o .answer) e in
+    let g : whole y ≡ setUp (whole x) = ap (λ (o : Outcome). o .store) e in
+    let d = subst (λ (σ : Store). Demand3 σ calls) (sym g) (demand3 (whole x) (ap number (sym f) ∙ n) calls) in
+    (rw (ran-is y r .0) (d .isolated), d .locks)

@@ -1,0 +1,124 @@
+-- Changing lock records in turn is, taken apart, what the model does to its three lists.
+use mathlib.Core.Path.{_≡_, refl, sym, ap, _∙_}
+use mathlib.Core.Bool.{Bool, true, false, not, cond}
+use mathlib.Core.List.{List, [], _∷_, _++_, append-nil}
+use Prim.Native.Nat.{ℕ, zero, suc, _<_, _≤_}
+use native.Mathlib.Nat.{not-suc-le-zero, le-of-suc-le-suc}
+use native.Mathlib.Omega.{arith}
+use lib.ListN.{length, getD, set, drop, length-set, replicate, drop-of-length-le}
+use Rattle.model.specs.Buffers.{Locks, free, cellAt, publishesIn, lockAt, setLock, lockOn, sweep, join, leave, vacate, withdraw, claim, own}
+use Rattle.model.specs.declared.Lock.{Lock}
+use Rattle.model.proofs.Tools.{test}
+use Rattle.lockrun.specs.declared.Change.{Change}
+use Rattle.lockrun.specs.declared.Change.the-variants.{Keep, Join, Claim, Own, Vacate, Withdraw, Leave, Clear}
+use Rattle.lockrun.specs.Run.{each, apart, lockIn, turnsOf, cellOf, changeOf, changedAt, swept, sweptBy}
+use Rattle.lockrun.proofs.Row.{set-past}
+
+-- ---- one field of every record
+
+pub each-length : (f : Lock → ℕ) (L : List Lock) → length (each f L) ≡ length L
+each-length f [] = refl
+each-length f (l ∷ L) = ap suc (each-length f L)
+
+each-set : (f : Lock → ℕ) (L : List Lock) (c : ℕ) (l : Lock) → each f (set L c l) ≡ set (each f L) c (f l)
+each-set f [] c l = refl
+each-set f (k ∷ L) zero l = refl
+each-set f (k ∷ L) (suc c) l = ap (λ (r : List ℕ). f k ∷ r) (each-set f L c l)
+
+each-at : (f : Lock → ℕ) (L : List Lock) (c : ℕ) → getD (each f L) c (f free) ≡ f (lockIn L c)
+each-at f [] c = refl
+each-at f (l ∷ L) zero = refl
+each-at f (l ∷ L) (suc c) = each-at f L c
+
+each-replicate : (f : Lock → ℕ) (n : ℕ) (l : Lock) → each f (replicate n l) ≡ replicate n (f l)
+each-replicate f zero l = refl
+each-replicate f (suc n) l = ap (λ (r : List ℕ). f l ∷ r) (each-replicate f n l)
+
+-- ---- one lock
+
+pub apart-at : (L : List Lock) (c : ℕ) → lockAt (apart L) c ≡ lockIn L c
+unfolding lockAt
+apart-at L c = rw (each-at (λ l. l .readers) L c, each-at (λ l. l .claimant) L c, each-at (λ l. l .exclusive) L c)
+
+pub apart-set : (L : List Lock) (c : ℕ) (l : Lock) → apart (set L c l) ≡ setLock c l (apart L)
+unfolding setLock
+apart-set L c l = rw (each-set (λ l. l .readers) L c l, each-set (λ l. l .claimant) L c l, each-set (λ l. l .exclusive) L c l)
+
+-- a lock changed by f
+apart-on : (f : Lock → Lock) (L : List Lock) (c : ℕ) → apart (set L c (f (lockIn L c))) ≡ lockOn c f (apart L)
+unfolding lockOn
+apart-on f L c = apart-set L c (f (lockIn L c)) ∙ ap (λ (l : Lock). setLock c (f l) (apart L)) (sym (apart-at L c))
+
+-- ---- all of a change
+
+pub keeps-all : (W : List ℕ) (L : List Lock) → sweptBy W Keep L ≡ L
+unfolding turnsOf swept
+keeps-all W L = refl
+
+module _ (W : List ℕ) (s c : ℕ) (L : List Lock) where
+  pub joins : apart (sweptBy W (Join s c) L) ≡ lockOn c (join s) (apart L)
+  unfolding turnsOf swept cellOf changeOf
+  joins = apart-on (join s) L c
+
+  pub claims : apart (sweptBy W (Claim s c) L) ≡ lockOn c (claim s) (apart L)
+  unfolding turnsOf swept cellOf changeOf
+  claims = apart-on (claim s) L c
+
+  pub owns : apart (sweptBy W (Own s c) L) ≡ lockOn c (own s) (apart L)
+  unfolding turnsOf swept cellOf changeOf
+  owns = apart-on (own s) L c
+
+  pub vacates : apart (sweptBy W (Vacate s c) L) ≡ lockOn c (vacate s) (apart L)
+  unfolding turnsOf swept cellOf changeOf
+  vacates = apart-on (vacate s) L c
+
+module _ (W : List ℕ) (s m : ℕ) (L : List Lock) where
+  withdraws-to : (k : ℕ) → apart (swept W (Withdraw s m) k L) ≡ sweep (λ c. true) (withdraw s) (cellAt W s) k (apart L)
+  unfolding swept sweep cellOf changeOf
+  withdraws-to zero = refl
+  withdraws-to (suc k) = apart-on (withdraw s) (swept W (Withdraw s m) k L) (cellAt W s k) ∙ ap (lockOn (cellAt W s k) (withdraw s)) (withdraws-to k)
+
+  pub withdraws : apart (sweptBy W (Withdraw s m) L) ≡ sweep (λ c. true) (withdraw s) (cellAt W s) m (apart L)
+  unfolding turnsOf
+  withdraws = withdraws-to m
+
+  -- no cell of the run is 1,024
+  module _ (few : length L ≤ 1024) where
+    still : (k : ℕ) → length (swept W (Leave s m) k L) ≡ length L
+    unfolding swept
+    still zero = refl
+    still (suc k) = length-set (swept W (Leave s m) k L) _ _ ∙ still k
+
+    leaves-to : (k : ℕ) → apart (swept W (Leave s m) k L) ≡ sweep (λ c. not (publishesIn W s m c)) (leave s) (cellAt W s) k (apart L)
+    unfolding swept sweep cellOf changeOf
+    leaves-to zero = refl
+    leaves-to (suc k) =
+        test (publishesIn W s m (cellAt W s k))
+        (λ e. let l = still k in rw e (ap apart (set-past (swept W (Leave s m) k L) 1024 _ (omega arith)) ∙ leaves-to k))
+        (λ e. rw e (apart-on (leave s) (swept W (Leave s m) k L) (cellAt W s k) ∙ ap (lockOn (cellAt W s k) (leave s)) (leaves-to k)))
+
+    pub leaves : apart (sweptBy W (Leave s m) L) ≡ sweep (λ c. not (publishesIn W s m c)) (leave s) (cellAt W s) m (apart L)
+    unfolding turnsOf
+    leaves = leaves-to m
+
+-- ---- all locks empty
+
+fill : (k : ℕ) (L : List Lock) → k < length L → set (replicate k free ++ drop k L) k free ≡ replicate (suc k) free ++ drop (suc k) L
+fill k [] h = absurd (not-suc-le-zero h)
+fill zero (l ∷ L) h = refl
+fill (suc k) (l ∷ L) h = ap (λ (r : List Lock). free ∷ r) (fill k L (le-of-suc-le-suc h))
+
+module _ (W : List ℕ) (n : ℕ) (L : List Lock) where
+  clears-to : (k : ℕ) → k ≤ length L → swept W (Clear n) k L ≡ replicate k free ++ drop k L
+  unfolding swept cellOf changeOf
+  clears-to zero h = refl
+  clears-to (suc k) h =
+      ap (λ (r : List Lock). set r k free) (clears-to k (omega arith)) ∙ fill k L h
+
+  module _ (long : length L ≡ n) where
+    cleared : sweptBy W (Clear n) L ≡ replicate n free
+    unfolding turnsOf
+    cleared = let h : length L ≤ n = omega arith in clears-to n (omega arith) ∙ rw (drop-of-length-le L h, append-nil)
+
+    pub clears : (f : Lock → ℕ) → each f (sweptBy W (Clear n) L) ≡ replicate (length (each f L)) (f free)
+    clears f = rw (cleared, each-length f L, long) (each-replicate f n free)

@@ -1,0 +1,14 @@
+pub mod Again
+pub mod Lent
+pub mod Row
+pub mod Leave
+pub mod Short
+pub mod Calls
+pub mod Passed
+pub mod Changes
+pub mod Ways
+pub mod AdvanceWays
+pub mod Cells
+pub mod SetUps
+pub mod Taken
+pub mod Agreement

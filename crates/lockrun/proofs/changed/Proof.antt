@@ -1,0 +1,114 @@
+-- `lockrun::changed` meets its contract: one arm for each change, by the function of crate `locks` that makes it.
+use Rattle.lockrun.specs.Run.{Known, changeOf}
+use borrow.Author.Needs.{needs}
+use Rattle.lockrun.proofs.changed.Statement.{statement}
+use Rattle.lockrun.proofs.changed.Tie as tie
+use Rattle.lockrun.proofs.changed.Reads as reads
+use Rattle.lockrun.proofs.changed.Lts as lts
+use Rattle.locks.proofs.claimed.Reads as claimed-reads
+use Rattle.locks.proofs.joined.Reads as joined-reads
+use Rattle.locks.proofs.left.Reads as left-reads
+use Rattle.locks.proofs.owned.Reads as owned-reads
+use Rattle.locks.proofs.vacated.Reads as vacated-reads
+use Rattle.locks.proofs.withdrawn.Reads as withdrawn-reads
+
+enum-told : tie.Need-enum-told
+enum-told c = search needs
+
+enum-known-change : tie.Need-enum-known-change
+enum-known-change c = search needs
+
+joined-requires : tie.Need-joined-requires
+joined-requires c κs = rw (c .before .change .given .1) at (c .before .before .before .pre)
+
+enum-known-change-2 : tie.Need-enum-known-change-2
+enum-known-change-2 c = search needs
+
+claimed-requires : tie.Need-claimed-requires
+claimed-requires c κs = search needs
+
+enum-known-change-3 : tie.Need-enum-known-change-3
+enum-known-change-3 c = search needs
+
+owned-requires : tie.Need-owned-requires
+owned-requires c κs = search needs
+
+enum-known-change-4 : tie.Need-enum-known-change-4
+enum-known-change-4 c = search needs
+
+vacated-requires : tie.Need-vacated-requires
+vacated-requires c κs = rw (c .before .change4 .given .1) at (c .before .before .before .pre)
+
+enum-known-change-5 : tie.Need-enum-known-change-5
+enum-known-change-5 c = search needs
+
+withdrawn-requires : tie.Need-withdrawn-requires
+withdrawn-requires c κs = rw (c .before .change5 .given .1) at (c .before .before .before .pre)
+
+enum-known-change-6 : tie.Need-enum-known-change-6
+enum-known-change-6 c = search needs
+
+left-requires : tie.Need-left-requires
+left-requires c κs = rw (c .before .change6 .given .1) at (c .before .before .before .pre)
+
+enum-told-2 : tie.Need-enum-told-2
+enum-told-2 c = search needs
+
+returns : tie.Need-returns
+unfolding changeOf
+returns c = search needs
+
+returns-2 : tie.Need-returns-2
+unfolding changeOf
+returns-2 c = rw (c .before .before .change .given .1) (c .joined .ensures)
+
+returns-3 : tie.Need-returns-3
+unfolding changeOf
+returns-3 c = rw (c .before .before .change2 .given .1) (c .claimed .ensures)
+
+returns-4 : tie.Need-returns-4
+unfolding changeOf
+returns-4 c = rw (c .before .before .change3 .given .1) (c .owned .ensures)
+
+returns-5 : tie.Need-returns-5
+unfolding changeOf
+returns-5 c = rw (c .before .before .change4 .given .1) (c .vacated .ensures)
+
+returns-6 : tie.Need-returns-6
+unfolding changeOf
+returns-6 c = rw (c .before .before .change5 .given .1) (c .withdrawn .ensures)
+
+returns-7 : tie.Need-returns-7
+unfolding changeOf
+returns-7 c = rw (c .before .before .change6 .given .1) (c .left .ensures)
+
+returns-8 : tie.Need-returns-8
+unfolding changeOf
+returns-8 c = rw (c .enum-told2 .given .1)
+
+pub changed-spec : {M : Type 1} → statement M
+changed-spec =
+    tie.close
+    (tie.spec
+    enum-told
+    enum-known-change
+    joined-requires
+    enum-known-change-2
+    claimed-requires
+    enum-known-change-3
+    owned-requires
+    enum-known-change-4
+    vacated-requires
+    enum-known-change-5
+    withdrawn-requires
+    enum-known-change-6
+    left-requires
+    enum-told-2
+    returns
+    returns-2
+    returns-3
+    returns-4
+    returns-5
+    returns-6
+    returns-7
+    returns-8)

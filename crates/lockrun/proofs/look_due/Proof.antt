@@ -1,0 +1,33 @@
+-- `lockrun::look_due` meets its contract: the cell is that of the entry that was found.
+use Rattle.lockrun.specs.Turns.{Found, cellDue, lookAt}
+use borrow.Author.Needs.{needs}
+use Rattle.lockrun.proofs.look_due.Statement.{statement}
+use Rattle.lockrun.proofs.look_due.Tie as tie
+use Rattle.lockrun.proofs.look_due.Reads as reads
+use Rattle.lockrun.proofs.look_due.Lts as lts
+use Rattle.lockrun.proofs.entry_cell.Reads as entry-cell-reads
+
+enum-told : tie.Need-enum-told
+enum-told c = search needs
+
+enum-known-entry : tie.Need-enum-known-entry
+enum-known-entry c = search needs
+
+cast-entry-cell : tie.Need-cast-entry-cell
+cast-entry-cell c = search needs
+
+entry-cell-requires : tie.Need-entry-cell-requires
+entry-cell-requires c κs = rw (c .before .entry .given .1) at (c .before .before .before .before .pre)
+
+returns : tie.Need-returns
+unfolding lookAt cellDue
+returns c = rw (c .enum-told .given .1)
+
+returns-2 : tie.Need-returns-2
+unfolding lookAt cellDue
+returns-2 c = rw (c .entry-cell .ensures, c .before .before .entry .given .1)
+
+pub look-due-spec : {M : Type 1} → statement M
+look-due-spec =
+    tie.close
+    (tie.spec enum-told enum-known-entry cast-entry-cell entry-cell-requires returns returns-2)

@@ -1,0 +1,23 @@
+-- `lockrun::peek_turn` meets its contract: a refusal is the plan's, and any other plan of a peek answers 100.
+use Rattle.lockrun.proofs.Ways.{peek-turns, peek-shows}
+use borrow.Author.Needs.{needs}
+use Rattle.lockrun.proofs.peek_turn.Statement.{statement}
+use Rattle.lockrun.proofs.peek_turn.Tie as tie
+use Rattle.lockrun.proofs.peek_turn.Reads as reads
+use Rattle.lockrun.proofs.peek_turn.Lts as lts
+use Rattle.lockrun.proofs.peek_plan.Reads as peek-plan-reads
+
+peek-plan-requires : tie.Need-peek-plan-requires
+peek-plan-requires c κs = search needs
+
+enum-known-p : tie.Need-enum-known-p
+enum-known-p c = search needs
+
+returns : tie.Need-returns
+returns c = let a = c .before .before .before .before .before .args in peek-turns (a .n) (a .classes) (a .locks) (a .logs .now) (a .sessions) (a .session) (a .cell) _ (c .before .before .before .peek-plan .ensures) _ (c .before .p .given .1)
+
+returns-2 : tie.Need-returns-2
+returns-2 c = let a = c .before .before .before .args in peek-shows (a .n) (a .classes) (a .locks) (a .logs .now) (a .sessions) (a .session) (a .cell) _ (c .before .peek-plan .ensures) (c .match .keys2)
+
+pub peek-turn-spec : {M : Type 1} → statement M
+peek-turn-spec = tie.close (tie.spec peek-plan-requires enum-known-p returns returns-2)

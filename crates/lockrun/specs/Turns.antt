@@ -1,0 +1,97 @@
+-- What the covered part of a call sees of the run is its length and one lock. So what it ensures, it ensures of every run of that length with that lock.
+use mathlib.Core.Path.{_≡_}
+use Prim.Native.Nat.{ℕ, _<_}
+use mathlib.Core.Bool.{cond}
+use mathlib.Core.List.{List}
+use lib.Dec.{ltb}
+use lib.ListN.{length}
+use denote.Ref.{RefT}
+use Rattle.model.specs.Buffers.{sessionAt, cellAt}
+use Rattle.model.specs.Step.{outcome, taken, setUpTaken, planOf, shown}
+use Rattle.model.specs.declared.Lock.{Lock}
+use Rattle.model.specs.declared.Sessions.{Sessions}
+use Rattle.model.specs.declared.Reply.{Reply}
+use Rattle.model.specs.declared.Answer.{Answer}
+use Rattle.model.specs.declared.Plan.{Plan}
+use Rattle.model.specs.declared.Call.{Call}
+use Rattle.model.specs.declared.Call.the-variants.{Begin, Read, Write, Seal, Advance, Abandon, Peek}
+use Rattle.log.specs.Slots.{part}
+use Rattle.decide.specs.declared.Due.{Due}
+use Rattle.decide.specs.declared.Due.the-variants.{Refused, Slot}
+use Rattle.decide.specs.Own.{lengthsOn, dueOn}
+use Rattle.store.specs.Lent.{Handed}
+use Rattle.lockrun.specs.declared.Change.the-variants.{Keep}
+use Rattle.lockrun.specs.declared.Look.{Look}
+use Rattle.lockrun.specs.declared.Turn.{Turn}
+use Rattle.lockrun.specs.Run.{storeOn, lockIn, sweptBy, Fits}
+
+-- ---- what is looked at
+
+-- the entry that an advance of session s handles, or its refusal: n values, k classes, m locks
+unfoldable pub dueIn : Sessions → ℕ → ℕ → ℕ → List ℕ → ℕ → Due
+dueIn ss n k m logs s =
+    cond (lengthsOn n k m m m (length logs)) (cond (ltb s 16) (dueOn n (part logs s) (sessionAt ss s)) (Refused 1)) (Refused 7)
+
+-- the cell of that entry
+unfoldable pub cellDue : List ℕ → ℕ → Due → ℕ
+cellDue logs s (Refused k) = 0
+cellDue logs s (Slot k) = cellAt logs s k
+
+-- an entry that was found is one of 32, of one of sixteen sessions, in logs of 2,048 words
+abbrev pub Found : List ℕ → ℕ → Due → Type 0
+Found logs s (Refused k) = Unit
+Found logs s (Slot k) = (s < 16) × (k < 32) × (length logs ≡ 2048)
+
+unfoldable pub lookAt : List ℕ → ℕ → Due → Look
+lookAt logs s d = record { cell = cellDue logs s d; due = d }
+
+unfoldable pub lookOf : Call → Sessions → ℕ → ℕ → ℕ → List ℕ → Look
+lookOf (Begin s) ss n k m logs = record { cell = 0; due = Refused 0 }
+lookOf (Read s c) ss n k m logs = record { cell = c; due = Refused 0 }
+lookOf (Write s c v) ss n k m logs = record { cell = c; due = Refused 0 }
+lookOf (Seal s) ss n k m logs = record { cell = 0; due = Refused 0 }
+lookOf (Advance s) ss n k m logs = lookAt logs s (dueIn ss n k m logs s)
+lookOf (Abandon s) ss n k m logs = record { cell = 0; due = Refused 0 }
+lookOf (Peek s c) ss n k m logs = record { cell = 0; due = Refused 0 }
+
+-- ---- what is done
+
+-- an answer, and a reply, with the run as it was
+abbrev pub tells : Reply → Turn
+tells r = record { reply = r; change = Keep }
+
+abbrev pub keeps : Sessions → Answer → Turn
+keeps ss a = tells (record { answer = a; sessions = ss })
+
+-- the lock of cell c is l, in a run of m; r is what the call has done to all but the run, and what it does to the run
+abbrev pub Turned : Call → List ℕ → List ℕ → ℕ → ℕ → Lock → List ℕ → Sessions → List ℕ → List ℕ → Turn → Type 0
+Turned call values classes m c l logs sessions values′ logs′ r =
+    (Fits logs′ (r .change))
+    × ((L : List Lock) → length L ≡ m → lockIn L c ≡ l
+    → outcome (r .reply .answer) (storeOn values′ classes (sweptBy logs′ (r .change) L) logs′ (r .reply .sessions))
+    ≡ taken call (storeOn values classes L logs sessions))
+
+-- a call that leaves the run, the values and the logs as they are
+abbrev pub Answered : Call → ℕ → ℕ → ℕ → List ℕ → Sessions → Reply → Type 0
+Answered call n k m logs sessions r =
+    (values classes : List ℕ) (L : List Lock) → length values ≡ n → length classes ≡ k → length L ≡ m
+    → outcome (r .answer) (storeOn values classes L logs (r .sessions)) ≡ taken call (storeOn values classes L logs sessions)
+
+-- set-up
+abbrev pub SetUp : List ℕ → List ℕ → ℕ → List ℕ → Sessions → List ℕ → Turn → Type 0
+SetUp values classes m logs sessions logs′ r =
+    (Fits logs′ (r .change))
+    × ((L : List Lock) → length L ≡ m
+    → outcome (r .reply .answer) (storeOn values classes (sweptBy logs′ (r .change) L) logs′ (r .reply .sessions))
+    ≡ setUpTaken (storeOn values classes L logs sessions))
+
+-- a peek's plan, and its part
+abbrev pub Peeks : ℕ → ℕ → ℕ → List ℕ → Sessions → ℕ → ℕ → Plan → Type 0
+Peeks n k m logs sessions s c p =
+    (values classes : List ℕ) (L : List Lock) → length values ≡ n → length classes ≡ k → length L ≡ m
+    → p ≡ planOf (Peek s c) (storeOn values classes L logs sessions)
+
+abbrev pub HandsBack : RefT (List ℕ) → ℕ → ℕ → RefT (List ℕ) → Sessions → ℕ → ℕ → RefT (List ℕ) → Type 0
+HandsBack values k m logs sessions s c r =
+    (classes : List ℕ) (L : List Lock) → length classes ≡ k → length L ≡ m
+    → Handed values logs (shown s (planOf (Peek s c) (storeOn (values .now) classes L (logs .now) sessions))) r
