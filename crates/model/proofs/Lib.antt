@@ -27,3 +27,4 @@ pub mod SerialLocks
 pub mod SerialCalls
 pub mod Serial
 pub mod SerialExamples
+pub mod Twin
