@@ -1,0 +1,61 @@
+#!/usr/bin/env bash
+# The orders of document 01 that are not starred, run by the proved replay, and the numbers that no replay shows, run by the calls for C; what
+# they print is held to what is stored or said here. The programs are built before (rt ci, tests/40-store.sh).
+set -uo pipefail
+cd "$(dirname "$0")/.."
+
+work=$PWD/target/orders
+mkdir -p "$work"
+passed=0
+failed=0
+
+check() {
+    local name=$1
+    shift
+    if "$@" >"$work/log" 2>&1; then
+        echo "passed: $name"
+        passed=$((passed + 1))
+    else
+        echo "FAILED: $name"
+        tail -n 10 "$work/log"
+        failed=$((failed + 1))
+    fi
+}
+
+# cells N: N starting cells of class 2 and value 3.
+cells() {
+    local i
+    for ((i = 0; i < $1; i++)); do echo "cell 2 3"; done
+}
+
+# prints TEXT EXPECTED [LINES]: the replay of a text prints these lines, or begins with them.
+prints() {
+    tools/calls encode <"$1" >"$work/fields" && target/bin/replay <"$work/fields" >"$work/printed" && head -n "${3:-100000}" "$work/printed" | diff "$2" -
+}
+
+{ cells 3; printf 'begin 0\nread 0 2\nread 0 3\n'; } >"$work/edge.txt"
+printf '1 100\n2 101 3\n3 3\nc 0 3\nc 1 3\nc 2 3\n' >"$work/edge.expected"
+check "cell n-1 reads, cell n is 3" prints "$work/edge.txt" "$work/edge.expected"
+
+{ cells 40; echo "begin 0"; for i in $(seq 0 32); do echo "read 0 $i"; done; echo "read 0 5"; } >"$work/full.txt"
+{ echo "1 100"; for i in $(seq 2 33); do echo "$i 101 3"; done; echo "34 5"; echo "35 101 3"; } >"$work/full.expected"
+check "a 32nd new cell reads, a 33rd is 5, a known one still reads" prints "$work/full.txt" "$work/full.expected" 35
+
+{ cells 1024; printf 'begin 0\nread 0 1023\nread 0 1024\n'; } >"$work/most.txt"
+{ printf '1 100\n2 101 3\n3 3\n'; for i in $(seq 0 1023); do echo "c $i 3"; done; } >"$work/most.expected"
+check "n of 1,024 is set up" prints "$work/most.txt" "$work/most.expected"
+
+printf 'begin 0\n' >"$work/none.txt"
+{ cells 1025; printf 'begin 0\n'; } >"$work/many.txt"
+printf 'setup 7\n' >"$work/seven.expected"
+check "n of 0 is 7" prints "$work/none.txt" "$work/seven.expected"
+check "n of 1,025 is 7" prints "$work/many.txt" "$work/seven.expected"
+
+odd_buffers() {
+    [ -e target/staticlib/libexports.a ] || rt staticlib exports
+    gcc -Wall -Wextra -Werror -std=c99 -O2 -Iinclude tests/c/odd_buffers.c target/staticlib/libexports.a -o "$work/odd" && "$work/odd" | diff tests/c/odd_buffers.expected -
+}
+check "numbers 9 and 14 and odd buffers" odd_buffers
+
+echo "$passed passed, $failed failed"
+[ "$failed" -eq 0 ]
