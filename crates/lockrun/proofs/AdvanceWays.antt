@@ -88,15 +88,18 @@ module _ (vs cs W : List ℕ) (ss : Sessions) (m s : ℕ) where
 
   pub advance-turned : (c : ℕ) (l : Lock) (r : ℕ) → Refused r ≡ dueIn ss (length vs) (length cs) m W s → (t : Turn) → t ≡ keeps ss (the-variants.Refused r) → Turned (Advance s) vs cs m c l W ss vs W t
   unfolding turnsOf swept dueIn sessionAt
-  advance-turned c l r e t f = rw f (tt, λ L q g.
-      test fit
-      (λ h. test (ltb s 16)
-      (λ i.
-      let z = all-sized vs cs W ss m fit refl s h (let k = ltb-true s 16 i in omega arith) L q in
-      let d : dueOn (length vs) (cut W s) x ≡ Refused r = rw cut-is (sym (rw (h, i) at e)) in
-      carry-refuse s (storeOn vs cs L W ss) r ∙ carries (Advance s) (storeOn vs cs L W ss) (Refuse r) (due-refused (storeOn vs cs L W ss) s z r d))
-      (λ i. let n : r ≡ 1 = let d = rw (h, i) at e in cc in rw n (refused-1 (storeOn vs cs L W ss) fit (runs-fit (length vs) (length cs) m (length W) fit refl L q) (Advance s) h (let k = ltb-false s 16 i in omega arith))))
-      (λ h. let n : r ≡ 7 = let d = rw h at e in cc in rw n (refused-7 (storeOn vs cs L W ss) fit (runs-fit (length vs) (length cs) m (length W) fit refl L q) (Advance s) h)))
+  advance-turned c l r e t f = rw f (
+    tt,
+    λ L q g.
+        test fit
+        (λ h. test (ltb s 16)
+        (λ i.
+        let z = all-sized vs cs W ss m fit refl s h (let k = ltb-true s 16 i in omega arith) L q in
+        let d : dueOn (length vs) (cut W s) x ≡ Refused r = rw cut-is (sym (rw (h, i) at e)) in
+        carry-refuse s (storeOn vs cs L W ss) r ∙ carries (Advance s) (storeOn vs cs L W ss) (Refuse r) (due-refused (storeOn vs cs L W ss) s z r d))
+        (λ i. let n : r ≡ 1 = let d = rw (h, i) at e in cc in rw n (refused-1 (storeOn vs cs L W ss) fit (runs-fit (length vs) (length cs) m (length W) fit refl L q) (Advance s) h (let k = ltb-false s 16 i in omega arith))))
+        (λ h. let n : r ≡ 7 = let d = rw h at e in cc in rw n (refused-7 (storeOn vs cs L W ss) fit (runs-fit (length vs) (length cs) m (length W) fit refl L q) (Advance s) h)),
+  )
 
   -- ---- at entry k
 

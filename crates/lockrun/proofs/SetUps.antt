@@ -45,8 +45,11 @@ module _ (vs cs W : List ℕ) (ss : Sessions) (m : ℕ) (b : Bool) (e : b ≡ le
 
       pub set-up-done : a ≡ true → (words : List ℕ) (rs : Sessions) → words ≡ replicate (length W) 0 → rs ≡ record { records = replicate 16 idle }
           → SetUp vs cs m W ss words (record { reply = record { answer = Done; sessions = rs }; change = Clear (length vs) })
-      set-up-done i words rs v r = (tt, λ L q.
-          let n : length L ≡ length vs = let l = fits L q .readers in let k = each-length (λ l. l .readers) L in omega arith in
-          set-done (storeOn vs cs L W ss) (sym (fit-is (storeOn vs cs L W ss) b (fit L q)) ∙ h) a g i
-          (each (λ l. l .readers) (sweptBy words (Clear (length vs)) L)) (each (λ l. l .claimant) (sweptBy words (Clear (length vs)) L)) (each (λ l. l .exclusive) (sweptBy words (Clear (length vs)) L)) words rs
-          (clears words (length vs) L n (λ l. l .readers)) (clears words (length vs) L n (λ l. l .claimant)) (clears words (length vs) L n (λ l. l .exclusive)) v r)
+      set-up-done i words rs v r = (
+        tt,
+        λ L q.
+            let n : length L ≡ length vs = let l = fits L q .readers in let k = each-length (λ l. l .readers) L in omega arith in
+            set-done (storeOn vs cs L W ss) (sym (fit-is (storeOn vs cs L W ss) b (fit L q)) ∙ h) a g i
+            (each (λ l. l .readers) (sweptBy words (Clear (length vs)) L)) (each (λ l. l .claimant) (sweptBy words (Clear (length vs)) L)) (each (λ l. l .exclusive) (sweptBy words (Clear (length vs)) L)) words rs
+            (clears words (length vs) L n (λ l. l .readers)) (clears words (length vs) L n (λ l. l .claimant)) (clears words (length vs) L n (λ l. l .exclusive)) v r,
+      )

@@ -120,9 +120,10 @@ module _ (vs cs W : List ℕ) (ss : Sessions) (m s : ℕ) (z : AllSized vs cs W 
       pub read-enters : (i : ℕ) → p ≡ Enter i → (P : List ℕ) (y : Session) → P ≡ appended (cut W s) 0 (x .count) c (getD vs c 0) → y ≡ withEntry x
           → Turned (Read s c) vs cs m c l W ss vs (puts W s P) (ends (Value (getD vs c 0)) y (Join s c))
       read-enters i h P y a f =
-          let n = read-new i h in
-          (one-sized .session,
-          λ L q g. read-entered (record { decided = read-known L q g; inside = n .0; room = n .1; plan = n .2 }) (apart (sweptBy (puts W s P) (Join s c) L)) P y (joins (puts W s P) s c L) a f)
+          let n = read-new i h in (
+            one-sized .session,
+            λ L q g. read-entered (record { decided = read-known L q g; inside = n .0; room = n .1; plan = n .2 }) (apart (sweptBy (puts W s P) (Join s c) L)) P y (joins (puts W s P) s c L) a f,
+          )
 
       pub read-left : Passed 2 p → Passed 0 p → Passed 3 p → Entries (length vs) (cut W s) x × (p ≡ RollBack)
       read-left a b f = when-left chosen 2 3 (λ j. tt) tt a b f
@@ -172,9 +173,10 @@ module _ (vs cs W : List ℕ) (ss : Sessions) (m s : ℕ) (z : AllSized vs cs W 
         pub write-enters : (Q : List ℕ) (y : Session) → Q ≡ updated (cut (puts W s P) s) 0 (x .count) u → y ≡ withEntry x
             → Turned (Write s c v) vs cs m c l W ss vs (puts (puts W s P) s Q) (ends Done y (Join s c))
         write-enters Q y b f =
-            let n = write-new i u h in
-            (one-sized .session,
-            λ L q g. write-entered (record { decided = write-known L q g; inside = n .0; room = n .1; plan = n .2 }) P a i u h Q b (apart (sweptBy (puts (puts W s P) s Q) (Join s c) L)) y (joins (puts (puts W s P) s Q) s c L) f)
+            let n = write-new i u h in (
+              one-sized .session,
+              λ L q g. write-entered (record { decided = write-known L q g; inside = n .0; room = n .1; plan = n .2 }) P a i u h Q b (apart (sweptBy (puts (puts W s P) s Q) (Join s c) L)) y (joins (puts (puts W s P) s Q) s c L) f,
+            )
 
       pub write-left : Passed 4 p → Passed 0 p → Passed 5 p → Entries (length vs) (cut W s) x × (p ≡ RollBack)
       write-left a b f = when-left choice 4 5 (λ j. tt) tt a b f
@@ -194,16 +196,18 @@ module _ (vs cs W : List ℕ) (ss : Sessions) (m s : ℕ) (z : AllSized vs cs W 
       few = seal-entries (length vs) (cut W s) x p e h .count
 
       pub seal-commits : p ≡ CommitReads → (y : Session) → y ≡ idle → Turned (Seal s) vs cs m 0 l W ss vs W (ends Committed y (Leave s (x .count)))
-      seal-commits k y f =
-          ((one-sized .session, few, words),
-          λ L q g. carry-commit-reads s (storeOn vs cs L W ss) (apart (sweptBy W (Leave s (x .count)) L)) y (dropped L q) f ∙ carries (Seal s) (storeOn vs cs L W ss) CommitReads (sym k ∙ planned L q))
+      seal-commits k y f = (
+        (one-sized .session, few, words),
+        λ L q g. carry-commit-reads s (storeOn vs cs L W ss) (apart (sweptBy W (Leave s (x .count)) L)) y (dropped L q) f ∙ carries (Seal s) (storeOn vs cs L W ss) CommitReads (sym k ∙ planned L q),
+      )
 
       pub seal-promotes : Passed 8 p → (y : Session) → y ≡ moveTo 2 0 x → Turned (Seal s) vs cs m 0 l W ss vs W (ends Sealed y (Leave s (x .count)))
       unfolding sessionAt
       seal-promotes k y f =
-          let b = seal-begins (length vs) (cut W s) x p e h k in
-          ((one-sized .session, few, words),
-          λ L q g. carry-begin-promotion s (storeOn vs cs L W ss) (apart (sweptBy W (Leave s (x .count)) L)) y (dropped L q) f ∙ carries (Seal s) (storeOn vs cs L W ss) BeginPromotion (sym b ∙ planned L q))
+          let b = seal-begins (length vs) (cut W s) x p e h k in (
+            (one-sized .session, few, words),
+            λ L q g. carry-begin-promotion s (storeOn vs cs L W ss) (apart (sweptBy W (Leave s (x .count)) L)) y (dropped L q) f ∙ carries (Seal s) (storeOn vs cs L W ss) BeginPromotion (sym b ∙ planned L q),
+          )
 
   -- ---- abandon
   module _ (l : Lock) (r : ℕ) (e : r ≡ tested (recordOn (length vs) (cut W s) x) (eqb (x .phase) 1 || eqb (x .phase) 2)) where
@@ -214,10 +218,11 @@ module _ (vs cs W : List ℕ) (ss : Sessions) (m s : ℕ) (z : AllSized vs cs W 
     pub abandons : r ≡ 0 → (y : Session) → y ≡ idle → Turned (Abandon s) vs cs m 0 l W ss vs W (ends Done y (Withdraw s (x .count)))
     unfolding planOf size sessionAt
     abandons o y f =
-        let few = abandon-entries (storeOn vs cs (replicate m free) W ss) s one-sized r e o .count in
-        ((one-sized .session, few, words),
-        λ L q g. carry-cancel s (storeOn vs cs L W ss) (apart (sweptBy W (Withdraw s (x .count)) L)) y (back L) f
-        ∙ carries (Abandon s) (storeOn vs cs L W ss) Cancel (abandon-passes (storeOn vs cs L W ss .lent) s x (z L q .lengths) (z L q .session) (sym (rw cut-is at e) ∙ o)))
+        let few = abandon-entries (storeOn vs cs (replicate m free) W ss) s one-sized r e o .count in (
+          (one-sized .session, few, words),
+          λ L q g. carry-cancel s (storeOn vs cs L W ss) (apart (sweptBy W (Withdraw s (x .count)) L)) y (back L) f
+              ∙ carries (Abandon s) (storeOn vs cs L W ss) Cancel (abandon-passes (storeOn vs cs L W ss .lent) s x (z L q .lengths) (z L q .session) (sym (rw cut-is at e) ∙ o)),
+        )
 
 -- ---- read and write that are turned down or rolled back: the plan p of call k, decided of every run
 
@@ -229,10 +234,11 @@ module _ (vs cs W : List ℕ) (ss : Sessions) (m : ℕ) (k : Call) (z : AllSized
 
   pub rolls-back : Entries (length vs) (cut W (sessionOf k)) (getD (ss .records) (sessionOf k) idle) × (p ≡ RollBack) → (y : Session) → y ≡ idle
       → Turned k vs cs m c l W ss vs W (ends vs cs W ss m (sessionOf k) z (Refused 6) y (Withdraw (sessionOf k) (getD (ss .records) (sessionOf k) idle .count)))
-  rolls-back w y f =
-      ((one-sized vs cs W ss m (sessionOf k) z .session, w .0 .count, words vs cs W ss m (sessionOf k) z),
-      λ L q g. carry-roll-back (sessionOf k) (storeOn vs cs L W ss) (apart (sweptBy W (Withdraw (sessionOf k) (getD (ss .records) (sessionOf k) idle .count)) L)) y (back vs cs W ss m (sessionOf k) z L) f
-      ∙ carries k (storeOn vs cs L W ss) RollBack (sym (w .1) ∙ d L q g .planned))
+  rolls-back w y f = (
+    (one-sized vs cs W ss m (sessionOf k) z .session, w .0 .count, words vs cs W ss m (sessionOf k) z),
+    λ L q g. carry-roll-back (sessionOf k) (storeOn vs cs L W ss) (apart (sweptBy W (Withdraw (sessionOf k) (getD (ss .records) (sessionOf k) idle .count)) L)) y (back vs cs W ss m (sessionOf k) z L) f
+        ∙ carries k (storeOn vs cs L W ss) RollBack (sym (w .1) ∙ d L q g .planned),
+  )
 
 -- ---- calls that leave the run alone: the lengths are numbers
 

@@ -71,4 +71,3 @@ module _ {M : Type 1} {𝓤 : URA M} {H : Heap 𝓤} {A : Atoms 𝓤} {K : Type 
       rewrite k 1 (λ (ws : List Val). ‵ (cellAt fullShare (Array R n .mir) ws b o)) (array-tells R vals tl n zs us is) refl $ move k (1 ∷ []) $
       use1 W (‵ (fat fullShare (arr R n) b o (only (array-vals vals zs)))) (W .laws .raw-at fullShare (arr R n) b o (only (array-vals vals zs))) $
       then v zs (only (array-vals vals zs)) (subst (Is (Array R n) zs) (array-tells R vals tl n zs us is) is)))))))))
-
