@@ -1,0 +1,2 @@
+pub mod LentArray
+pub mod Run

@@ -1,0 +1,496 @@
+// Runs document 01's listing and a long mixed list twice, on lock records and on number slices, and compares every answer and every word.
+// It writes the listing's answers, then how many calls of the mixed list had each answer, and whether anything ever differed.
+ghost use mathlib.Core.Path.{_≡_};
+ghost use Prim.Native.Nat.{_<_};
+ghost use Rattle.model.specs.Step.{outcome, taken, setUpTaken};
+ghost use Rattle.lockrun.specs.Run.{storeOn};
+use libc::STDOUT_FILENO;
+use model::Answer;
+use model::Call;
+use model::Lock;
+use model::Reply;
+use model::Session;
+use model::Sessions;
+
+// ---- calls on a run that is an array by value, so that whoever calls them is covered
+
+// A reply, and the run as it was left.
+struct Left {
+    reply: Reply,
+    locks: [Lock; 8],
+}
+
+fn set_up_on(
+    sessions: Sessions,
+    values: &[u32],
+    classes: &[u8],
+    locks: [Lock; 8],
+    logs: &mut [u32],
+) -> Left
+    ensures { λ r. ⌜ outcome (r .reply .answer) (storeOn (now (values .entry)) (now (classes .entry)) (r .locks) (now (logs .exit)) (r .reply .sessions)) ≡ setUpTaken (storeOn (now (values .entry)) (now (classes .entry)) locks (now (logs .entry)) sessions) ⌝ }
+{
+    let mut run = locks;
+    let reply = lockrun::set_up(sessions, values, classes, &mut run, logs);
+    Left { reply, locks: run }
+}
+
+fn step_on(
+    call: Call,
+    sessions: Sessions,
+    values: &mut [u32],
+    classes: &[u8],
+    locks: [Lock; 8],
+    logs: &mut [u32],
+) -> Left
+    ensures { λ r. ⌜ outcome (r .reply .answer) (storeOn (now (values .exit)) (now (classes .entry)) (r .locks) (now (logs .exit)) (r .reply .sessions)) ≡ taken call (storeOn (now (values .entry)) (now (classes .entry)) locks (now (logs .entry)) sessions) ⌝ }
+{
+    let mut run = locks;
+    let reply = lockrun::step(call, sessions, values, classes, &mut run, logs);
+    Left { reply, locks: run }
+}
+
+// ---- both forms side by side
+
+// What a call on both forms leaves: the answer on records, whether all was the same, the records of sessions and the run.
+struct Both {
+    answer: Answer,
+    same: bool,
+    slices: Sessions,
+    records: Sessions,
+    locks: [Lock; 8],
+}
+
+fn same_words(a: &[u32], b: &[u32]) -> bool {
+    if a.len() != b.len() {
+        return false;
+    }
+    let mut i = 0;
+    while i < a.len() {
+        if a[i] != b[i] {
+            return false;
+        }
+        i += 1;
+    }
+    true
+}
+
+fn same_locks(locks: [Lock; 8], readers: &[u16], claimants: &[u8], exclusives: &[u8]) -> bool {
+    if readers.len() != 8 {
+        return false;
+    }
+    if claimants.len() != 8 {
+        return false;
+    }
+    if exclusives.len() != 8 {
+        return false;
+    }
+    let mut i: usize = 0;
+    while i < 8 {
+        let l = locks[i];
+        if l.readers != readers[i] {
+            return false;
+        }
+        if l.claimant != claimants[i] {
+            return false;
+        }
+        if l.exclusive != exclusives[i] {
+            return false;
+        }
+        i += 1;
+    }
+    true
+}
+
+fn same_sessions(a: Sessions, b: Sessions) -> bool {
+    let mut i: usize = 0;
+    while i < 16 {
+        let x = a.records[i];
+        let y = b.records[i];
+        if x.phase != y.phase {
+            return false;
+        }
+        if x.count != y.count {
+            return false;
+        }
+        if x.next != y.next {
+            return false;
+        }
+        i += 1;
+    }
+    true
+}
+
+// The number of an answer.
+fn number(a: Answer) -> u32 {
+    match a {
+        Answer::Done => 100,
+        Answer::Value(_) => 101,
+        Answer::Sealed => 102,
+        Answer::Moved => 103,
+        Answer::Waiting => 104,
+        Answer::Committed => 105,
+        Answer::Refused(n) => wide(n),
+    }
+}
+
+fn wide(n: u8) -> u32 {
+    n as u32
+}
+
+// The value of an answer, 0 except with 101.
+fn value(a: Answer) -> u32 {
+    match a {
+        Answer::Value(v) => v,
+        _ => 0,
+    }
+}
+
+fn same_answers(a: Answer, b: Answer) -> bool {
+    if number(a) != number(b) {
+        return false;
+    }
+    value(a) == value(b)
+}
+
+// One call on both forms, and all compared.
+fn call_both(
+    call: Call,
+    slices: Sessions,
+    records: Sessions,
+    classes: &[u8],
+    values: &mut [u32],
+    readers: &mut [u16],
+    claimants: &mut [u8],
+    exclusives: &mut [u8],
+    logs: &mut [u32],
+    values2: &mut [u32],
+    locks: [Lock; 8],
+    logs2: &mut [u32],
+) -> Both {
+    let a = store::step(
+        call,
+        slices,
+        values,
+        classes,
+        readers,
+        claimants,
+        exclusives,
+        logs,
+    );
+    let b = step_on(call, records, values2, classes, locks, logs2);
+    let reply = b.reply;
+    let run = b.locks;
+    let same = all_same(
+        a,
+        reply,
+        &values[..],
+        &values2[..],
+        run,
+        &readers[..],
+        &claimants[..],
+        &exclusives[..],
+        &logs[..],
+        &logs2[..],
+    );
+    let answer = reply.answer;
+    let x = a.sessions;
+    let y = reply.sessions;
+    Both {
+        answer,
+        same,
+        slices: x,
+        records: y,
+        locks: run,
+    }
+}
+
+fn all_same(
+    a: Reply,
+    b: Reply,
+    values: &[u32],
+    values2: &[u32],
+    locks: [Lock; 8],
+    readers: &[u16],
+    claimants: &[u8],
+    exclusives: &[u8],
+    logs: &[u32],
+    logs2: &[u32],
+) -> bool {
+    let x = a.answer;
+    let y = b.answer;
+    if !same_answers(x, y) {
+        return false;
+    }
+    let s = a.sessions;
+    let t = b.sessions;
+    if !same_sessions(s, t) {
+        return false;
+    }
+    if !same_words(values, values2) {
+        return false;
+    }
+    if !same_locks(locks, readers, claimants, exclusives) {
+        return false;
+    }
+    same_words(logs, logs2)
+}
+
+// ---- the calls
+
+// Document 01's listing.
+fn listing(i: usize) -> Call {
+    match i {
+        0 => Call::Begin(0),
+        1 => Call::Begin(1),
+        2 => Call::Read(0, 0),
+        3 => Call::Read(1, 0),
+        4 => Call::Write(0, 0, 4),
+        5 => Call::Write(1, 0, 2),
+        6 => Call::Seal(0),
+        7 => Call::Seal(1),
+        8 => Call::Advance(0),
+        9 => Call::Advance(1),
+        _ => Call::Advance(0),
+    }
+}
+
+// The next number of a sequence that a seed fixes, and fifteen binary digits of one.
+fn next(seed: u32) -> u32 {
+    let x = (seed as u64) * 1103515245 + 12345;
+    (x % 2147483648) as u32
+}
+
+fn digits(seed: u32) -> u32 {
+    seed / 65536
+}
+
+// A call of the mixed list: any kind, sessions 0 to 3 and now and then 16, cells 0 to 8 of eight, values 0 to 13.
+fn mixed(seed: u32) -> Call {
+    let b = next(seed);
+    let d = next(b);
+    let kind = digits(seed) % 16;
+    let session = of_session(digits(b) % 33);
+    let cell = digits(b) / 64 % 9;
+    let v = digits(d) % 14;
+    if kind < 2 {
+        return Call::Begin(session);
+    }
+    if kind < 5 {
+        return Call::Read(session, cell);
+    }
+    if kind < 9 {
+        return Call::Write(session, cell, v);
+    }
+    if kind < 10 {
+        return Call::Seal(session);
+    }
+    if kind < 14 {
+        return Call::Advance(session);
+    }
+    if kind < 15 {
+        return Call::Peek(session, cell);
+    }
+    if v < 4 {
+        return Call::Abandon(session);
+    }
+    Call::Seal(session)
+}
+
+// The listing, then the mixed list.
+fn call_at(i: usize, seed: u32) -> Call {
+    if i < 13 {
+        return listing(i);
+    }
+    mixed(seed)
+}
+
+fn of_session(x: u32) -> u8 {
+    if x == 32 {
+        return 16;
+    }
+    (x % 4) as u8
+}
+
+// ---- what is written
+
+// The last decimal digit of a number.
+fn digit(x: u32) -> u8 {
+    b'0' + (x % 10) as u8
+}
+
+// A number below 10,000 in decimal, and a byte after it.
+fn print(x: u32, after: u8) {
+    if x < 10 {
+        let text = [digit(x), after];
+        io::write_all(STDOUT_FILENO, &text);
+        return;
+    }
+    if x < 100 {
+        let text = [digit(x / 10), digit(x), after];
+        io::write_all(STDOUT_FILENO, &text);
+        return;
+    }
+    if x < 1000 {
+        let text = [digit(x / 100), digit(x / 10), digit(x), after];
+        io::write_all(STDOUT_FILENO, &text);
+        return;
+    }
+    let text = [
+        digit(x / 1000),
+        digit(x / 100),
+        digit(x / 10),
+        digit(x),
+        after,
+    ];
+    io::write_all(STDOUT_FILENO, &text);
+}
+
+fn print_answer(i: u32, a: Answer) {
+    print(i, b' ');
+    if number(a) == 101 {
+        print(101, b' ');
+        print(value(a), b'\n');
+        return;
+    }
+    print(number(a), b'\n');
+}
+
+// Where an answer is counted: good ones from 0, a refusal by its number from 6.
+fn place(a: Answer) -> usize
+    ensures { λ r. ⌜ r < 22 ⌝ }
+{
+    match a {
+        Answer::Done => 0,
+        Answer::Value(_) => 1,
+        Answer::Sealed => 2,
+        Answer::Moved => 3,
+        Answer::Waiting => 4,
+        Answer::Committed => 5,
+        Answer::Refused(n) => refusal(n),
+    }
+}
+
+fn refusal(n: u8) -> usize
+    ensures { λ r. ⌜ r < 22 ⌝ }
+{
+    if n < 16 {
+        return n as usize + 6;
+    }
+    6
+}
+
+// How many calls had the answer of each place.
+struct Counts {
+    all: [u32; 22],
+}
+
+// The listing's answers are written, the others counted.
+fn noted(counts: [u32; 22], i: usize, answer: Answer) -> Counts {
+    if i < 13 {
+        print_answer(i as u32 + 1, answer);
+        return Counts { all: counts };
+    }
+    let mut more = counts;
+    let k = place(answer);
+    more[k] = std::num::wrapping_add_u32(more[k], 1);
+    Counts { all: more }
+}
+
+fn print_counts(counts: [u32; 22]) {
+    let mut i: usize = 0;
+    while i < 22 {
+        let n = counts[i];
+        if 0 < n {
+            if i < 6 {
+                print(100 + i as u32, b' ');
+            } else {
+                print(i as u32 - 6, b' ');
+            }
+            print(n, b'\n');
+        }
+        i += 1;
+    }
+}
+
+fn main() {
+    let classes = [2u8, 2, 2, 3, 4, 5, 6, 0];
+    let mut values = [3u32, 5, 0, 1, 2, 3, 4, 1];
+    let mut values2 = [3u32, 5, 0, 1, 2, 3, 4, 1];
+    let mut readers = [7u16; 8];
+    let mut claimants = [7u8; 8];
+    let mut exclusives = [7u8; 8];
+    let mut logs = [7u32; 2048];
+    let mut logs2 = [7u32; 2048];
+    let start = [Session {
+        phase: 9,
+        count: 9,
+        next: 9,
+    }; 16];
+    let sessions = Sessions { records: start };
+    let mut locks = [Lock {
+        readers: 7,
+        claimant: 7,
+        exclusive: 7,
+    }; 8];
+    let a = store::set_up(
+        sessions,
+        &values,
+        &classes,
+        &mut readers,
+        &mut claimants,
+        &mut exclusives,
+        &mut logs,
+    );
+    let b = set_up_on(sessions, &values2, &classes, locks, &mut logs2);
+    let reply = b.reply;
+    locks = b.locks;
+    let mut same = all_same(
+        a,
+        reply,
+        &values,
+        &values2,
+        locks,
+        &readers,
+        &claimants,
+        &exclusives,
+        &logs,
+        &logs2,
+    );
+    let mut slices = a.sessions;
+    let mut records = reply.sessions;
+    let mut counts = [0u32; 22];
+    let mut seed: u32 = 20261115;
+    let mut i: usize = 0;
+    while i < 6013 {
+        let call = call_at(i, seed);
+        seed = next(next(next(seed)));
+        let r = call_both(
+            call,
+            slices,
+            records,
+            &classes,
+            &mut values,
+            &mut readers,
+            &mut claimants,
+            &mut exclusives,
+            &mut logs,
+            &mut values2,
+            locks,
+            &mut logs2,
+        );
+        slices = r.slices;
+        records = r.records;
+        locks = r.locks;
+        same = same & r.same;
+        let answer = r.answer;
+        let more = noted(counts, i, answer);
+        counts = more.all;
+        i += 1;
+    }
+    print_counts(counts);
+    if same {
+        io::write_all(STDOUT_FILENO, b"same\n");
+    } else {
+        io::write_all(STDOUT_FILENO, b"differs\n");
+    }
+}
