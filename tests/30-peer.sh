@@ -6,31 +6,7 @@ cd "$(dirname "$0")/.."
 
 seed=${SEED:-1}
 work=$PWD/target/peer-tests
-mkdir -p "$work"
-passed=0
-failed=0
-
-# check NAME COMMAND...: one test; the output of a failed one is shown.
-check() {
-    local name=$1
-    shift
-    if "$@" >"$work/log" 2>&1; then
-        echo "passed: $name"
-        passed=$((passed + 1))
-    else
-        echo "FAILED: $name"
-        tail -n 20 "$work/log"
-        failed=$((failed + 1))
-    fi
-}
-
-# shown COMMAND...: runs a comparison and prints what it counted.
-shown() {
-    "$@" >"$work/shown" 2>&1
-    local status=$?
-    cat "$work/shown" >&3
-    return $status
-}
+. tests/check.sh
 
 # refused STATUS WORDS COMMAND...: the command ends with this status, writes nothing, and says these words on standard error.
 refused() {
@@ -90,7 +66,6 @@ foreign_output() {
 if ! command -v cargo >/dev/null; then
     apt-get update && apt-get install -y --no-install-recommends cargo rustc
 fi
-exec 3>&1
 
 build() {
     set -e
@@ -114,8 +89,7 @@ if [ "$unit_status" -ne 0 ] || [ "$unit_passed" -eq 0 ]; then
     [ "$unit_failed" -gt 0 ] || unit_failed=1
 fi
 echo "$unit_passed unit tests passed, $unit_failed failed"
-passed=$((passed + unit_passed))
-failed=$((failed + unit_failed))
+add "$unit_passed" "$unit_failed"
 
 echo "-- examples"
 for name in listing skew mixed; do
@@ -158,8 +132,7 @@ check "the proved fields" shown env LD_LIBRARY_PATH="$PWD/target/c/proved" "$com
 echo "-- wrong stores"
 python3 tests/fuzz/wrong_stores.py "$compare" "$work" "$seed" 2>&1 | tee "$work/wrong.log"
 closing=$(grep -E '^[0-9]+ passed, [0-9]+ failed$' "$work/wrong.log" | tail -n 1)
-passed=$((passed + $(echo "${closing:-0 passed, 1 failed}" | cut -d' ' -f1)))
-failed=$((failed + $(echo "${closing:-0 passed, 1 failed}" | cut -d' ' -f3)))
+closing=${closing:-0 passed, 1 failed}
+add "$(echo "$closing" | cut -d' ' -f1)" "$(echo "$closing" | cut -d' ' -f3)"
 
-echo "$passed passed, $failed failed"
-[ "$failed" -eq 0 ]
+finish

@@ -7,23 +7,7 @@ cd "$(dirname "$0")/.."
 seed=${SEED:-1}
 replays=${REPLAYS:-20000}
 work=$PWD/target/store-tests
-mkdir -p "$work"
-passed=0
-failed=0
-
-# check NAME COMMAND...: one test; its output is shown.
-check() {
-    local name=$1
-    shift
-    if "$@" >"$work/log" 2>&1; then
-        echo "passed: $name"
-        passed=$((passed + 1))
-    else
-        echo "FAILED: $name"
-        failed=$((failed + 1))
-    fi
-    tail -n 16 "$work/log"
-}
+. tests/check.sh
 
 # The proved calls in the place of the plain C store.
 calls_for_c() {
@@ -57,9 +41,8 @@ for name in listing skew mixed; do
     check "the replay of $name" example $name
 done
 check "the calls for C are built" calls_for_c
-check "the proved calls on arbitrary buffers" env LD_LIBRARY_PATH="$PWD/target/c/proved-store" "$compare" calls --seed "$seed" --count 1000000
-check "the replay on the fuzzer's corpus" corpus
-check "the proved replay on random files" "$compare" replays --program "$PWD/target/bin/replay" --mode spawn --seed "$seed" --count "$replays"
+check "the proved calls on arbitrary buffers" shown env LD_LIBRARY_PATH="$PWD/target/c/proved-store" "$compare" calls --seed "$seed" --count 1000000
+check "the replay on the fuzzer's corpus" shown corpus
+check "the proved replay on random files" shown "$compare" replays --program "$PWD/target/bin/replay" --mode spawn --seed "$seed" --count "$replays"
 
-echo "$passed passed, $failed failed"
-[ "$failed" -eq 0 ]
+finish

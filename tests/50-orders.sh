@@ -5,22 +5,7 @@ set -uo pipefail
 cd "$(dirname "$0")/.."
 
 work=$PWD/target/orders
-mkdir -p "$work"
-passed=0
-failed=0
-
-check() {
-    local name=$1
-    shift
-    if "$@" >"$work/log" 2>&1; then
-        echo "passed: $name"
-        passed=$((passed + 1))
-    else
-        echo "FAILED: $name"
-        tail -n 10 "$work/log"
-        failed=$((failed + 1))
-    fi
-}
+. tests/check.sh
 
 # cells N: N starting cells of class 2 and value 3.
 cells() {
@@ -57,5 +42,4 @@ odd_buffers() {
 }
 check "numbers 9 and 14 and odd buffers" odd_buffers
 
-echo "$passed passed, $failed failed"
-[ "$failed" -eq 0 ]
+finish
