@@ -124,10 +124,10 @@ echo "-- comparisons, seed $seed"
 check "replays, in batch" shown "$compare" replays --program "$plain_replay" --mode batch --seed "$seed" --count 40000
 check "replays, each in a process" shown "$compare" replays --program "$plain_replay" --against "$replay_peer" --mode spawn \
     --seed "$((seed + 1))" --count 1500
-check "calls on arbitrary buffers" shown "$compare" calls --seed "$seed" --count 1000000
-check "fields" shown "$compare" fields --seed "$seed" --count 1000000
+check "calls on arbitrary buffers" beside "plain C store" "$compare" calls --seed "$seed" --count 1000000
+check "fields" beside "plain C fields" "$compare" fields --seed "$seed" --count 1000000
 check "the proved fields are built" proved_fields
-check "the proved fields" shown env LD_LIBRARY_PATH="$PWD/target/c/proved" "$compare" fields --seed "$seed" --count 1000000
+check "the proved fields" beside "proved fields" env LD_LIBRARY_PATH="$PWD/target/c/proved" "$compare" fields --seed "$seed" --count 1000000
 
 echo "-- wrong stores"
 python3 tests/fuzz/wrong_stores.py "$compare" "$work" "$seed" 2>&1 | tee "$work/wrong.log"

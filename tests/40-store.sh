@@ -41,7 +41,7 @@ for name in listing skew mixed; do
     check "the replay of $name" example $name
 done
 check "the calls for C are built" calls_for_c
-check "the proved calls on arbitrary buffers" shown env LD_LIBRARY_PATH="$PWD/target/c/proved-store" "$compare" calls --seed "$seed" --count 1000000
+check "the proved calls on arbitrary buffers" beside "proved calls for C" env LD_LIBRARY_PATH="$PWD/target/c/proved-store" "$compare" calls --seed "$seed" --count 1000000
 check "the replay on the fuzzer's corpus" shown corpus
 check "the proved replay on random files" shown "$compare" replays --program "$PWD/target/bin/replay" --mode spawn --seed "$seed" --count "$replays"
 

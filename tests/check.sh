@@ -26,6 +26,13 @@ shown() {
     return $status
 }
 
+# beside NAME COMMAND...: the same, of a comparison that must have loaded the library of this name.
+beside() {
+    local name=$1
+    shift
+    shown "$@" && grep -q "^peer beside $name" "$work/shown"
+}
+
 # add PASSED FAILED: counts what a program counted by itself.
 add() {
     passed=$((passed + $1))

@@ -3,6 +3,11 @@
 
 #include <string.h>
 
+const char *fields_name(void)
+{
+    return "plain C fields";
+}
+
 /* The length of a tag's body; 0 for an unknown tag. */
 static size_t body_of(uint8_t tag)
 {

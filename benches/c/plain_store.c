@@ -9,6 +9,11 @@ enum { CELL, SNAPSHOT_VALUE, CURRENT_VALUE, DIRTY };
 
 static const uint32_t caps[16] = {1, 6, 8, 10, 12, 15, 18, 21, 24, 27, 30, 36, 42, 48, 60, 4294967295u};
 
+const char *store_name(void)
+{
+    return "plain C store";
+}
+
 static inline plain_answer answer(uint32_t number)
 {
     plain_answer a = {number, 0};

@@ -51,6 +51,9 @@ typedef struct {
     size_t logs_len;
 } plain_lent;
 
+/* What stands behind these functions: this plain C store, or the proved one (tests/c/proved_store.c). */
+const char *store_name(void);
+
 /* Every call takes the sixteen records behind `sessions`. */
 plain_answer plain_set_up(const plain_lent *lent, plain_session *sessions);
 plain_answer plain_begin(const plain_lent *lent, plain_session *sessions, uint8_t session);

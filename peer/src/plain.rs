@@ -1,4 +1,7 @@
-//! The plain C store and the plain C fields behind the boundary, through the C calling convention.
+//! The plain C store and the plain C fields behind the boundary, through the C calling convention; or the proved ones, where the library that
+//! is loaded has those. Each tells its name.
+
+use std::ffi::{c_char, CStr};
 
 use crate::boundary::{located, Fields, Store};
 use crate::field::{Field, Reading};
@@ -65,6 +68,8 @@ struct CWriting {
 }
 
 extern "C" {
+    fn store_name() -> *const c_char;
+    fn fields_name() -> *const c_char;
     fn plain_set_up(lent: *const Lent, sessions: *mut Record) -> CAnswer;
     fn plain_begin(lent: *const Lent, sessions: *mut Record, session: u8) -> CAnswer;
     fn plain_read(lent: *const Lent, sessions: *mut Record, session: u8, cell: u32) -> CAnswer;
@@ -78,11 +83,18 @@ extern "C" {
     fn write_field(target: *mut u8, len: usize, field: CField) -> CWriting;
 }
 
+/// The text behind a pointer to a constant string of C.
+fn text(pointer: *const c_char) -> String {
+    // SAFETY: `store_name` and `fields_name` give constant strings that end with a zero byte.
+    unsafe { CStr::from_ptr(pointer) }.to_string_lossy().into_owned()
+}
+
 pub struct Plain;
 
 impl Store for Plain {
     fn name(&self) -> String {
-        "plain C store".to_string()
+        // SAFETY: the function takes nothing and changes nothing.
+        text(unsafe { store_name() })
     }
 
     fn call(&mut self, buffers: &mut Buffers, call: Call) -> (Answer, Part) {
@@ -129,7 +141,8 @@ impl Store for Plain {
 
 impl Fields for Plain {
     fn name(&self) -> String {
-        "plain C fields".to_string()
+        // SAFETY: the function takes nothing and changes nothing.
+        text(unsafe { fields_name() })
     }
 
     fn read(&mut self, bytes: &[u8], place: usize) -> Reading {

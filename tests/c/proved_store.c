@@ -9,6 +9,11 @@
     lent->values, lent->values_len, lent->classes, lent->classes_len, lent->readers, lent->readers_len, lent->claimants, lent->claimants_len, \
         lent->exclusives, lent->exclusives_len, lent->logs, lent->logs_len
 
+const char *store_name(void)
+{
+    return "proved calls for C";
+}
+
 static rukkanei_sessions load(const plain_session *sessions)
 {
     rukkanei_sessions s;

@@ -32,6 +32,9 @@ typedef struct {
     size_t length;
 } field_writing;
 
+/* Who reads and writes: the proved functions, or the plain ones of the tests. */
+const char *fields_name(void);
+
 /* Reads the field whose first byte is at `place`. */
 field_reading read_field(const uint8_t *bytes, size_t len, size_t place);
 

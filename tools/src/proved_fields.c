@@ -2,6 +2,11 @@
 #include "field_io.h"
 #include "rukkanei.h"
 
+const char *fields_name(void)
+{
+    return "proved fields";
+}
+
 field_reading read_field(const uint8_t *bytes, size_t len, size_t place)
 {
     field_reading r = {0, 0, {0, 0, 0, 0, 0}};

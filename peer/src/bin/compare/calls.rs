@@ -102,6 +102,9 @@ pub fn compare_fields(run: &Run) {
         numbers.add("read field", compare_read(&mut others, case, &random));
         numbers.add("write field", compare_write(&mut others, case, &random));
     }
+    for other in &others {
+        println!("peer beside {}", other.name());
+    }
     print!("{}", numbers);
     close(run, numbers.missing(&REQUIRED_FIELDS));
 }
