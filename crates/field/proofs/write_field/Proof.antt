@@ -10,15 +10,6 @@ use borrow.Author.Needs.{needs}
 use Rattle.field.proofs.write_field.Statement.{statement}
 use Rattle.field.proofs.write_field.Tie as tie
 
-layout-of-requires : tie.Need-layout-of-requires
-layout-of-requires c κs = search needs
-
-enum-known-own : tie.Need-enum-known-own
-enum-known-own c = search needs
-
-enum-told : tie.Need-enum-told
-enum-told c = search needs
-
 returns : tie.Need-returns
 returns c = unknown _ _ (sym (c .before .before .layout-of .ensures) ∙ c .enum-told .given .1)
 
@@ -27,9 +18,6 @@ add-whole c = omega (arith, small _ (proper _ _ (sym (c .before .before .before 
 
 returns-2 : tie.Need-returns-2
 returns-2 c = short _ _ _ (sym (c .before .before .before .before .layout-of .ensures) ∙ c .before .before .own .given .1) (c .if1 .taken)
-
-slice-write-target : tie.Need-slice-write-target
-slice-write-target c = search needs
 
 cast-put-word : tie.Need-cast-put-word
 cast-put-word c = omega (arith, small _ (proper _ _ (sym (c .before .before .before .before .before .layout-of .ensures) ∙ c .before .before .before .own .given .1)))
@@ -54,15 +42,5 @@ pub write-field-spec : {M : Type 1} → statement M
 write-field-spec =
     tie.close
     (tie.spec
-    layout-of-requires
-    enum-known-own
-    enum-told
-    returns
-    add-whole
-    returns-2
-    slice-write-target
-    cast-put-word
-    put-word-requires
-    write-body-requires
-    same-length
-    returns-3)
+    (λ c κs. search needs) (λ c. search needs) (λ c. search needs) returns add-whole returns-2 (λ c. search needs) cast-put-word
+    put-word-requires write-body-requires same-length returns-3)

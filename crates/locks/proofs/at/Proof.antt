@@ -7,18 +7,6 @@ use Rattle.locks.proofs.at.Tie as tie
 returns : tie.Need-returns
 returns c = lock-past _ _ _ _ (c .before .pre .0) (c .before .pre .1) (c .if1 .taken)
 
-mul-t6 : tie.Need-mul-t6
-mul-t6 c = search needs
-
-shared-slice-read-t9 : tie.Need-shared-slice-read-t9
-shared-slice-read-t9 c = search needs
-
-shared-slice-read-t11 : tie.Need-shared-slice-read-t11
-shared-slice-read-t11 c = search needs
-
-shared-slice-read-t13 : tie.Need-shared-slice-read-t13
-shared-slice-read-t13 c = search needs
-
 returns-2 : tie.Need-returns-2
 returns-2 c = lock-here _ _ _ _ (c .before .before .before .before .pre .0) (c .before .before .before .before .pre .1) (c .before .before .before .if1 .left)
 
@@ -26,9 +14,4 @@ pub at-spec : {M : Type 1} → statement M
 at-spec =
     tie.close
     (tie.spec
-    returns
-    mul-t6
-    shared-slice-read-t9
-    shared-slice-read-t11
-    shared-slice-read-t13
-    returns-2)
+    returns (λ c. search needs) (λ c. search needs) (λ c. search needs) (λ c. search needs) returns-2)

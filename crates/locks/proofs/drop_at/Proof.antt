@@ -5,21 +5,9 @@ use Rattle.locks.proofs.Sweeps.{drop-seen, drop-written, drop-left}
 use Rattle.locks.proofs.drop_at.Statement.{statement}
 use Rattle.locks.proofs.drop_at.Tie as tie
 
-cell-at-requires : tie.Need-cell-at-requires
-cell-at-requires c κs = search needs
-
-is-marked-requires : tie.Need-is-marked-requires
-is-marked-requires c κs = search needs
-
 returns : tie.Need-returns
 returns c =
     drop-seen _ _ _ _ _ _ (c .before .before .before .cell-at .ensures) (sym (c .before .is-marked .ensures) ∙ c .if1 .taken)
-
-put-mark-requires : tie.Need-put-mark-requires
-put-mark-requires c κs = search needs
-
-publishes-requires : tie.Need-publishes-requires
-publishes-requires c κs = search needs
 
 returns-2 : tie.Need-returns-2
 returns-2 c =
@@ -27,12 +15,6 @@ returns-2 c =
     let t = m .before .before in
     drop-written _ _ _ _ _ _ (t .before .before .before .cell-at .ensures) (sym (t .before .is-marked .ensures) ∙ t .if1 .left) _ (m .put-mark .ensures)
     (sym (c .before .publishes .ensures) ∙ c .if2 .taken)
-
-leave-at-requires : tie.Need-leave-at-requires
-leave-at-requires c κs = search needs
-
-same-length : tie.Need-same-length
-same-length c = search needs
 
 returns-3 : tie.Need-returns-3
 returns-3 c =
@@ -46,12 +28,5 @@ pub drop-at-spec : {M : Type 1} → statement M
 drop-at-spec =
     tie.close
     (tie.spec
-    cell-at-requires
-    is-marked-requires
-    returns
-    put-mark-requires
-    publishes-requires
-    returns-2
-    leave-at-requires
-    same-length
-    returns-3)
+    (λ c κs. search needs) (λ c κs. search needs) returns (λ c κs. search needs) (λ c κs. search needs) returns-2 (λ c κs. search needs)
+    (λ c. search needs) returns-3)

@@ -62,12 +62,4 @@ pub drop-reads-spec : {M : Type 1} → statement M
 drop-reads-spec =
     tie.close
     (tie.spec
-    Inv-loop
-    μ-loop
-    loop-holds
-    drop-at-requires
-    add-i
-    loop-less
-    loop-again
-    same-length
-    returns)
+    Inv-loop μ-loop loop-holds drop-at-requires add-i loop-less loop-again same-length returns)

@@ -66,15 +66,5 @@ pub roll-back-spec : {M : Type 1} → statement M
 roll-back-spec =
     tie.close
     (tie.spec
-    Inv-loop
-    μ-loop
-    loop-holds
-    cell-at-requires
-    withdraw-at-requires
-    add-i
-    loop-less
-    loop-again
-    same-length
-    same-length-2
-    same-length-3
+    Inv-loop μ-loop loop-holds cell-at-requires withdraw-at-requires add-i loop-less loop-again same-length same-length-2 same-length-3
     returns)

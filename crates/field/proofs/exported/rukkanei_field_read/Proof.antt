@@ -5,18 +5,6 @@ use borrow.Author.Needs.{needs}
 use Rattle.field.proofs.exported.rukkanei_field_read.Statement.{statement}
 use Rattle.field.proofs.exported.rukkanei_field_read.Tie as tie
 
-read-field-requires : tie.Need-read-field-requires
-read-field-requires c κs = search needs
-
-enum-known-found : tie.Need-enum-known-found
-enum-known-found c = search needs
-
-enum-told : tie.Need-enum-told
-enum-told c = search needs
-
-enum-known-number : tie.Need-enum-known-number
-enum-known-number c = search needs
-
 returns : tie.Need-returns
 unfolding handing
 returns c = rw (← c .before .before .before .read-field .ensures, c .before .found .given .1)
@@ -33,10 +21,4 @@ pub rukkanei-field-read-spec : {M : Type 1} → statement M
 rukkanei-field-read-spec =
     tie.close
     (tie.spec
-    read-field-requires
-    enum-known-found
-    enum-told
-    enum-known-number
-    returns
-    returns-2
-    returns-3)
+    (λ c κs. search needs) (λ c. search needs) (λ c. search needs) (λ c. search needs) returns returns-2 returns-3)

@@ -13,62 +13,20 @@ use Rattle.field.proofs.little_endian.long_at.Tie as tie
 returns : tie.Need-returns
 returns c = read-none _ _ _ (c .if1 .taken)
 
-shared-slice-read-wide32 : tie.Need-shared-slice-read-wide32
-shared-slice-read-wide32 c = search needs
-
-wide32-requires : tie.Need-wide32-requires
-wide32-requires c κs = search needs
-
-add-wide32 : tie.Need-add-wide32
-add-wide32 c = search needs
-
 shared-slice-read-wide32-2 : tie.Need-shared-slice-read-wide32-2
 shared-slice-read-wide32-2 c =
     let entry = (c .before .before .before .before .before) in
     omega (arith, entry .pre .1, all-of 4 _ (entry .pre .0) ((c .before .before .before) .if1 .left))
-
-wide32-requires-2 : tie.Need-wide32-requires-2
-wide32-requires-2 c κs = search needs
-
-add-wide32-2 : tie.Need-add-wide32-2
-add-wide32-2 c = search needs
 
 shared-slice-read-wide32-3 : tie.Need-shared-slice-read-wide32-3
 shared-slice-read-wide32-3 c =
     let entry = (c .before .before .before .before .before .before .before) in
     omega (arith, entry .pre .1, all-of 4 _ (entry .pre .0) ((c .before .before .before .before .before) .if1 .left))
 
-wide32-requires-3 : tie.Need-wide32-requires-3
-wide32-requires-3 c κs = search needs
-
-add-wide32-3 : tie.Need-add-wide32-3
-add-wide32-3 c = search needs
-
 shared-slice-read-wide32-4 : tie.Need-shared-slice-read-wide32-4
 shared-slice-read-wide32-4 c =
     let entry = (c .before .before .before .before .before .before .before .before .before) in
     omega (arith, entry .pre .1, all-of 4 _ (entry .pre .0) ((c .before .before .before .before .before .before .before) .if1 .left))
-
-wide32-requires-4 : tie.Need-wide32-requires-4
-wide32-requires-4 c κs = search needs
-
-mul-result : tie.Need-mul-result
-mul-result c = search needs
-
-add-result : tie.Need-add-result
-add-result c = search needs
-
-mul-result-2 : tie.Need-mul-result-2
-mul-result-2 c = search needs
-
-add-result-2 : tie.Need-add-result-2
-add-result-2 c = search needs
-
-mul-result-3 : tie.Need-mul-result-3
-mul-result-3 c = search needs
-
-add-result-3 : tie.Need-add-result-3
-add-result-3 c = search needs
 
 returns-2 : tie.Need-returns-2
 returns-2 c =
@@ -81,22 +39,7 @@ pub long-at-spec : {M : Type 1} → statement M
 long-at-spec =
     tie.close
     (tie.spec
-    returns
-    shared-slice-read-wide32
-    wide32-requires
-    add-wide32
-    shared-slice-read-wide32-2
-    wide32-requires-2
-    add-wide32-2
-    shared-slice-read-wide32-3
-    wide32-requires-3
-    add-wide32-3
-    shared-slice-read-wide32-4
-    wide32-requires-4
-    mul-result
-    add-result
-    mul-result-2
-    add-result-2
-    mul-result-3
-    add-result-3
-    returns-2)
+    returns (λ c. search needs) (λ c κs. search needs) (λ c. search needs) shared-slice-read-wide32-2 (λ c κs. search needs)
+    (λ c. search needs) shared-slice-read-wide32-3 (λ c κs. search needs) (λ c. search needs) shared-slice-read-wide32-4
+    (λ c κs. search needs) (λ c. search needs) (λ c. search needs) (λ c. search needs) (λ c. search needs) (λ c. search needs)
+    (λ c. search needs) returns-2)

@@ -12,23 +12,8 @@ use Rattle.field.proofs.little_endian.put_word.Tie as tie
 returns : tie.Need-returns
 returns c = write-none _ _ _ _ (c .if1 .taken)
 
-cast-target : tie.Need-cast-target
-cast-target c = search needs
-
-slice-write-target : tie.Need-slice-write-target
-slice-write-target c = search needs
-
-cast-target-2 : tie.Need-cast-target-2
-cast-target-2 c = search needs
-
-add-target : tie.Need-add-target
-add-target c = search needs
-
 slice-write-target-2 : tie.Need-slice-write-target-2
 slice-write-target-2 c = simp length-set (omega (arith, all-of 2 _ (c .before .pre .0) (c .if1 .left)))
-
-same-length : tie.Need-same-length
-same-length c = search needs
 
 returns-2 : tie.Need-returns-2
 unfolding bytesOf
@@ -40,11 +25,5 @@ pub put-word-spec : {M : Type 1} → statement M
 put-word-spec =
     tie.close
     (tie.spec
-    returns
-    cast-target
-    slice-write-target
-    cast-target-2
-    add-target
-    slice-write-target-2
-    same-length
+    returns (λ c. search needs) (λ c. search needs) (λ c. search needs) (λ c. search needs) slice-write-target-2 (λ c. search needs)
     returns-2)

@@ -13,28 +13,10 @@ use Rattle.field.proofs.little_endian.word_at.Tie as tie
 returns : tie.Need-returns
 returns c = read-none _ _ _ (c .if1 .taken)
 
-shared-slice-read-wide16 : tie.Need-shared-slice-read-wide16
-shared-slice-read-wide16 c = search needs
-
-wide16-requires : tie.Need-wide16-requires
-wide16-requires c κs = search needs
-
-add-wide16 : tie.Need-add-wide16
-add-wide16 c = search needs
-
 shared-slice-read-wide16-2 : tie.Need-shared-slice-read-wide16-2
 shared-slice-read-wide16-2 c =
     let entry = (c .before .before .before .before .before) in
     omega (arith, entry .pre .1, all-of 2 _ (entry .pre .0) ((c .before .before .before) .if1 .left))
-
-wide16-requires-2 : tie.Need-wide16-requires-2
-wide16-requires-2 c κs = search needs
-
-mul-result : tie.Need-mul-result
-mul-result c = search needs
-
-add-result : tie.Need-add-result
-add-result c = search needs
 
 returns-2 : tie.Need-returns-2
 returns-2 c =
@@ -47,12 +29,5 @@ pub word-at-spec : {M : Type 1} → statement M
 word-at-spec =
     tie.close
     (tie.spec
-    returns
-    shared-slice-read-wide16
-    wide16-requires
-    add-wide16
-    shared-slice-read-wide16-2
-    wide16-requires-2
-    mul-result
-    add-result
-    returns-2)
+    returns (λ c. search needs) (λ c κs. search needs) (λ c. search needs) shared-slice-read-wide16-2 (λ c κs. search needs)
+    (λ c. search needs) (λ c. search needs) returns-2)

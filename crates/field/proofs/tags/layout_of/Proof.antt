@@ -8,27 +8,6 @@ use borrow.Author.Needs.{needs}
 use Rattle.field.proofs.tags.layout_of.Statement.{statement}
 use Rattle.field.proofs.tags.layout_of.Tie as tie
 
-known-requires : tie.Need-known-requires
-known-requires c κs = search needs
-
-known-requires-2 : tie.Need-known-requires-2
-known-requires-2 c κs = search needs
-
-known-requires-3 : tie.Need-known-requires-3
-known-requires-3 c κs = search needs
-
-known-requires-4 : tie.Need-known-requires-4
-known-requires-4 c κs = search needs
-
-known-requires-5 : tie.Need-known-requires-5
-known-requires-5 c κs = search needs
-
-known-requires-6 : tie.Need-known-requires-6
-known-requires-6 c κs = search needs
-
-known-requires-7 : tie.Need-known-requires-7
-known-requires-7 c κs = search needs
-
 returns : tie.Need-returns
 unfolding layoutOf find table
 returns c = c .known .ensures ∙ ap layoutOf (sym (c .before .match .keys1))
@@ -69,19 +48,5 @@ pub layout-of-spec : {M : Type 1} → statement M
 layout-of-spec =
     tie.close
     (tie.spec
-    known-requires
-    known-requires-2
-    known-requires-3
-    known-requires-4
-    known-requires-5
-    known-requires-6
-    known-requires-7
-    returns
-    returns-2
-    returns-3
-    returns-4
-    returns-5
-    returns-6
-    returns-7
-    returns-8
-    returns-9)
+    (λ c κs. search needs) (λ c κs. search needs) (λ c κs. search needs) (λ c κs. search needs) (λ c κs. search needs)
+    (λ c κs. search needs) (λ c κs. search needs) returns returns-2 returns-3 returns-4 returns-5 returns-6 returns-7 returns-8 returns-9)

@@ -5,21 +5,6 @@ use borrow.Author.Needs.{needs}
 use Rattle.transcript.proofs.items.next_at.Statement.{statement}
 use Rattle.transcript.proofs.items.next_at.Tie as tie
 
-read-field-requires : tie.Need-read-field-requires
-read-field-requires c κs = search needs
-
-enum-known-kind : tie.Need-enum-known-kind
-enum-known-kind c = search needs
-
-next-of-requires : tie.Need-next-of-requires
-next-of-requires c κs = search needs
-
-enum-told : tie.Need-enum-told
-enum-told c = search needs
-
-enum-known-number : tie.Need-enum-known-number
-enum-known-number c = search needs
-
 returns : tie.Need-returns
 unfolding nextOf
 returns c = c .next-of .ensures ∙ ap nextOf (sym (c .before .before .kind .given .1) ∙ c .before .before .before .before .read-field .ensures)
@@ -36,11 +21,4 @@ pub next-at-spec : {M : Type 1} → statement M
 next-at-spec =
     tie.close
     (tie.spec
-    read-field-requires
-    enum-known-kind
-    next-of-requires
-    enum-told
-    enum-known-number
-    returns
-    returns-2
-    returns-3)
+    (λ c κs. search needs) (λ c. search needs) (λ c κs. search needs) (λ c. search needs) (λ c. search needs) returns returns-2 returns-3)

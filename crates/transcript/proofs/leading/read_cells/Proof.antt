@@ -90,21 +90,5 @@ pub read-cells-spec : {M : Type 1} → statement M
 read-cells-spec =
     tie.close
     (tie.spec
-    Inv-loop
-    μ-loop
-    loop-holds
-    next-at-requires
-    enum-known-next
-    same-length
-    same-length-2
-    returns
-    same-length-3
-    same-length-4
-    returns-2
-    mul-values
-    slice-write-values
-    slice-write-classes
-    add-count
-    add-place
-    loop-less
-    loop-again)
+    Inv-loop μ-loop loop-holds next-at-requires enum-known-next same-length same-length-2 returns same-length-3 same-length-4 returns-2
+    mul-values slice-write-values slice-write-classes add-count add-place loop-less loop-again)

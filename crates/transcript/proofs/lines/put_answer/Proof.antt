@@ -11,24 +11,12 @@ use borrow.Author.Needs.{needs}
 use Rattle.transcript.proofs.lines.put_answer.Statement.{statement}
 use Rattle.transcript.proofs.lines.put_answer.Tie as tie
 
-number-of-requires : tie.Need-number-of-requires
-number-of-requires c κs = search needs
-
 put-word-requires : tie.Need-put-word-requires
 put-word-requires c κs = omega (arith, length-word 4 (c .before .before .before .args .ordinal) 32 (omega arith))
-
-enum-known-answer : tie.Need-enum-known-answer
-enum-known-answer c = search needs
-
-cast-put-word : tie.Need-cast-put-word
-cast-put-word c = search needs
 
 put-word-requires-2 : tie.Need-put-word-requires-2
 put-word-requires-2 c κs =
     omega (arith, ends-at _ _ _ (c .before .before .before .before .put-word .ensures), length-word 4 (c .before .before .before .before .before .before .before .before .args .ordinal) 32 (omega arith), length-word 2 (c .before .before .before .before .before .before .number-of .result) 10 (omega arith))
-
-same-length : tie.Need-same-length
-same-length c = search needs
 
 returns : tie.Need-returns
 unfolding answerLine
@@ -45,9 +33,6 @@ returns c =
       ),
     )
 
-cast-put-word-2 : tie.Need-cast-put-word-2
-cast-put-word-2 c = search needs
-
 put-word-requires-3 : tie.Need-put-word-requires-3
 put-word-requires-3 c κs =
     omega (arith, ends-at _ _ _ (c .before .before .before .before .before .before .put-word .ensures), length-word 4 (c .before .before .before .before .before .before .before .before .before .before .args .ordinal) 32 (omega arith), length-word 2 (c .before .before .before .before .before .before .before .before .number-of .result) 32 (omega arith))
@@ -62,9 +47,6 @@ put-word-requires-4 c κs =
       length-word 2 (c .before .before .before .before .before .before .before .before .before .before .before .before .number-of .result) 32 (omega arith),
       length-word 9 (c .before .before .before .before .before .before .answer .given .0 .0) 10 (omega arith),
     )
-
-same-length-2 : tie.Need-same-length-2
-same-length-2 c = search needs
 
 returns-2 : tie.Need-returns-2
 unfolding answerLine
@@ -88,15 +70,5 @@ pub put-answer-spec : {M : Type 1} → statement M
 put-answer-spec =
     tie.close
     (tie.spec
-    number-of-requires
-    put-word-requires
-    enum-known-answer
-    cast-put-word
-    put-word-requires-2
-    same-length
-    returns
-    cast-put-word-2
-    put-word-requires-3
-    put-word-requires-4
-    same-length-2
-    returns-2)
+    (λ c κs. search needs) put-word-requires (λ c. search needs) (λ c. search needs) put-word-requires-2 (λ c. search needs) returns
+    (λ c. search needs) put-word-requires-3 put-word-requires-4 (λ c. search needs) returns-2)

@@ -7,9 +7,6 @@ use borrow.Author.Needs.{needs}
 use Rattle.transcript.proofs.lines.put_cell.Statement.{statement}
 use Rattle.transcript.proofs.lines.put_cell.Tie as tie
 
-put-byte-requires : tie.Need-put-byte-requires
-put-byte-requires c κs = search needs
-
 put-byte-requires-2 : tie.Need-put-byte-requires-2
 put-byte-requires-2 c κs = omega (arith, ends-at _ _ _ (c .before .before .before .put-byte .ensures))
 
@@ -21,9 +18,6 @@ put-word-requires-2 : tie.Need-put-word-requires-2
 put-word-requires-2 c κs =
     omega (arith, ends-at _ _ _ (c .before .before .before .before .before .before .before .before .before .before .before .put-byte .ensures), ends-at _ _ _ (c .before .before .before .before .before .before .before .put-byte2 .ensures), ends-at _ _ _ (c .before .before .before .put-word .ensures), length-word 3 (c .before .before .before .before .before .before .before .before .before .before .before .before .before .before .args .cell) 32 (omega arith), length-word 9 (c .before .before .before .before .before .before .before .before .before .before .before .before .before .before .args .value) 10 (omega arith))
 
-same-length : tie.Need-same-length
-same-length c = search needs
-
 returns : tie.Need-returns
 unfolding cellLine
 returns c =
@@ -34,9 +28,4 @@ pub put-cell-spec : {M : Type 1} → statement M
 put-cell-spec =
     tie.close
     (tie.spec
-    put-byte-requires
-    put-byte-requires-2
-    put-word-requires
-    put-word-requires-2
-    same-length
-    returns)
+    (λ c κs. search needs) put-byte-requires-2 put-word-requires put-word-requires-2 (λ c. search needs) returns)

@@ -62,15 +62,5 @@ pub put-cells-spec : {M : Type 1} → statement M
 put-cells-spec =
     tie.close
     (tie.spec
-    Inv-loop
-    μ-loop
-    loop-holds
-    cast-put-cell
-    mul-put-cell
-    shared-slice-read-put-cell
-    put-cell-requires
-    add-i
-    loop-less
-    loop-again
-    same-length
-    returns)
+    Inv-loop μ-loop loop-holds cast-put-cell mul-put-cell shared-slice-read-put-cell put-cell-requires add-i loop-less loop-again
+    same-length returns)

@@ -7,21 +7,12 @@ use borrow.Author.Needs.{needs}
 use Rattle.transcript.proofs.lines.put_field.Statement.{statement}
 use Rattle.transcript.proofs.lines.put_field.Tie as tie
 
-slice-aggregate-put-text : tie.Need-slice-aggregate-put-text
-slice-aggregate-put-text c = search needs
-
-put-text-requires : tie.Need-put-text-requires
-put-text-requires c κs = search needs
-
 put-word-requires : tie.Need-put-word-requires
 put-word-requires c κs = omega (arith, ends-at _ _ _ (c .before .before .before .put-text .ensures), length-word 4 (c .before .before .before .before .before .before .before .args .place) 32 (omega arith))
 
 put-word-requires-2 : tie.Need-put-word-requires-2
 put-word-requires-2 c κs =
     omega (arith, ends-at _ _ _ (c .before .before .before .before .before .before .before .put-text .ensures), ends-at _ _ _ (c .before .before .before .put-word .ensures), length-word 4 (c .before .before .before .before .before .before .before .before .before .before .before .args .place) 32 (omega arith), length-word 2 (c .before .before .before .before .before .before .before .before .before .before .before .args .n) 10 (omega arith))
-
-same-length : tie.Need-same-length
-same-length c = search needs
 
 returns : tie.Need-returns
 unfolding fieldLine
@@ -44,9 +35,4 @@ pub put-field-spec : {M : Type 1} → statement M
 put-field-spec =
     tie.close
     (tie.spec
-    slice-aggregate-put-text
-    put-text-requires
-    put-word-requires
-    put-word-requires-2
-    same-length
-    returns)
+    (λ c. search needs) (λ c κs. search needs) put-word-requires put-word-requires-2 (λ c. search needs) returns)

@@ -15,9 +15,6 @@ slice-aggregate-put-text c = refl
 put-text-requires : tie.Need-put-text-requires
 put-text-requires c κs = omega (arith, c .before .before .before .before .before .before .before .before .before .before .before .pre .output)
 
-same-length : tie.Need-same-length
-same-length c = search needs
-
 returns : tie.Need-returns
 unfolding sizeLine
 returns c =
@@ -27,23 +24,8 @@ returns c =
 read-cells-requires : tie.Need-read-cells-requires
 read-cells-requires c κs = (c .before .before .before .before .before .before .before .before .before .before .before .pre .values, c .before .before .before .before .before .before .before .before .before .before .before .pre .classes)
 
-enum-known-found : tie.Need-enum-known-found
-enum-known-found c = search needs
-
-enum-told : tie.Need-enum-told
-enum-told c = search needs
-
 put-set-up-requires : tie.Need-put-set-up-requires
 put-set-up-requires c κs = omega (arith, c .before .before .before .before .before .before .before .before .before .before .before .before .before .before .before .before .before .before .before .pre .output)
-
-same-length-2 : tie.Need-same-length-2
-same-length-2 c = search needs
-
-same-length-3 : tie.Need-same-length-3
-same-length-3 c = search needs
-
-same-length-4 : tie.Need-same-length-4
-same-length-4 c = search needs
 
 returns-2 : tie.Need-returns-2
 returns-2 c =
@@ -70,27 +52,6 @@ run-cells-requires c κs =
       ),
     )
 
-same-length-5 : tie.Need-same-length-5
-same-length-5 c = search needs
-
-same-length-6 : tie.Need-same-length-6
-same-length-6 c = search needs
-
-same-length-7 : tie.Need-same-length-7
-same-length-7 c = search needs
-
-same-length-8 : tie.Need-same-length-8
-same-length-8 c = search needs
-
-same-length-9 : tie.Need-same-length-9
-same-length-9 c = search needs
-
-same-length-10 : tie.Need-same-length-10
-same-length-10 c = search needs
-
-same-length-11 : tie.Need-same-length-11
-same-length-11 c = search needs
-
 returns-3 : tie.Need-returns-3
 returns-3 c = c .before .before .before .before .before .before .before .before .before .before .before .before .run-cells .ensures
 
@@ -98,24 +59,6 @@ pub print-spec : {M : Type 1} → statement M
 print-spec =
     tie.close
     (tie.spec
-    slice-aggregate-put-text
-    put-text-requires
-    same-length
-    returns
-    read-cells-requires
-    enum-known-found
-    enum-told
-    put-set-up-requires
-    same-length-2
-    same-length-3
-    same-length-4
-    returns-2
-    run-cells-requires
-    same-length-5
-    same-length-6
-    same-length-7
-    same-length-8
-    same-length-9
-    same-length-10
-    same-length-11
-    returns-3)
+    slice-aggregate-put-text put-text-requires (λ c. search needs) returns read-cells-requires (λ c. search needs) (λ c. search needs)
+    put-set-up-requires (λ c. search needs) (λ c. search needs) (λ c. search needs) returns-2 run-cells-requires (λ c. search needs)
+    (λ c. search needs) (λ c. search needs) (λ c. search needs) (λ c. search needs) (λ c. search needs) (λ c. search needs) returns-3)

@@ -122,22 +122,5 @@ pub run-calls-spec : {M : Type 1} → statement M
 run-calls-spec =
     tie.close
     (tie.spec
-    Inv-loop
-    μ-loop
-    loop-holds
-    next-at-requires
-    enum-known-next
-    put-stop-requires
-    put-cells-requires
-    same-length
-    same-length-2
-    same-length-3
-    same-length-4
-    same-length-5
-    same-length-6
-    returns
-    take-turn-requires
-    add-ordinal
-    add-place
-    loop-less
-    loop-again)
+    Inv-loop μ-loop loop-holds next-at-requires enum-known-next put-stop-requires put-cells-requires same-length same-length-2
+    same-length-3 same-length-4 same-length-5 same-length-6 returns take-turn-requires add-ordinal add-place loop-less loop-again)

@@ -46,24 +46,6 @@ set-up-and-run-requires c κs =
     let pre = c .before .before .before .before .before .before .before .before .before .before .before .before .before .before .before .pre in
     ((pre .1 .0 .inside, pre .0, pre .1 .1 .output), fitted _ _ _ _ _ (c .before .before .before .before .before .before .before .before .before .before .before .before .before .before .before .args .logs .now) _ _ (pre .1 .0 .few) (pre .1 .1))
 
-same-length : tie.Need-same-length
-same-length c = search needs
-
-same-length-2 : tie.Need-same-length-2
-same-length-2 c = search needs
-
-same-length-3 : tie.Need-same-length-3
-same-length-3 c = search needs
-
-same-length-4 : tie.Need-same-length-4
-same-length-4 c = search needs
-
-same-length-5 : tie.Need-same-length-5
-same-length-5 c = search needs
-
-same-length-6 : tie.Need-same-length-6
-same-length-6 c = search needs
-
 returns : tie.Need-returns
 returns c =
     let run = c .before .before .before .before .before .before .before .before .before .before .before .before .set-up-and-run .ensures in
@@ -73,22 +55,8 @@ pub run-cells-spec : {M : Type 1} → statement M
 run-cells-spec =
     tie.close
     (tie.spec
-    slice-relend-prefix-set-up-and-run
-    slice-aggregate-set-up-and-run
-    slice-aggregate-set-up-and-run-2
-    slice-relend-prefix-set-up-and-run-2
-    slice-aggregate-set-up-and-run-3
-    slice-relend-prefix-set-up-and-run-3
-    slice-aggregate-set-up-and-run-4
-    slice-relend-prefix-set-up-and-run-4
-    slice-aggregate-set-up-and-run-5
-    slice-relend-prefix-set-up-and-run-5
-    slice-aggregate-set-up-and-run-6
-    set-up-and-run-requires
-    same-length
-    same-length-2
-    same-length-3
-    same-length-4
-    same-length-5
-    same-length-6
-    returns)
+    slice-relend-prefix-set-up-and-run slice-aggregate-set-up-and-run slice-aggregate-set-up-and-run-2
+    slice-relend-prefix-set-up-and-run-2 slice-aggregate-set-up-and-run-3 slice-relend-prefix-set-up-and-run-3
+    slice-aggregate-set-up-and-run-4 slice-relend-prefix-set-up-and-run-4 slice-aggregate-set-up-and-run-5
+    slice-relend-prefix-set-up-and-run-5 slice-aggregate-set-up-and-run-6 set-up-and-run-requires (λ c. search needs) (λ c. search needs)
+    (λ c. search needs) (λ c. search needs) (λ c. search needs) (λ c. search needs) returns)
