@@ -6,7 +6,7 @@ ghost use Prim.Native.Nat.{ℕ, _+_, _*_, _<_, _≤_};
 ghost use lib.Dec.{ltb, eqb};
 ghost use lib.ListN.{length};
 ghost use Rattle.model.specs.Search.{below};
-ghost use Rattle.model.specs.Buffers.{cellAt, cap};
+ghost use Rattle.model.specs.Buffers.{cellAt, cap, fits, allFit};
 ghost use Rattle.model.specs.Step.{newCell, promotePlan};
 ghost use Rattle.decide.specs.Own.{lengthsOn, entriesOn, recordOn, tested, readOn, writeCapped, writeOn, sealOn, dueOn, advanceOn, handledOn, peekOn};
 use model::Answer;
@@ -41,6 +41,31 @@ pub fn cap(class: u8) -> u32
     ensures { λ r. ⌜ r ≡ cap class ⌝ }
 {
     CAPS[class as usize]
+}
+
+// A class byte of at most 15, and a value within its cap.
+fn fits_cap(class: u8, value: u32) -> bool
+    ensures { λ r. ⌜ r ≡ fits class value ⌝ }
+{
+    if 15 < class {
+        return false;
+    }
+    value <= cap(class)
+}
+
+// Each value within the cap of its class.
+pub fn all_fit(values: &[u32], classes: &[u8]) -> bool
+    requires { ⌜ length (now classes) ≡ length (now values) ⌝ }
+    ensures { λ r. ⌜ r ≡ allFit (now (values .entry)) (now (classes .entry)) ⌝ }
+{
+    let mut i = 0;
+    while i < values.len() {
+        if !fits_cap(classes[i], values[i]) {
+            return false;
+        }
+        i += 1;
+    }
+    true
 }
 
 // ---- refusals 7, 1, 9 and 2

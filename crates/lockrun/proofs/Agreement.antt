@@ -6,15 +6,14 @@ use Prim.Native.Nat.{ℕ}
 use Rattle.model.specs.Buffers.{Locks, Store}
 use Rattle.model.specs.History.{Event, run, history}
 use Rattle.model.specs.Isolation.{Demand3, Isolated, HoldsAtCommit}
-use Rattle.model.specs.Step.{Outcome, outcome, number, taken, setUpTaken, reply, step, setUp, setUpAnswer, planOf}
+use Rattle.model.specs.Step.{Outcome, outcome, number, taken, setUpTaken, step, setUp, planOf}
 use Rattle.model.specs.declared.Lock.{Lock}
 use Rattle.model.specs.declared.Sessions.{Sessions}
 use Rattle.model.specs.declared.Call.{Call}
 use Rattle.model.specs.declared.Answer.{Answer}
 use Rattle.model.proofs.Demand3.{demand3}
-use Rattle.locks.specs.Sweeps.{locksOf}
 use Rattle.store.specs.Lent.{storeOf}
-use Rattle.lockrun.specs.Run.{each, apart, storeOn}
+use Rattle.lockrun.specs.Run.{apart, storeOn}
 use Rattle.lockrun.specs.Forms.{together, Left, Kept, whole, Ran, none, then}
 
 -- ---- apart and together

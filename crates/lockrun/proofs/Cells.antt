@@ -1,5 +1,5 @@
 -- The cell of a turn, as the code finds it in the session's part of the logs.
-use mathlib.Core.Path.{_≡_, sym, ap, _∙_}
+use mathlib.Core.Path.{_≡_, sym, _∙_}
 use mathlib.Core.Bool.{Bool, true, false}
 use mathlib.Core.Option.{some}
 use mathlib.Core.List.{List}
@@ -8,7 +8,7 @@ use native.Mathlib.Omega.{arith}
 use lib.Dec.{ltb}
 use lib.ListN.{length}
 use Rattle.model.proofs.Tools.{test}
-use Rattle.model.specs.Buffers.{cellAt, entryAt, publishes, slotIn, lookIn, entryOf, publishesIn, isPublished}
+use Rattle.model.specs.Buffers.{cellAt, entryAt, publishes, slotIn, lookIn, entryOf, publishesIn}
 use Rattle.log.specs.Slots.{found}
 use Rattle.log.proofs.Targets.{slot-some, slot-none}
 use Rattle.decide.proofs.Agree.{part-cell, part-publishes}

@@ -1,17 +1,16 @@
 -- Changing lock records in turn is, taken apart, what the model does to its three lists.
 use mathlib.Core.Path.{_≡_, refl, sym, ap, _∙_}
-use mathlib.Core.Bool.{Bool, true, false, not, cond}
+use mathlib.Core.Bool.{true, not}
 use mathlib.Core.List.{List, [], _∷_, _++_, append-nil}
 use Prim.Native.Nat.{ℕ, zero, suc, _<_, _≤_}
 use native.Mathlib.Nat.{not-suc-le-zero, le-of-suc-le-suc}
 use native.Mathlib.Omega.{arith}
 use lib.ListN.{length, getD, set, drop, length-set, replicate, drop-of-length-le}
-use Rattle.model.specs.Buffers.{Locks, free, cellAt, publishesIn, lockAt, setLock, lockOn, sweep, join, leave, vacate, withdraw, claim, own}
+use Rattle.model.specs.Buffers.{free, cellAt, publishesIn, lockAt, setLock, lockOn, sweep, join, leave, vacate, withdraw, claim, own}
 use Rattle.model.specs.declared.Lock.{Lock}
 use Rattle.model.proofs.Tools.{test}
-use Rattle.lockrun.specs.declared.Change.{Change}
 use Rattle.lockrun.specs.declared.Change.the-variants.{Keep, Join, Claim, Own, Vacate, Withdraw, Leave, Clear}
-use Rattle.lockrun.specs.Run.{each, apart, lockIn, turnsOf, cellOf, changeOf, changedAt, swept, sweptBy}
+use Rattle.lockrun.specs.Run.{each, apart, lockIn, turnsOf, cellOf, changeOf, swept, sweptBy}
 use Rattle.lockrun.proofs.Row.{set-past}
 
 -- ---- one field of every record

@@ -3,8 +3,8 @@
 ghost use mathlib.Core.Path.{_≡_};
 ghost use mathlib.Core.Bool.{Bool, true, false};
 ghost use Prim.Native.Nat.{ℕ, _+_, _*_, _<_, _≤_};
-ghost use lib.ListN.{length, replicate};
-ghost use Rattle.model.specs.Buffers.{idle, cellAt, fits, allFit};
+ghost use lib.ListN.{length};
+ghost use Rattle.model.specs.Buffers.{cellAt};
 ghost use Rattle.model.specs.Step.{outcome, taken, setUpTaken, planOf, shown};
 ghost use Rattle.model.specs.declared.Call.the-variants.{Begin, Read, Write, Seal, Advance, Abandon, Peek};
 ghost use Rattle.decide.specs.declared.Due.the-variants.{Slot};
@@ -18,7 +18,6 @@ use model::Call;
 use model::Lock;
 use model::Plan;
 use model::Reply;
-use model::Session;
 use model::Sessions;
 
 // ---- a change of the run
@@ -193,54 +192,6 @@ fn told(reply: Reply) -> Turn
 
 // ---- set-up, but for the run
 
-// A class byte of at most 15, and a value within its cap.
-fn fits_cap(class: u8, value: u32) -> bool
-    ensures { λ r. ⌜ r ≡ fits class value ⌝ }
-{
-    if 15 < class {
-        return false;
-    }
-    value <= decide::cap(class)
-}
-
-// Each value within the cap of its class.
-fn all_fit(values: &[u32], classes: &[u8]) -> bool
-    requires { ⌜ length (now classes) ≡ length (now values) ⌝ }
-    ensures { λ r. ⌜ r ≡ allFit (now (values .entry)) (now (classes .entry)) ⌝ }
-{
-    let mut i = 0;
-    while i < values.len() {
-        if !fits_cap(classes[i], values[i]) {
-            return false;
-        }
-        i += 1;
-    }
-    true
-}
-
-// Every word 0.
-fn clear_words(s: &mut [u32])
-    ensures { λ _. ⌜ now (s .exit) ≡ replicate (length (now (s .entry))) 0 ⌝ }
-{
-    let mut i = 0;
-    while i < s.len() {
-        s[i] = 0;
-        i += 1;
-    }
-}
-
-// All sessions idle.
-fn all_idle() -> Sessions
-    ensures { λ r. ⌜ r ≡ record { records = replicate 16 idle } ⌝ }
-{
-    let records = [Session {
-        phase: 0,
-        count: 0,
-        next: 0,
-    }; 16];
-    Sessions { records }
-}
-
 // Set-up but for the locks.
 fn set_up_turn(
     sessions: Sessions,
@@ -255,11 +206,11 @@ fn set_up_turn(
     if !decide::lengths_fit(n, classes.len(), locks, locks, locks, logs.len()) {
         return kept(sessions, Answer::Refused(7));
     }
-    if !all_fit(values, classes) {
+    if !decide::all_fit(values, classes) {
         return kept(sessions, Answer::Refused(8));
     }
-    clear_words(logs);
-    let idle = all_idle();
+    log::clear_words(logs);
+    let idle = model::all_idle();
     let reply = Reply {
         answer: Answer::Done,
         sessions: idle,

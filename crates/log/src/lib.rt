@@ -3,7 +3,7 @@
 ghost use mathlib.Core.Path.{_≡_};
 ghost use mathlib.Core.Bool.{Bool, true, false};
 ghost use Prim.Native.Nat.{ℕ, _+_, _*_, _<_, _≤_};
-ghost use lib.ListN.{length};
+ghost use lib.ListN.{length, replicate};
 ghost use Rattle.model.specs.Search.{some?, below};
 ghost use Rattle.model.specs.Buffers.{cellAt, entryAt, slotIn, publishes, targetIn, appended, updated};
 ghost use Rattle.log.specs.Slots.{found, better, lowestOwn, targetSlot, firstPublishes};
@@ -173,4 +173,15 @@ pub fn update(log: &mut [u32], k: usize, value: u32)
     let i = 4 * k + 2;
     log[i] = value;
     log[i + 1] = 1;
+}
+
+// Every word 0, of one part or of all.
+pub fn clear_words(s: &mut [u32])
+    ensures { λ _. ⌜ now (s .exit) ≡ replicate (length (now (s .entry))) 0 ⌝ }
+{
+    let mut i = 0;
+    while i < s.len() {
+        s[i] = 0;
+        i += 1;
+    }
 }

@@ -2,6 +2,7 @@
 // The definitions over them, document 01's steps and demand 3, are in specs/.
 ghost use mathlib.Core.Path.{_≡_};
 ghost use Prim.Native.Nat.{suc, _<_};
+ghost use lib.ListN.{replicate};
 ghost use Rattle.model.specs.Buffers.{idle, running, withEntry, moveTo};
 
 // A session's record: phase (0 idle, 1 running, 2 promoting, 3 publishing, 4 releasing), entry count, next cell.
@@ -141,4 +142,16 @@ impl Session {
             next: 0,
         }
     }
+}
+
+// All sessions idle.
+pub fn all_idle() -> Sessions
+    ensures { λ r. ⌜ r ≡ record { records = replicate 16 idle } ⌝ }
+{
+    let records = [Session {
+        phase: 0,
+        count: 0,
+        next: 0,
+    }; 16];
+    Sessions { records }
 }

@@ -1,57 +1,15 @@
--- Set-up and its loops: a slice filled from its start, the values tested one by one, and the three answers.
-use mathlib.Core.Path.{_≡_, _∙_}
-use mathlib.Core.Bool.{Bool, true, false, _&&_}
-use mathlib.Core.List.{List, _++_, append-nil}
-use Prim.Native.Nat.{ℕ, _+_, _<_, _≤_}
-use native.Mathlib.Omega.{arith}
-use native.Mathlib.Numerals.{add-one}
-use borrow.Author.Tests.{lt-ltb, le-ltb}
-use borrow.Author.Fill.{fill-more}
-use lib.Dec.{leb}
-use lib.ListN.{length, getD, set, drop, replicate, drop-of-length-le}
-use lib.Seq.{drop-cons}
-use Rattle.model.specs.Buffers.{Store, size, cap, fits, allFit, lengthsFit, fresh, idle}
+-- The three answers of set-up.
+use mathlib.Core.Path.{_≡_}
+use mathlib.Core.Bool.{Bool, true, false}
+use mathlib.Core.List.{List}
+use lib.ListN.{length, replicate}
+use Prim.Native.Nat.{ℕ}
+use Rattle.model.specs.Buffers.{Store, size, allFit, lengthsFit, fresh, idle}
 use Rattle.model.specs.Step.{outcome, setUpAnswer, setUp, setUpTaken}
 use Rattle.model.specs.declared.Sessions.{Sessions}
 use Rattle.model.specs.declared.Answer.the-variants.{Done, Refused}
 use Rattle.store.specs.Lent.{storeOf}
 use Rattle.store.proofs.Refusals.{lengths-of}
-
--- ---- a slice filled with v up to i
-
-module _ (d l : List ℕ) (i v : ℕ) (e : l ≡ replicate i v ++ drop i d) where
-  pub fill-again : i < length d → set l i v ≡ replicate (i + 1) v ++ drop (i + 1) d
-  fill-again h = rw e (fill-more i v d h)
-
-  pub fill-end : length d ≤ i → i ≤ length d → l ≡ replicate (length d) v
-  fill-end h k = let j : i ≡ length d = omega arith in e ∙ rw (drop-of-length-le d h, append-nil, j)
-
--- ---- a class byte and a value, and all of them
-
-pub fits-not : (k v : ℕ) → 15 < k → false ≡ fits k v
-unfolding fits
-fits-not k v h = rw (le-ltb k 16 h)
-
-pub fits-cap : (k v m : ℕ) → k ≤ 15 → m ≡ cap k → leb v m ≡ fits k v
-unfolding fits
-fits-cap k v m h e = rw (lt-ltb k 16 (omega arith), e)
-
-module _ (vs ks : List ℕ) (i : ℕ) (h : i < length vs) (k : length ks ≡ length vs) (b : Bool) (e : b ≡ fits (getD ks i 0) (getD vs i 0)) where
-  fit-step : allFit (drop i vs) (drop i ks) ≡ (b && allFit (drop (i + 1) vs) (drop (i + 1) ks))
-  unfolding allFit
-  fit-step = let j : i < length ks = omega arith in rw (drop-cons vs i 0 h, drop-cons ks i 0 j, add-one, e)
-
-  pub fit-fails : b ≡ false → allFit (drop i vs) (drop i ks) ≡ false
-  fit-fails q = fit-step ∙ rw q
-
-  pub fit-on : b ≡ true → allFit (drop i vs) (drop i ks) ≡ allFit (drop (i + 1) vs) (drop (i + 1) ks)
-  fit-on q = fit-step ∙ rw q
-
-pub fit-end : (vs ks : List ℕ) (i : ℕ) → length vs ≤ i → allFit (drop i vs) (drop i ks) ≡ true
-unfolding allFit
-fit-end vs ks i h = rw (drop-of-length-le vs h)
-
--- ---- the three answers
 
 module _ (σ : Store) where
   pub set-7 : lengthsFit (σ .lent) ≡ false → outcome (Refused 7) σ ≡ setUpTaken σ

@@ -4,7 +4,7 @@ ghost use mathlib.Core.Path.{_≡_};
 ghost use mathlib.Core.Bool.{Bool, true, false};
 ghost use Prim.Native.Nat.{ℕ, _+_, _*_, _<_, _≤_};
 ghost use lib.ListN.{length, replicate};
-ghost use Rattle.model.specs.Buffers.{idle, sessionAt, cellAt, lockAt, lockOn, join, appended, fits, allFit};
+ghost use Rattle.model.specs.Buffers.{sessionAt, cellAt, lockAt, lockOn, join, appended};
 ghost use Rattle.model.specs.Step.{outcome, taken, setUpTaken, planOf, shown};
 ghost use Rattle.model.specs.declared.Call.the-variants.{Begin, Read, Write, Seal, Advance, Abandon, Peek};
 ghost use Rattle.log.specs.Slots.{part};
@@ -17,35 +17,9 @@ use model::Call;
 use model::Lock;
 use model::Plan;
 use model::Reply;
-use model::Session;
 use model::Sessions;
 
 // ---- set-up
-
-// A class byte of at most 15, and a value within its cap.
-fn fits_cap(class: u8, value: u32) -> bool
-    ensures { λ r. ⌜ r ≡ fits class value ⌝ }
-{
-    if 15 < class {
-        return false;
-    }
-    value <= decide::cap(class)
-}
-
-// Each value within the cap of its class.
-fn all_fit(values: &[u32], classes: &[u8]) -> bool
-    requires { ⌜ length (now classes) ≡ length (now values) ⌝ }
-    ensures { λ r. ⌜ r ≡ allFit (now (values .entry)) (now (classes .entry)) ⌝ }
-{
-    let mut i = 0;
-    while i < values.len() {
-        if !fits_cap(classes[i], values[i]) {
-            return false;
-        }
-        i += 1;
-    }
-    true
-}
 
 // Every reader set empty.
 fn clear_sets(s: &mut [u16])
@@ -67,29 +41,6 @@ fn fill_bytes(s: &mut [u8], b: u8)
         s[i] = b;
         i += 1;
     }
-}
-
-// Every word 0.
-fn clear_words(s: &mut [u32])
-    ensures { λ _. ⌜ now (s .exit) ≡ replicate (length (now (s .entry))) 0 ⌝ }
-{
-    let mut i = 0;
-    while i < s.len() {
-        s[i] = 0;
-        i += 1;
-    }
-}
-
-// All sessions idle.
-fn all_idle() -> Sessions
-    ensures { λ r. ⌜ r ≡ record { records = replicate 16 idle } ⌝ }
-{
-    let records = [Session {
-        phase: 0,
-        count: 0,
-        next: 0,
-    }; 16];
-    Sessions { records }
 }
 
 // Set-up: all sessions idle, all locks empty, all log words 0. 100, 7 or 8.
@@ -117,7 +68,7 @@ pub fn set_up(
             sessions,
         };
     }
-    if !all_fit(values, classes) {
+    if !decide::all_fit(values, classes) {
         return Reply {
             answer: Answer::Refused(8),
             sessions,
@@ -126,8 +77,8 @@ pub fn set_up(
     clear_sets(readers);
     fill_bytes(claimants, 16);
     fill_bytes(exclusives, 0);
-    clear_words(logs);
-    let idle = all_idle();
+    log::clear_words(logs);
+    let idle = model::all_idle();
     Reply {
         answer: Answer::Done,
         sessions: idle,

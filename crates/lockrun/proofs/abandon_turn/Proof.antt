@@ -5,12 +5,6 @@ use lib.ListN.{length}
 use borrow.Author.Needs.{needs}
 use Rattle.lockrun.proofs.abandon_turn.Statement.{statement}
 use Rattle.lockrun.proofs.abandon_turn.Tie as tie
-use Rattle.lockrun.proofs.abandon_turn.Reads as reads
-use Rattle.lockrun.proofs.abandon_turn.Lts as lts
-use Rattle.decide.proofs.lengths_fit.Reads as lengths-fit-reads
-use Rattle.decide.proofs.tests.Reads as tests-reads
-use Rattle.lockrun.proofs.kept.Reads as kept-reads
-use Rattle.model.proofs.Session.rested.Reads as rested-reads
 
 -- what is known past refusals 7 and 1
 sizes : (c : tie.Else2) → let a = c .before .before .before .before .before .before .args in AllSized (a .values .now) (a .classes .now) (a .logs .now) (a .t1) (a .locks) (a .session)

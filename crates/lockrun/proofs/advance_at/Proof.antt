@@ -3,12 +3,6 @@ use Rattle.lockrun.proofs.AdvanceWays.{part-ends, in-part, can-advance,
 use borrow.Author.Needs.{needs}
 use Rattle.lockrun.proofs.advance_at.Statement.{statement}
 use Rattle.lockrun.proofs.advance_at.Tie as tie
-use Rattle.lockrun.proofs.advance_at.Reads as reads
-use Rattle.lockrun.proofs.advance_at.Lts as lts
-use Rattle.decide.proofs.advance.Reads as advance-reads
-use Rattle.decide.proofs.handle.Reads as handle-reads
-use Rattle.log.proofs.cell_at.Reads as cell-at-reads
-use Rattle.model.proofs.Session.rested.Reads as rested-reads
 
 mul-a : tie.Need-mul-a
 mul-a c = search needs

@@ -5,10 +5,6 @@ use mathlib.Core.Path.{sym, _∙_}
 use borrow.Author.Needs.{needs}
 use Rattle.lockrun.proofs.advance_turn.Statement.{statement}
 use Rattle.lockrun.proofs.advance_turn.Tie as tie
-use Rattle.lockrun.proofs.advance_turn.Reads as reads
-use Rattle.lockrun.proofs.advance_turn.Lts as lts
-use Rattle.lockrun.proofs.advance_at.Reads as advance-at-reads
-use Rattle.lockrun.proofs.kept.Reads as kept-reads
 
 enum-known-entry : tie.Need-enum-known-entry
 enum-known-entry c = search needs

@@ -1,6 +1,6 @@
 -- `lockrun::begin` meets its contract: a walk of its MIR, by hand. Of the run only the count is read; `begin_turn`, which is covered, does the rest.
 -- Assumes nothing.
-use mathlib.Core.Path.{_≡_, refl}
+use mathlib.Core.Path.{refl}
 use Prim.Native.Nat.{ℕ, _<_, _^_}
 use mathlib.Core.List.{List, [], _∷_}
 use lib.ListN.{length}
@@ -41,7 +41,7 @@ use Rattle.model.specs.declared.Reply.{Reply}
 use Rattle.model.specs.declared.Call.the-variants.{Begin}
 use Rattle.lockrun.specs.Turns.{Answered}
 use Rattle.lockrun.proofs.Row.{R, RS, low-s, tells-s, makes-s, typed-s, RA, typed-a}
-use Rattle.lockrun.proofs.Leave.{full, bare, leave}
+use Rattle.lockrun.proofs.Leave.{full, leave}
 use Rattle.lockrun.proofs.Short.{var, sets}
 use Rattle.lockrun.proofs.begin_turn as begin-turn
 use Rattle.lockrun.proofs.begin_turn.Symbol as begin-turn-def

@@ -4,11 +4,6 @@ use borrow.Author.Tests.{not-true, not-false}
 use borrow.Author.Needs.{needs}
 use Rattle.lockrun.proofs.begin_turn.Statement.{statement}
 use Rattle.lockrun.proofs.begin_turn.Tie as tie
-use Rattle.lockrun.proofs.begin_turn.Reads as reads
-use Rattle.lockrun.proofs.begin_turn.Lts as lts
-use Rattle.decide.proofs.lengths_fit.Reads as lengths-fit-reads
-use Rattle.decide.proofs.tests.Reads as tests-reads
-use Rattle.model.proofs.Session.begun.Reads as begun-reads
 
 lengths-fit-requires : tie.Need-lengths-fit-requires
 lengths-fit-requires c κs = search needs

@@ -1,13 +1,9 @@
 -- `lockrun::cell_of` meets its contract: one arm for each change.
 use Rattle.lockrun.proofs.Cells.{withdraw-fits, leave-fits}
-use Rattle.lockrun.specs.Run.{Fits, turnsOf, cellOf}
+use Rattle.lockrun.specs.Run.{cellOf}
 use borrow.Author.Needs.{needs}
 use Rattle.lockrun.proofs.cell_of.Statement.{statement}
 use Rattle.lockrun.proofs.cell_of.Tie as tie
-use Rattle.lockrun.proofs.cell_of.Reads as reads
-use Rattle.lockrun.proofs.cell_of.Lts as lts
-use Rattle.lockrun.proofs.entry_cell.Reads as entry-cell-reads
-use Rattle.lockrun.proofs.unwritten_cell.Reads as unwritten-cell-reads
 
 enum-told : tie.Need-enum-told
 enum-told c = search needs

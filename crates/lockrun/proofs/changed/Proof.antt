@@ -1,16 +1,8 @@
 -- `lockrun::changed` meets its contract: one arm for each change, by the function of crate `locks` that makes it.
-use Rattle.lockrun.specs.Run.{Known, changeOf}
+use Rattle.lockrun.specs.Run.{changeOf}
 use borrow.Author.Needs.{needs}
 use Rattle.lockrun.proofs.changed.Statement.{statement}
 use Rattle.lockrun.proofs.changed.Tie as tie
-use Rattle.lockrun.proofs.changed.Reads as reads
-use Rattle.lockrun.proofs.changed.Lts as lts
-use Rattle.locks.proofs.claimed.Reads as claimed-reads
-use Rattle.locks.proofs.joined.Reads as joined-reads
-use Rattle.locks.proofs.left.Reads as left-reads
-use Rattle.locks.proofs.owned.Reads as owned-reads
-use Rattle.locks.proofs.vacated.Reads as vacated-reads
-use Rattle.locks.proofs.withdrawn.Reads as withdrawn-reads
 
 enum-told : tie.Need-enum-told
 enum-told c = search needs

@@ -5,10 +5,6 @@ use borrow.Author.Tests.{not-true, not-false}
 use borrow.Author.Needs.{needs}
 use Rattle.lockrun.proofs.due_entry.Statement.{statement}
 use Rattle.lockrun.proofs.due_entry.Tie as tie
-use Rattle.lockrun.proofs.due_entry.Reads as reads
-use Rattle.lockrun.proofs.due_entry.Lts as lts
-use Rattle.decide.proofs.due_slot.Reads as due-slot-reads
-use Rattle.decide.proofs.lengths_fit.Reads as lengths-fit-reads
 
 lengths-fit-requires : tie.Need-lengths-fit-requires
 lengths-fit-requires c κs = search needs

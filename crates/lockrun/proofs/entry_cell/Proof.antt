@@ -6,9 +6,6 @@ use native.Mathlib.Omega.{arith}
 use borrow.Author.Needs.{needs}
 use Rattle.lockrun.proofs.entry_cell.Statement.{statement}
 use Rattle.lockrun.proofs.entry_cell.Tie as tie
-use Rattle.lockrun.proofs.entry_cell.Reads as reads
-use Rattle.lockrun.proofs.entry_cell.Lts as lts
-use Rattle.log.proofs.cell_at.Reads as cell-at-reads
 
 mul-a : tie.Need-mul-a
 mul-a c = search needs

@@ -1,7 +1,7 @@
 -- `lockrun::lock_at` meets its contract: a walk of its MIR, by hand, with a branch. Below the length the element is read; past it the empty lock is made.
 -- Assumes nothing.
 use mathlib.Core.Path.{_≡_, refl, sym}
-use Prim.Native.Nat.{ℕ, _<_, _^_, _*_}
+use Prim.Native.Nat.{ℕ, _<_, _^_}
 use mathlib.Core.List.{List, [], _∷_}
 use lib.ListN.{length, getD, List·getD-eq-default}
 use lib.Dec.{ltb→lt, nltb→le}
@@ -38,7 +38,7 @@ use denote.Triple.Walked.{says, Stays, stay-none, stay-none-slice, walkOf, goes-
 use denote.Exit.{yes}
 use Rattle.model.specs.declared.Lock.{Lock}
 use Rattle.model.specs.Buffers.{free}
-use Rattle.lockrun.proofs.Leave.{full, bare, leave}
+use Rattle.lockrun.proofs.Leave.{full, leave}
 use Rattle.lockrun.proofs.Row.{R, low, vals, tells, makes, copy, typed, free-is, place-fits}
 use Rattle.model.proofs.Lock as T
 use Rattle.model.proofs.Lock.Laws as T′

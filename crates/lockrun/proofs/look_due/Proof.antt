@@ -1,11 +1,8 @@
 -- `lockrun::look_due` meets its contract: the cell is that of the entry that was found.
-use Rattle.lockrun.specs.Turns.{Found, cellDue, lookAt}
+use Rattle.lockrun.specs.Turns.{cellDue, lookAt}
 use borrow.Author.Needs.{needs}
 use Rattle.lockrun.proofs.look_due.Statement.{statement}
 use Rattle.lockrun.proofs.look_due.Tie as tie
-use Rattle.lockrun.proofs.look_due.Reads as reads
-use Rattle.lockrun.proofs.look_due.Lts as lts
-use Rattle.lockrun.proofs.entry_cell.Reads as entry-cell-reads
 
 enum-told : tie.Need-enum-told
 enum-told c = search needs

@@ -4,10 +4,6 @@ use Rattle.lockrun.specs.Turns.{lookOf}
 use borrow.Author.Needs.{needs}
 use Rattle.lockrun.proofs.look_up.Statement.{statement}
 use Rattle.lockrun.proofs.look_up.Tie as tie
-use Rattle.lockrun.proofs.look_up.Reads as reads
-use Rattle.lockrun.proofs.look_up.Lts as lts
-use Rattle.lockrun.proofs.due_entry.Reads as due-entry-reads
-use Rattle.lockrun.proofs.look_due.Reads as look-due-reads
 
 enum-told : tie.Need-enum-told
 enum-told c = search needs

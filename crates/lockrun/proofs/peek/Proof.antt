@@ -1,6 +1,6 @@
 -- `lockrun::peek` meets its contract: a walk of its MIR, by hand. Of the run only the count is read; `peek_part`, which is covered, hands back the part.
 -- Assumes nothing.
-use mathlib.Core.Path.{_≡_, refl}
+use mathlib.Core.Path.{refl}
 use Prim.Native.Nat.{ℕ, _<_, _^_}
 use mathlib.Core.List.{List, [], _∷_}
 use lib.ListN.{length}
@@ -39,7 +39,7 @@ use Rattle.model.specs.declared.Lock.{Lock}
 use Rattle.model.specs.declared.Sessions.{Sessions}
 use Rattle.lockrun.specs.Turns.{HandsBack}
 use Rattle.lockrun.proofs.Row.{R, RS, low-s, tells-s, makes-s, typed-s}
-use Rattle.lockrun.proofs.Leave.{full, bare, leave}
+use Rattle.lockrun.proofs.Leave.{full, leave}
 use Rattle.lockrun.proofs.Short.{var, sets}
 use Rattle.lockrun.proofs.peek_part as peek-part
 use Rattle.lockrun.proofs.peek_part.Symbol as peek-part-def

@@ -1,6 +1,6 @@
 -- `lockrun::peek_number` meets its contract: a walk of its MIR, by hand. Of the run only the count is read; `peek_turn`, which is covered, answers.
 -- Assumes nothing.
-use mathlib.Core.Path.{_≡_, refl}
+use mathlib.Core.Path.{refl}
 use Prim.Native.Nat.{ℕ, _<_, _^_}
 use mathlib.Core.List.{List, [], _∷_}
 use lib.ListN.{length}
@@ -41,7 +41,7 @@ use Rattle.model.specs.declared.Reply.{Reply}
 use Rattle.model.specs.declared.Call.the-variants.{Peek}
 use Rattle.lockrun.specs.Turns.{Answered}
 use Rattle.lockrun.proofs.Row.{R, RS, low-s, tells-s, makes-s, typed-s, RA, typed-a}
-use Rattle.lockrun.proofs.Leave.{full, bare, leave}
+use Rattle.lockrun.proofs.Leave.{full, leave}
 use Rattle.lockrun.proofs.Short.{var, sets}
 use Rattle.lockrun.proofs.peek_turn as peek-turn
 use Rattle.lockrun.proofs.peek_turn.Symbol as peek-turn-def

@@ -5,9 +5,6 @@ use native.Mathlib.Omega.{arith}
 use borrow.Author.Needs.{needs}
 use Rattle.lockrun.proofs.peek_part.Statement.{statement}
 use Rattle.lockrun.proofs.peek_part.Tie as tie
-use Rattle.lockrun.proofs.peek_part.Reads as reads
-use Rattle.lockrun.proofs.peek_part.Lts as lts
-use Rattle.lockrun.proofs.peek_plan.Reads as peek-plan-reads
 
 peek-plan-requires : tie.Need-peek-plan-requires
 peek-plan-requires c κs = search needs

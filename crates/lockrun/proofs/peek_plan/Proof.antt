@@ -4,10 +4,6 @@ use borrow.Author.Tests.{not-true, not-false}
 use borrow.Author.Needs.{needs}
 use Rattle.lockrun.proofs.peek_plan.Statement.{statement}
 use Rattle.lockrun.proofs.peek_plan.Tie as tie
-use Rattle.lockrun.proofs.peek_plan.Reads as reads
-use Rattle.lockrun.proofs.peek_plan.Lts as lts
-use Rattle.decide.proofs.lengths_fit.Reads as lengths-fit-reads
-use Rattle.decide.proofs.peek.Reads as peek-reads
 
 lengths-fit-requires : tie.Need-lengths-fit-requires
 lengths-fit-requires c κs = search needs

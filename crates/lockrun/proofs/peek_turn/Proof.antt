@@ -3,9 +3,6 @@ use Rattle.lockrun.proofs.Ways.{peek-turns, peek-shows}
 use borrow.Author.Needs.{needs}
 use Rattle.lockrun.proofs.peek_turn.Statement.{statement}
 use Rattle.lockrun.proofs.peek_turn.Tie as tie
-use Rattle.lockrun.proofs.peek_turn.Reads as reads
-use Rattle.lockrun.proofs.peek_turn.Lts as lts
-use Rattle.lockrun.proofs.peek_plan.Reads as peek-plan-reads
 
 peek-plan-requires : tie.Need-peek-plan-requires
 peek-plan-requires c κs = search needs

@@ -1,6 +1,6 @@
 -- `lockrun::read` meets its contract: a walk of its MIR, by hand. All that it is lent is passed on to `step`, at its own lifetimes (`Passed.antt`).
 -- Assumes nothing.
-use mathlib.Core.Path.{_≡_, refl}
+use mathlib.Core.Path.{refl}
 use Prim.Native.Nat.{ℕ, _<_, _^_}
 use mathlib.Core.List.{List, [], _∷_}
 use lib.ListN.{length}
@@ -39,7 +39,7 @@ use Rattle.model.specs.declared.Sessions.{Sessions}
 use Rattle.model.specs.declared.Call.{Call}
 use Rattle.model.specs.declared.Call.the-variants.{Read}
 use Rattle.lockrun.proofs.Row.{R, RS, low-s, tells-s, makes-s, typed-s, RA, typed-a, RK, low-k, typed-k, read-is}
-use Rattle.lockrun.proofs.Leave.{full, bare, leave}
+use Rattle.lockrun.proofs.Leave.{full, leave}
 use Rattle.lockrun.proofs.Short.{var, sets}
 use Rattle.lockrun.proofs.Passed.{Left, Step, Kinds, Tokens, Said, st-to, st-gives, st-goes, st-gets}
 use Rattle.lockrun.proofs.step.Symbol as step-def

@@ -7,14 +7,6 @@ use native.Mathlib.Omega.{arith}
 use borrow.Author.Needs.{needs}
 use Rattle.lockrun.proofs.read_turn.Statement.{statement}
 use Rattle.lockrun.proofs.read_turn.Tie as tie
-use Rattle.lockrun.proofs.read_turn.Reads as reads
-use Rattle.lockrun.proofs.read_turn.Lts as lts
-use Rattle.decide.proofs.lengths_fit.Reads as lengths-fit-reads
-use Rattle.decide.proofs.read.Reads as read-reads
-use Rattle.lockrun.proofs.kept.Reads as kept-reads
-use Rattle.log.proofs.append.Reads as append-reads
-use Rattle.model.proofs.Session.rested.Reads as rested-reads
-use Rattle.model.proofs.Session.with_entry.Reads as with-entry-reads
 
 -- what is known past refusals 7 and 1
 sizes : (c : tie.Else2) → let a = c .before .before .before .before .before .before .args in AllSized (a .values .now) (a .classes .now) (a .logs .now) (a .t1) (a .locks) (a .session)

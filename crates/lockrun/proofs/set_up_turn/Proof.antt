@@ -5,13 +5,6 @@ use native.Mathlib.Omega.{arith}
 use borrow.Author.Needs.{needs}
 use Rattle.lockrun.proofs.set_up_turn.Statement.{statement}
 use Rattle.lockrun.proofs.set_up_turn.Tie as tie
-use Rattle.lockrun.proofs.set_up_turn.Reads as reads
-use Rattle.lockrun.proofs.set_up_turn.Lts as lts
-use Rattle.decide.proofs.lengths_fit.Reads as lengths-fit-reads
-use Rattle.lockrun.proofs.all_fit.Reads as all-fit-reads
-use Rattle.lockrun.proofs.all_idle.Reads as all-idle-reads
-use Rattle.lockrun.proofs.clear_words.Reads as clear-words-reads
-use Rattle.lockrun.proofs.kept.Reads as kept-reads
 
 lengths-fit-requires : tie.Need-lengths-fit-requires
 lengths-fit-requires c κs = search needs

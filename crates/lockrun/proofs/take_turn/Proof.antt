@@ -3,16 +3,6 @@ use Rattle.lockrun.proofs.Taken.{tell, by-read, by-write, by-seal, by-a
 use borrow.Author.Needs.{needs}
 use Rattle.lockrun.proofs.take_turn.Statement.{statement}
 use Rattle.lockrun.proofs.take_turn.Tie as tie
-use Rattle.lockrun.proofs.take_turn.Reads as reads
-use Rattle.lockrun.proofs.take_turn.Lts as lts
-use Rattle.lockrun.proofs.abandon_turn.Reads as abandon-turn-reads
-use Rattle.lockrun.proofs.advance_turn.Reads as advance-turn-reads
-use Rattle.lockrun.proofs.begin_turn.Reads as begin-turn-reads
-use Rattle.lockrun.proofs.peek_turn.Reads as peek-turn-reads
-use Rattle.lockrun.proofs.read_turn.Reads as read-turn-reads
-use Rattle.lockrun.proofs.seal_turn.Reads as seal-turn-reads
-use Rattle.lockrun.proofs.told.Reads as told-reads
-use Rattle.lockrun.proofs.write_turn.Reads as write-turn-reads
 
 enum-known-call : tie.Need-enum-known-call
 enum-known-call c = search needs

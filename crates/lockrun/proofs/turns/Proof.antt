@@ -3,8 +3,6 @@ use Rattle.lockrun.specs.Run.{turnsOf}
 use borrow.Author.Needs.{needs}
 use Rattle.lockrun.proofs.turns.Statement.{statement}
 use Rattle.lockrun.proofs.turns.Tie as tie
-use Rattle.lockrun.proofs.turns.Reads as reads
-use Rattle.lockrun.proofs.turns.Lts as lts
 
 enum-told : tie.Need-enum-told
 enum-told c = search needs

@@ -1,16 +1,10 @@
 -- `lockrun::unwritten_cell` meets its contract: the cell's first entry in the session's part says whether the cell is written.
 use Rattle.lockrun.proofs.Cells.{written-cell, unwritten, first-there}
 use Rattle.store.proofs.Parts.{part-long}
-use mathlib.Core.Path.{_∙_, sym}
 use native.Mathlib.Omega.{arith}
 use borrow.Author.Needs.{needs}
 use Rattle.lockrun.proofs.unwritten_cell.Statement.{statement}
 use Rattle.lockrun.proofs.unwritten_cell.Tie as tie
-use Rattle.lockrun.proofs.unwritten_cell.Reads as reads
-use Rattle.lockrun.proofs.unwritten_cell.Lts as lts
-use Rattle.log.proofs.cell_at.Reads as cell-at-reads
-use Rattle.log.proofs.find.Reads as find-reads
-use Rattle.log.proofs.publishes.Reads as publishes-reads
 
 mul-a : tie.Need-mul-a
 mul-a c = search needs

@@ -5,7 +5,7 @@ use mathlib.Core.List.{_++_}
 use native.Mathlib.Omega.{arith}
 use borrow.Author.Needs.{needs}
 use lib.ListN.{length-set, length, drop, replicate}
-use Rattle.store.proofs.SetUp.{fill-again, fill-end}
+use Rattle.log.proofs.Fills.{fill-again, fill-end}
 use Rattle.store.proofs.clear_sets.Statement.{statement}
 use Rattle.store.proofs.clear_sets.Tie as tie
 

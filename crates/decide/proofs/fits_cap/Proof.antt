@@ -1,8 +1,8 @@
 -- A class byte above 15 fits nothing; else the value is held to the cap.
 use borrow.Author.Needs.{needs}
-use Rattle.store.proofs.SetUp.{fits-not, fits-cap}
-use Rattle.store.proofs.fits_cap.Statement.{statement}
-use Rattle.store.proofs.fits_cap.Tie as tie
+use Rattle.decide.proofs.Caps.{fits-not, fits-cap}
+use Rattle.decide.proofs.fits_cap.Statement.{statement}
+use Rattle.decide.proofs.fits_cap.Tie as tie
 
 returns : tie.Need-returns
 returns c = fits-not _ _ (c .if1 .taken)

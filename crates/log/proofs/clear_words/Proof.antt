@@ -5,9 +5,9 @@ use mathlib.Core.List.{_++_}
 use native.Mathlib.Omega.{arith}
 use borrow.Author.Needs.{needs}
 use lib.ListN.{length-set, length, drop, replicate}
-use Rattle.store.proofs.SetUp.{fill-again, fill-end}
-use Rattle.store.proofs.clear_words.Statement.{statement}
-use Rattle.store.proofs.clear_words.Tie as tie
+use Rattle.log.proofs.Fills.{fill-again, fill-end}
+use Rattle.log.proofs.clear_words.Statement.{statement}
+use Rattle.log.proofs.clear_words.Tie as tie
 
 abbrev Inv-loop : tie.InvT-loop
 Inv-loop s₀ i₀ s i = (i ≤ length s₀) × (length s ≡ length s₀) × (s ≡ replicate i 0 ++ drop i s₀)

@@ -5,9 +5,9 @@ use borrow.Author.Needs.{needs}
 use borrow.Author.Tests.{not-true, not-false}
 use lib.ListN.{length, drop}
 use Rattle.model.specs.Buffers.{allFit}
-use Rattle.store.proofs.SetUp.{fit-fails, fit-on, fit-end}
-use Rattle.store.proofs.all_fit.Statement.{statement}
-use Rattle.store.proofs.all_fit.Tie as tie
+use Rattle.decide.proofs.Caps.{fit-fails, fit-on, fit-end}
+use Rattle.decide.proofs.all_fit.Statement.{statement}
+use Rattle.decide.proofs.all_fit.Tie as tie
 
 abbrev Inv-loop : tie.InvT-loop
 Inv-loop values classes i₀ i = (i ≤ length values) × (allFit (drop i values) (drop i classes) ≡ allFit values classes)
