@@ -1,4 +1,4 @@
--- What the two walks of this crate cite: an array of eight locks, and the result that holds one.
+-- What the walks of this crate cite: an array of eight locks, and the result that holds one.
 -- Assumes nothing.
 use mathlib.Core.Path.{refl, _∙_}
 use mathlib.Core.List.{List, [], _∷_, map}

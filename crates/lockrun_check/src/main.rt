@@ -1,13 +1,17 @@
 // Runs document 01's listing and a long mixed list twice, on lock records and on number slices, and compares every answer and every word.
-// It writes the listing's answers, then how many calls of the mixed list had each answer, and whether anything ever differed.
+// It writes the listing's answers, then how many calls of the mixed list had each answer, how many peeks handed back which part, and whether anything
+// ever differed.
 ghost use mathlib.Core.Path.{_≡_};
 ghost use Prim.Native.Nat.{_<_};
-ghost use Rattle.model.specs.Step.{outcome, taken, setUpTaken};
+ghost use Rattle.model.specs.Step.{outcome, taken, setUpTaken, planOf, shown};
+ghost use Rattle.model.specs.declared.Call.the-variants.{Peek};
+ghost use Rattle.store.specs.Lent.{Handed};
 ghost use Rattle.lockrun.specs.Run.{storeOn};
 use libc::STDOUT_FILENO;
 use model::Answer;
 use model::Call;
 use model::Lock;
+use model::Plan;
 use model::Reply;
 use model::Session;
 use model::Sessions;
@@ -49,15 +53,42 @@ fn step_on(
     Left { reply, locks: run }
 }
 
+// The run is only read, so it is not handed back.
+fn peek_on<'a>(
+    sessions: Sessions,
+    values: &'a [u32],
+    classes: &[u8],
+    locks: [Lock; 8],
+    logs: &'a [u32],
+    session: u8,
+    cell: u32,
+) -> &'a [u32]
+    ensures { λ r. ⌜ Handed (values .entry) (logs .entry) (shown session (planOf (Peek session cell) (storeOn (now (values .entry)) (now (classes .entry)) locks (now (logs .entry)) sessions))) r ⌝ }
+{
+    lockrun::peek(sessions, values, classes, &locks, logs, session, cell)
+}
+
 // ---- both forms side by side
 
-// What a call on both forms leaves: the answer on records, whether all was the same, the records of sessions and the run.
-struct Both {
-    answer: Answer,
+// The part that a call hands back: only a peek is asked for one, and it is a word of the store, a word of the log, or no word.
+enum Part {
+    Unasked,
+    StoreWord,
+    LogWord,
+    NoWord,
+}
+
+// A part, and whether all was the same on both forms.
+struct Shown {
+    part: Part,
     same: bool,
-    slices: Sessions,
-    records: Sessions,
-    locks: [Lock; 8],
+}
+
+// What a call on both forms leaves.
+struct Both {
+    slices: Reply,
+    records: Left,
+    shown: Shown,
 }
 
 fn same_words(a: &[u32], b: &[u32]) -> bool {
@@ -152,6 +183,67 @@ fn same_answers(a: Answer, b: Answer) -> bool {
     value(a) == value(b)
 }
 
+// If the call is a peek, its part on both forms, length and word compared. A program cannot compare where a part lies: that it is the store's own word, or
+// the log's own, the contracts say, and which of the two is taken from the plan.
+fn parts_both<'a, 'b>(
+    call: Call,
+    slices: Sessions,
+    records: Sessions,
+    classes: &[u8],
+    values: &'a [u32],
+    readers: &[u16],
+    claimants: &[u8],
+    exclusives: &[u8],
+    logs: &'a [u32],
+    values2: &'b [u32],
+    locks: [Lock; 8],
+    logs2: &'b [u32],
+) -> Shown {
+    if let Call::Peek(session, cell) = call {
+        let plan = store::peek_plan(
+            slices,
+            values,
+            classes,
+            readers,
+            claimants,
+            exclusives,
+            logs,
+            session,
+            cell,
+        );
+        let a = store::peek(
+            slices,
+            values,
+            classes,
+            readers,
+            claimants,
+            exclusives,
+            logs,
+            session,
+            cell,
+        );
+        let b = peek_on(records, values2, classes, locks, logs2, session, cell);
+        let part = part_of(plan, b.len());
+        let same = same_words(a, b);
+        return Shown { part, same };
+    }
+    Shown {
+        part: Part::Unasked,
+        same: true,
+    }
+}
+
+// The part of n words that a plan handed back.
+fn part_of(plan: Plan, n: usize) -> Part {
+    if n == 0 {
+        return Part::NoWord;
+    }
+    if let Plan::ShowLog(_) = plan {
+        return Part::LogWord;
+    }
+    Part::StoreWord
+}
+
 // One call on both forms, and all compared.
 fn call_both(
     call: Call,
@@ -178,29 +270,74 @@ fn call_both(
         logs,
     );
     let b = step_on(call, records, values2, classes, locks, logs2);
-    let reply = b.reply;
-    let run = b.locks;
-    let same = all_same(
+    let shown = compared(
+        call,
         a,
-        reply,
+        b,
+        classes,
         &values[..],
-        &values2[..],
-        run,
         &readers[..],
         &claimants[..],
         &exclusives[..],
         &logs[..],
+        &values2[..],
         &logs2[..],
     );
-    let answer = reply.answer;
+    Both {
+        slices: a,
+        records: b,
+        shown,
+    }
+}
+
+// The answers, all words, and the parts.
+fn compared<'a, 'b>(
+    call: Call,
+    a: Reply,
+    b: Left,
+    classes: &[u8],
+    values: &'a [u32],
+    readers: &[u16],
+    claimants: &[u8],
+    exclusives: &[u8],
+    logs: &'a [u32],
+    values2: &'b [u32],
+    logs2: &'b [u32],
+) -> Shown {
+    let reply = b.reply;
+    let locks = b.locks;
+    let same = all_same(
+        a,
+        reply,
+        values,
+        values2,
+        locks,
+        readers,
+        claimants,
+        exclusives,
+        logs,
+        logs2,
+    );
     let x = a.sessions;
     let y = reply.sessions;
-    Both {
-        answer,
-        same,
-        slices: x,
-        records: y,
-        locks: run,
+    let s = parts_both(
+        call,
+        x,
+        y,
+        classes,
+        values,
+        readers,
+        claimants,
+        exclusives,
+        logs,
+        values2,
+        locks,
+        logs2,
+    );
+    let part = s.part;
+    Shown {
+        part,
+        same: same & s.same,
     }
 }
 
@@ -379,21 +516,52 @@ fn refusal(n: u8) -> usize
     6
 }
 
-// How many calls had the answer of each place.
+// Where a part is counted.
+fn part_place(p: Part) -> usize
+    ensures { λ r. ⌜ r < 4 ⌝ }
+{
+    match p {
+        Part::Unasked => 0,
+        Part::StoreWord => 1,
+        Part::LogWord => 2,
+        Part::NoWord => 3,
+    }
+}
+
+// How many calls had the answer of each place, and the part of each place.
 struct Counts {
-    all: [u32; 22],
+    answers: [u32; 22],
+    parts: [u32; 4],
 }
 
 // The listing's answers are written, the others counted.
-fn noted(counts: [u32; 22], i: usize, answer: Answer) -> Counts {
+fn noted(counts: Counts, i: usize, answer: Answer, part: Part) -> Counts {
     if i < 13 {
         print_answer(i as u32 + 1, answer);
-        return Counts { all: counts };
+        return counts;
     }
     let mut more = counts;
     let k = place(answer);
-    more[k] = std::num::wrapping_add_u32(more[k], 1);
-    Counts { all: more }
+    more.answers[k] = std::num::wrapping_add_u32(more.answers[k], 1);
+    let m = part_place(part);
+    more.parts[m] = std::num::wrapping_add_u32(more.parts[m], 1);
+    more
+}
+
+// How many peeks there were, and how many of them handed back a word of the store, a word of the log, and no word.
+fn print_parts(parts: [u32; 4]) {
+    let store = parts[1];
+    let log = parts[2];
+    let none = parts[3];
+    let words = std::num::wrapping_add_u32(store, log);
+    io::write_all(STDOUT_FILENO, b"peeks ");
+    print(std::num::wrapping_add_u32(words, none), b'\n');
+    io::write_all(STDOUT_FILENO, b"store ");
+    print(store, b'\n');
+    io::write_all(STDOUT_FILENO, b"log ");
+    print(log, b'\n');
+    io::write_all(STDOUT_FILENO, b"none ");
+    print(none, b'\n');
 }
 
 fn print_counts(counts: [u32; 22]) {
@@ -458,7 +626,10 @@ fn main() {
     );
     let mut slices = a.sessions;
     let mut records = reply.sessions;
-    let mut counts = [0u32; 22];
+    let mut counts = Counts {
+        answers: [0; 22],
+        parts: [0; 4],
+    };
     let mut seed: u32 = 20261115;
     let mut i: usize = 0;
     while i < 6013 {
@@ -478,16 +649,22 @@ fn main() {
             locks,
             &mut logs2,
         );
-        slices = r.slices;
-        records = r.records;
-        locks = r.locks;
-        same = same & r.same;
-        let answer = r.answer;
-        let more = noted(counts, i, answer);
-        counts = more.all;
+        let left = r.records;
+        let reply = left.reply;
+        let shown = r.shown;
+        slices = r.slices.sessions;
+        records = reply.sessions;
+        locks = left.locks;
+        same = same & shown.same;
+        let answer = reply.answer;
+        let part = shown.part;
+        counts = noted(counts, i, answer, part);
         i += 1;
     }
-    print_counts(counts);
+    let answers = counts.answers;
+    print_counts(answers);
+    let parts = counts.parts;
+    print_parts(parts);
     if same {
         io::write_all(STDOUT_FILENO, b"same\n");
     } else {

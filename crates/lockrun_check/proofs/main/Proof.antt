@@ -14,6 +14,7 @@ use Rattle.lockrun_check.proofs.call_both.Reads as call-both-reads
 use Rattle.lockrun_check.proofs.next.Reads as next-reads
 use Rattle.lockrun_check.proofs.noted.Reads as noted-reads
 use Rattle.lockrun_check.proofs.print_counts.Reads as print-counts-reads
+use Rattle.lockrun_check.proofs.print_parts.Reads as print-parts-reads
 use Rattle.lockrun_check.proofs.set_up_on.Reads as set-up-on-reads
 use Rattle.store.proofs.set_up.Reads as set-up-reads
 
@@ -135,16 +136,19 @@ noted-requires : tie.Need-noted-requires Inv-loop μ-loop
 noted-requires c κs = search needs
 
 add-i : tie.Need-add-i Inv-loop μ-loop
-add-i c = search (needs, c .before .before .before .before .before .before .before .before .before .before .before .before .before .before .before .before .before .before .before .before .before .before .before .before .before .before .loop-test .taken)
+add-i c = search (needs, c .before .before .before .before .before .before .before .before .before .before .before .before .before .before .before .before .before .before .before .before .before .before .before .before .before .before .before .before .loop-test .taken)
 
 loop-less : tie.Need-loop-less Inv-loop μ-loop
-loop-less c = search (needs, c .before .before .before .before .before .before .before .before .before .before .before .before .before .before .before .before .before .before .before .before .before .before .before .before .before .before .loop-test .taken)
+loop-less c = search (needs, c .before .before .before .before .before .before .before .before .before .before .before .before .before .before .before .before .before .before .before .before .before .before .before .before .before .before .before .before .loop-test .taken)
 
 loop-again : tie.Need-loop-again Inv-loop μ-loop
-loop-again c = search (needs, c .before .before .before .before .before .before .before .before .before .before .before .before .before .before .before .before .before .before .before .before .before .before .before .before .before .before .loop-test .taken)
+loop-again c = search (needs, c .before .before .before .before .before .before .before .before .before .before .before .before .before .before .before .before .before .before .before .before .before .before .before .before .before .before .before .before .loop-test .taken)
 
 print-counts-requires : tie.Need-print-counts-requires Inv-loop μ-loop
 print-counts-requires c κs = search needs
+
+print-parts-requires : tie.Need-print-parts-requires Inv-loop μ-loop
+print-parts-requires c κs = search needs
 
 slice-aggregate-write-all : tie.Need-slice-aggregate-write-all Inv-loop μ-loop
 slice-aggregate-write-all c = search needs
@@ -208,6 +212,7 @@ main-spec =
     loop-less
     loop-again
     print-counts-requires
+    print-parts-requires
     slice-aggregate-write-all
     write-all-requires
     slice-aggregate-write-all-2
