@@ -35,5 +35,6 @@ pub all-fit-spec : {M : Type 1} → statement M
 all-fit-spec =
     tie.close
     (tie.spec
-    Inv-loop μ-loop loop-holds (λ c. search needs) (λ c. search needs) (λ c. search needs) (λ c κs. search needs) returns (λ c. search needs)
+    Inv-loop μ-loop loop-holds (λ c. search needs) (λ c. search needs) (λ c. search needs) (λ c κs. search needs) returns
+    (λ c. search needs)
     (λ c. search needs) loop-again returns-2)

@@ -44,12 +44,4 @@ pub all-below-spec : {M : Type 1} → statement M
 all-below-spec =
     tie.close
     (tie.spec
-    Inv-loop
-    μ-loop
-    loop-holds
-    cell-at-requires
-    returns
-    add-i
-    loop-less
-    loop-again
-    returns-2)
+    Inv-loop μ-loop loop-holds cell-at-requires returns add-i loop-less loop-again returns-2)

@@ -40,12 +40,4 @@ pub any-publishes-spec : {M : Type 1} → statement M
 any-publishes-spec =
     tie.close
     (tie.spec
-    Inv-loop
-    μ-loop
-    loop-holds
-    first-publishes-requires
-    returns
-    add-i
-    loop-less
-    loop-again
-    returns-2)
+    Inv-loop μ-loop loop-holds first-publishes-requires returns add-i loop-less loop-again returns-2)

@@ -52,14 +52,4 @@ pub target-spec : {M : Type 1} → statement M
 target-spec =
     tie.close
     (tie.spec
-    Inv-loop
-    μ-loop
-    loop-holds
-    lowest-own-requires
-    find-requires
-    publishes-requires
-    add-start
-    loop-less
-    loop-again
-    returns
-    returns-2)
+    Inv-loop μ-loop loop-holds lowest-own-requires find-requires publishes-requires add-start loop-less loop-again returns returns-2)

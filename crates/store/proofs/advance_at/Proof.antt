@@ -95,7 +95,8 @@ pub advance-at-spec : {M : Type 1} → statement M
 advance-at-spec =
     tie.close
     (tie.spec
-    (λ c. search needs) (λ c. search needs) (λ c. search needs) (λ c. search needs) (λ c. search needs) (λ c. search needs) (λ c. search needs)
+    (λ c. search needs) (λ c. search needs) (λ c. search needs) (λ c. search needs) (λ c. search needs) (λ c. search needs)
+    (λ c. search needs)
     part-log-end (λ c κs. search needs) at-requires (λ c κs. search needs) (λ c. search needs) (λ c κs. search needs) put-requires
     (λ c. search needs) (λ c. search needs) (λ c. search needs) returns (λ c. search needs) (λ c. search needs) roll-back-requires
     (λ c κs. search needs) mul-t55 element-set-from-sessions (λ c. search needs) (λ c. search needs) (λ c. search needs) returns-2
