@@ -1,4 +1,5 @@
-// Runs document 01's listing and a long mixed list twice, on lock records and on number slices, and compares every answer and every word.
+// Runs document 01's listing and a long mixed list twice, on lock records and on number slices, and compares every answer and every word, and after each
+// call the part that a peek hands back.
 // It writes the listing's answers, then how many calls of the mixed list had each answer, how many peeks handed back which part, and whether anything
 // ever differed.
 ghost use mathlib.Core.Path.{_≡_};
@@ -70,9 +71,8 @@ fn peek_on<'a>(
 
 // ---- both forms side by side
 
-// The part that a call hands back: only a peek is asked for one, and it is a word of the store, a word of the log, or no word.
+// The part that a peek hands back: a word of the store, a word of the log, or no word.
 enum Part {
-    Unasked,
     StoreWord,
     LogWord,
     NoWord,
@@ -183,8 +183,8 @@ fn same_answers(a: Answer, b: Answer) -> bool {
     value(a) == value(b)
 }
 
-// If the call is a peek, its part on both forms, length and word compared. A program cannot compare where a part lies: that it is the store's own word, or
-// the log's own, the contracts say, and which of the two is taken from the plan.
+// The part that a peek of the call's session at its cell hands back on both forms, length and word compared. A program cannot compare where a part lies:
+// that it is the store's own word, or the log's own, the contracts say, and which of the two is taken from the plan.
 fn parts_both<'a, 'b>(
     call: Call,
     slices: Sessions,
@@ -199,37 +199,59 @@ fn parts_both<'a, 'b>(
     locks: [Lock; 8],
     logs2: &'b [u32],
 ) -> Shown {
-    if let Call::Peek(session, cell) = call {
-        let plan = store::peek_plan(
-            slices,
-            values,
-            classes,
-            readers,
-            claimants,
-            exclusives,
-            logs,
-            session,
-            cell,
-        );
-        let a = store::peek(
-            slices,
-            values,
-            classes,
-            readers,
-            claimants,
-            exclusives,
-            logs,
-            session,
-            cell,
-        );
-        let b = peek_on(records, values2, classes, locks, logs2, session, cell);
-        let part = part_of(plan, b.len());
-        let same = same_words(a, b);
-        return Shown { part, same };
+    let session = session_of(call);
+    let cell = cell_of(call);
+    let plan = store::peek_plan(
+        slices,
+        values,
+        classes,
+        readers,
+        claimants,
+        exclusives,
+        logs,
+        session,
+        cell,
+    );
+    let a = store::peek(
+        slices,
+        values,
+        classes,
+        readers,
+        claimants,
+        exclusives,
+        logs,
+        session,
+        cell,
+    );
+    let b = peek_on(records, values2, classes, locks, logs2, session, cell);
+    let part = part_of(plan, b.len());
+    let same = same_words(a, b);
+    Shown { part, same }
+}
+
+// The session of a call.
+fn session_of(call: Call) -> u8 {
+    match call {
+        Call::Begin(s) => s,
+        Call::Read(s, _) => s,
+        Call::Write(s, _, _) => s,
+        Call::Seal(s) => s,
+        Call::Advance(s) => s,
+        Call::Abandon(s) => s,
+        Call::Peek(s, _) => s,
     }
-    Shown {
-        part: Part::Unasked,
-        same: true,
+}
+
+// Its cell; 0 where it names none.
+fn cell_of(call: Call) -> u32 {
+    match call {
+        Call::Begin(_) => 0,
+        Call::Read(_, c) => c,
+        Call::Write(_, c, _) => c,
+        Call::Seal(_) => 0,
+        Call::Advance(_) => 0,
+        Call::Abandon(_) => 0,
+        Call::Peek(_, c) => c,
     }
 }
 
@@ -518,20 +540,19 @@ fn refusal(n: u8) -> usize
 
 // Where a part is counted.
 fn part_place(p: Part) -> usize
-    ensures { λ r. ⌜ r < 4 ⌝ }
+    ensures { λ r. ⌜ r < 3 ⌝ }
 {
     match p {
-        Part::Unasked => 0,
-        Part::StoreWord => 1,
-        Part::LogWord => 2,
-        Part::NoWord => 3,
+        Part::StoreWord => 0,
+        Part::LogWord => 1,
+        Part::NoWord => 2,
     }
 }
 
 // How many calls had the answer of each place, and the part of each place.
 struct Counts {
     answers: [u32; 22],
-    parts: [u32; 4],
+    parts: [u32; 3],
 }
 
 // The listing's answers are written, the others counted.
@@ -549,10 +570,10 @@ fn noted(counts: Counts, i: usize, answer: Answer, part: Part) -> Counts {
 }
 
 // How many peeks there were, and how many of them handed back a word of the store, a word of the log, and no word.
-fn print_parts(parts: [u32; 4]) {
-    let store = parts[1];
-    let log = parts[2];
-    let none = parts[3];
+fn print_parts(parts: [u32; 3]) {
+    let store = parts[0];
+    let log = parts[1];
+    let none = parts[2];
     let words = std::num::wrapping_add_u32(store, log);
     io::write_all(STDOUT_FILENO, b"peeks ");
     print(std::num::wrapping_add_u32(words, none), b'\n');
@@ -628,7 +649,7 @@ fn main() {
     let mut records = reply.sessions;
     let mut counts = Counts {
         answers: [0; 22],
-        parts: [0; 4],
+        parts: [0; 3],
     };
     let mut seed: u32 = 20261115;
     let mut i: usize = 0;
