@@ -4,7 +4,9 @@ pub mod Row
 pub mod Leave
 pub mod Short
 pub mod Calls
+pub mod Numbers
 pub mod Passed
+pub mod Filled
 pub mod Changes
 pub mod Ways
 pub mod AdvanceWays

@@ -29,7 +29,7 @@ use Rattle.model.specs.declared.Sessions.{Sessions}
 use Rattle.model.specs.declared.Reply.{Reply}
 use Rattle.model.specs.declared.Call.{Call}
 use Rattle.lockrun.specs.Run.{storeOn}
-use Rattle.lockrun.proofs.Row.{R, RS, low-s, makes-s, RA, RK, low-k, makes-k}
+use Rattle.lockrun.proofs.Row.{R, RS, low-s, makes-s, RA, RK, makes-k}
 use Rattle.lockrun.proofs.step as step
 
 -- a reply, and the last lists of values, run and logs
@@ -40,8 +40,8 @@ module _ {M : Type 1} (𝓤 : URA M) (H : Heap 𝓤) (A : Atoms 𝓤) (mem : Mem
   abbrev pub Step : Contract 𝓤
   Step = tripleOf 𝓤 H A step.signature (step.spec 𝓤 H A mem run)
 
-  module _ (W : Given 𝓤 H A) (κ₀ κ₁ κ₂ κ₃ : Lft) (q₀ q₁ q₂ q₃ : Share) (call : Call) (ss : Sessions) (x₀ x₁ : RefT (List ℕ)) (x : RefT (List Lock)) (x₃ : RefT (List ℕ))
-      (gk : Is RK call (low-k call ∷ [])) (gs : Is RS ss (low-s ss ∷ [])) where
+  module _ (W : Given 𝓤 H A) (κ₀ κ₁ κ₂ κ₃ : Lft) (q₀ q₁ q₂ q₃ : Share) (call : Call) (w : Val) (ss : Sessions) (x₀ x₁ : RefT (List ℕ)) (x : RefT (List Lock)) (x₃ : RefT (List ℕ))
+      (gk : Is RK call (w ∷ [])) (gs : Is RS ss (low-s ss ∷ [])) where
     -- what the slices after values own, and the tokens
     abbrev pub Kinds : Fml
     Kinds = ShrSlice (named 0) κ₁ u8 .own x₁ (slice-vals x₁)
@@ -50,7 +50,7 @@ module _ {M : Type 1} (𝓤 : URA M) (H : Heap 𝓤) (A : Atoms 𝓤) (mem : Mem
     Tokens = ‵ (flft κ₀ q₀) ⊛ (‵ (flft κ₁ q₁) ⊛ (‵ (flft κ₂ q₂) ⊛ (‵ (flft κ₃ q₃) ⊛ ‵ ftrue)))
 
     abbrev pub st-to : Step .Ghost
-    st-to = (((κ₀, (κ₁, (κ₂, (κ₃, tt)))), (q₀, (q₁, (q₂, (q₃, tt)))), tt, (call, (ss, (x₀, (x₁, (x, (x₃, tt)))))), (low-k call ∷ [], (low-s ss ∷ [], (slice-vals x₀, (slice-vals x₁, (slice-vals x, (slice-vals x₃, tt))))))), tt)
+    st-to = (((κ₀, (κ₁, (κ₂, (κ₃, tt)))), (q₀, (q₁, (q₂, (q₃, tt)))), tt, (call, (ss, (x₀, (x₁, (x, (x₃, tt)))))), (w ∷ [], (low-s ss ∷ [], (slice-vals x₀, (slice-vals x₁, (slice-vals x, (slice-vals x₃, tt))))))), tt)
 
     abbrev pub Said : Left → Type 0
     Said p = (outcome (p .0 .answer) (storeOn (p .1 .0) (now x₁) (p .1 .1 .0) (p .1 .1 .1) (p .0 .sessions)) ≡ taken call (storeOn (now x₀) (now x₁) (now x) (now x₃) ss))
@@ -63,7 +63,7 @@ module _ {M : Type 1} (𝓤 : URA M) (H : Heap 𝓤) (A : Atoms 𝓤) (mem : Mem
     st-goes =
         qed W (‵ (MutSlice (named 0) κ₀ u32 .own x₀ (slice-vals x₀)) ∷ ‵ Kinds ∷ ‵ (MutSlice (named 0) κ₂ R .own x (slice-vals x)) ∷ ‵ (MutSlice (named 0) κ₃ u32 .own x₃ (slice-vals x₃)) ∷ Tokens ∷ []) ∵
         nothing ! $ move ! (4 ∷ 0 ∷ []) $ fjoin ! $ move ! (3 ∷ 0 ∷ []) $ fjoin ! $ move ! (2 ∷ 0 ∷ []) $ fjoin ! $ move ! (1 ∷ 0 ∷ []) $ fjoin ! $
-        owned ! RS (Is RS) (makes-s 𝓤 H A) ss (low-s ss ∷ []) gs $ fjoin ! $ owned ! RK (Is RK) (makes-k 𝓤 H A) call (low-k call ∷ []) gk $ fjoin ! $ move ! (1 ∷ 0 ∷ []) $ join ! $ frame ! $ done !
+        owned ! RS (Is RS) (makes-s 𝓤 H A) ss (low-s ss ∷ []) gs $ fjoin ! $ owned ! RK (Is RK) (makes-k 𝓤 H A) call (w ∷ []) gk $ fjoin ! $ move ! (1 ∷ 0 ∷ []) $ join ! $ frame ! $ done !
 
     pub st-gets : (v : Val) → ent 𝓤 (Step .post st-to v) (mean 𝓤 H A (later (st-gives v)))
     st-gets v =
