@@ -52,27 +52,13 @@ use Rattle.model.proofs.Call.Laws as K′
 use Rattle.model.proofs.Lock.Laws as T′
 use Rattle.lockrun.specs.Run.{storeOn}
 use Rattle.lockrun.proofs.Row.{R, RS, low-s, tells-s, makes-s, typed-s, RA, typed-a, RK, low-k, typed-k, read-is, write-is}
-use Rattle.lockrun.proofs.Numbers.{numbers, stays, rows, spell, tell, last, fit, go, had}
+use Rattle.lockrun.proofs.Numbers.{hold, lent, inLocals, copies, numbers, stays, rows, spell, tell, last, fit, go, had}
 use Rattle.lockrun.proofs.Leave.{full, leave}
 use Rattle.lockrun.proofs.Short.{var, sets}
 use Rattle.lockrun.proofs.Passed.{Left, Step, Kinds, Tokens, Said, st-to, st-gives, st-goes, st-gets}
 use Rattle.lockrun.proofs.step.Symbol.{name as #lockrun·step}
 
 -- ---- the MIR
-
-abbrev lent : Ty → Local
-lent τ = local (sliceTy τ) valueLocal
-
-abbrev hold : Ty → Local
-hold τ = local τ valueLocal
-
-abbrev inLocals : List Width → List Local → List Local
-inLocals [] ls = ls
-inLocals (w ∷ ws) ls = hold (tyInt w) ∷ inLocals ws ls
-
-abbrev copies : ℕ → List Width → List Opd
-copies i [] = []
-copies i (w ∷ ws) = copy (place i []) ∷ copies (suc i) ws
 
 -- a pointer's type, and a run of locks' in it
 abbrev at-32 : Lifetime → Ty

@@ -7,6 +7,7 @@ pub mod Calls
 pub mod Numbers
 pub mod Passed
 pub mod Filled
+pub mod Counted
 pub mod Changes
 pub mod Ways
 pub mod AdvanceWays
