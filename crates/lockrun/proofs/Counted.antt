@@ -29,7 +29,7 @@ use denote.Plain.{uint-makes}
 use denote.Builtin.{u8, u32, usize}
 use denote.Ref.{RefT, now}
 use denote.Slice.{ShrSlice, Room, sliceVal, slice-vals, shr-slice-tells, shr-slice-copy}
-use denote.Signature.{Signature, plain, shrSliceOf}
+use denote.Signature.{Signature, plain, shrSliceOf, typesAt}
 use denote.Steps.{nothing, owned, peeks, heard}
 use denote.Triple.Call.{calls-at}
 use denote.Triple.Clauses.{Ended, Clauses, closing, ensured, lasts}
@@ -49,6 +49,7 @@ use Rattle.model.proofs.Reply.Laws as A′
 use Rattle.lockrun.specs.Run.{storeOn}
 use Rattle.lockrun.specs.Turns.{Answered}
 use Rattle.lockrun.proofs.Row.{R, RS, low-s, tells-s, makes-s, typed-s, RA, typed-a}
+use Rattle.lockrun.proofs.Borrows.{Borrows, κsOf, qsOf, valsOf, Sound}
 use Rattle.lockrun.proofs.Numbers.{hold, lent, inLocals, copies, numbers, stays, rows, spell, tell, last, fit, go, had, passed}
 use Rattle.lockrun.proofs.Leave.{full, leave}
 use Rattle.lockrun.proofs.Short.{var, sets}
@@ -114,75 +115,77 @@ module _ (ws : List Width) where
   }
 
 module _ {M : Type 1} (𝓤 : URA M) (H : Heap 𝓤) (A : Atoms 𝓤) (W : Given 𝓤 H A) (ws : List Width) (k : Makes ws) where
-  module _ (κ₀ κ₁ κ₂ κ₃ : Lft) (q₀ q₁ q₂ q₃ : Share) (ss : Sessions) (x₀ x₁ : RefT (List ℕ)) (x : RefT (List Lock)) (x₃ : RefT (List ℕ)) where
+  module _ (b : Borrows) where
     abbrev κs : Lfts 4
-    κs = (κ₀, (κ₁, (κ₂, (κ₃, tt))))
+    κs = κsOf b
 
     -- what the logs own
     abbrev pub Logs : Fml
-    Logs = ShrSlice (named 0) κ₃ u32 .own x₃ (slice-vals x₃)
+    Logs = ShrSlice (named 0) (b .κ₃) u32 .own (b .x₃) (slice-vals (b .x₃))
 
     -- ---- the function that is told the counts
-    module _ (ns : Denots (rows 1 (κ₃, tt) ws)) where
-      abbrev told : Args (asked ws .signature) (κ₃, tt)
-      told = (ss, (length (now x₀), (length (now x₁), (length (now x), (x₃, ns)))))
+    module _ (ns : Denots (rows 1 (b .κ₃, tt) ws)) where
+      abbrev told : Args (asked ws .signature) (b .κ₃, tt)
+      told = (b .ss, (length (now (b .x₀)), (length (now (b .x₁)), (length (now (b .x)), (b .x₃, ns)))))
 
       abbrev pub to : Asked ws k 𝓤 H A .Ghost
-      to = (((κ₃, tt), (q₃, tt), tt, told, (low-s ss ∷ [], (vint w64 (length (now x₀)) ∷ [], (vint w64 (length (now x₁)) ∷ [], (vint w64 (length (now x)) ∷ [], (slice-vals x₃, valss (rows 1 (κ₃, tt) ws) (spell 1 (κ₃, tt) ws) ns)))))), tt)
+      to = (((b .κ₃, tt), (b .q₃, tt), tt, told, (low-s (b .ss) ∷ [], (vint w64 (length (now (b .x₀))) ∷ [], (vint w64 (length (now (b .x₁))) ∷ [], (vint w64 (length (now (b .x))) ∷ [], (slice-vals (b .x₃), valss (rows 1 (b .κ₃, tt) ws) (spell 1 (b .κ₃, tt) ws) ns)))))), tt)
 
       abbrev pub Says : Reply → Type 0
-      Says r = Answered (k 1 (κ₃, tt) ns) (length (now x₀)) (length (now x₁)) (length (now x)) (now x₃) ss r
+      Says r = Answered (k 1 (b .κ₃, tt) ns) (length (now (b .x₀))) (length (now (b .x₁))) (length (now (b .x))) (now (b .x₃)) (b .ss) r
 
       abbrev pub Gives : Val → Reply → SProp 𝓤
-      Gives v r = ensured 𝓤 H A (asked ws) (answers ws k 𝓤) (κ₃, tt) told tt r
+      Gives v r = ensured 𝓤 H A (asked ws) (answers ws k 𝓤) (b .κ₃, tt) told tt r
 
       pub hears : (v : Val) (r : Reply) → ent 𝓤 (Gives v r) (fact 𝓤 (Says r))
-      hears v r = exE 𝓤 _ (λ us. snd∗ 𝓤 (sem 𝓤 H A (lasts (asked ws) (κ₃, tt) told us)) (fact 𝓤 (Says r)))
+      hears v r = exE 𝓤 _ (λ us. snd∗ 𝓤 (sem 𝓤 H A (lasts (asked ws) (b .κ₃, tt) told us)) (fact 𝓤 (Says r)))
 
-      pub goes : Is RS ss (low-s ss ∷ []) → Room u32 (length (now x₀)) → Room u8 (length (now x₁)) → Room R (length (now x)) → Are (rows 1 (κ₃, tt) ws) (Ises (rows 1 (κ₃, tt) ws)) ns (valss (rows 1 (κ₃, tt) ws) (spell 1 (κ₃, tt) ws) ns)
-          → ent 𝓤 (⋆ 𝓤 H A (‵ Logs ∷ ‵ (flft κ₃ q₃) ∷ [])) (Asked ws k 𝓤 H A .pre to)
-      goes gs room₀ room₁ room are =
-          qed W (‵ Logs ∷ ‵ (flft κ₃ q₃) ∷ []) ∵ use0 W (‵ (owns (rows 1 (κ₃, tt) ws) ns (valss (rows 1 (κ₃, tt) ws) (spell 1 (κ₃, tt) ws) ns))) (passed 1 𝓤 H A W (κ₃, tt) ws ns are) $ move ! (1 ∷ 0 ∷ []) $ fjoin ! $
-          owned ! usize (Is usize) (uint-makes 𝓤 H A W w64) (length (now x)) _ (refl, room .0) $ fjoin ! $ owned ! usize (Is usize) (uint-makes 𝓤 H A W w64) (length (now x₁)) _ (refl, room₁ .0) $ fjoin ! $
-          owned ! usize (Is usize) (uint-makes 𝓤 H A W w64) (length (now x₀)) _ (refl, room₀ .0) $ fjoin ! $ owned ! RS (Is RS) (makes-s 𝓤 H A) ss (low-s ss ∷ []) gs $ fjoin ! $ nothing ! $ move ! (2 ∷ 0 ∷ []) $ join ! $ join ! $ frame ! $ done !
+      pub goes : Sound b → Are (rows 1 (b .κ₃, tt) ws) (Ises (rows 1 (b .κ₃, tt) ws)) ns (valss (rows 1 (b .κ₃, tt) ws) (spell 1 (b .κ₃, tt) ws) ns)
+          → ent 𝓤 (⋆ 𝓤 H A (‵ Logs ∷ ‵ (flft (b .κ₃) (b .q₃)) ∷ [])) (Asked ws k 𝓤 H A .pre to)
+      goes o are =
+          qed W (‵ Logs ∷ ‵ (flft (b .κ₃) (b .q₃)) ∷ []) ∵ use0 W (‵ (owns (rows 1 (b .κ₃, tt) ws) ns (valss (rows 1 (b .κ₃, tt) ws) (spell 1 (b .κ₃, tt) ws) ns))) (passed 1 𝓤 H A W (b .κ₃, tt) ws ns are) $ move ! (1 ∷ 0 ∷ []) $ fjoin ! $
+          owned ! usize (Is usize) (uint-makes 𝓤 H A W w64) (length (now (b .x))) _ (refl, o .room .0) $ fjoin ! $ owned ! usize (Is usize) (uint-makes 𝓤 H A W w64) (length (now (b .x₁))) _ (refl, o .room₁ .0) $ fjoin ! $
+          owned ! usize (Is usize) (uint-makes 𝓤 H A W w64) (length (now (b .x₀))) _ (refl, o .room₀ .0) $ fjoin ! $ owned ! RS (Is RS) (makes-s 𝓤 H A) (b .ss) (low-s (b .ss) ∷ []) (o .records) $ fjoin ! $ nothing ! $ move ! (2 ∷ 0 ∷ []) $ join ! $ join ! $ frame ! $ done !
 
     -- ---- the end of a walk
     module _ (ns : Denots (rows 4 κs ws)) where
       abbrev pub args : Args (signature ws) κs
-      args = (ss, (x₀, (x₁, (x, (x₃, ns)))))
+      args = (b .ss, (b .x₀, (b .x₁, (b .x, (b .x₃, ns)))))
 
       abbrev pub at : Vals (signature ws) κs
-      at = (low-s ss ∷ [], (slice-vals x₀, (slice-vals x₁, (slice-vals x, (slice-vals x₃, valss (rows 4 κs ws) (spell 4 κs ws) ns)))))
+      at = (low-s (b .ss) ∷ [], (slice-vals (b .x₀), (slice-vals (b .x₁), (slice-vals (b .x), (slice-vals (b .x₃), valss (rows 4 κs ws) (spell 4 κs ws) ns)))))
+
+      abbrev pub Owned : Fml
+      Owned = owns (typesAt (signature ws .params) κs) args at
 
       abbrev pub Enters : SProp 𝓤
-      Enters = onEntry 𝓤 H A (signature ws) κs (q₀, (q₁, (q₂, (q₃, tt)))) args at
+      Enters = onEntry 𝓤 H A (signature ws) κs (qsOf b) args at
 
       abbrev pub Passes : List Val
-      Passes = low-s ss ∷ sliceVal (x₀ .ptr) (length (now x₀)) ∷ sliceVal (x₁ .ptr) (length (now x₁)) ∷ sliceVal (x .ptr) (length (now x)) ∷ sliceVal (x₃ .ptr) (length (now x₃)) ∷ flat (rows 4 κs ws) (valss (rows 4 κs ws) (spell 4 κs ws) ns)
+      Passes = valsOf b (flat (rows 4 κs ws) (valss (rows 4 κs ws) (spell 4 κs ws) ns))
 
       abbrev pub Post : Val → SProp 𝓤
-      Post = walkOf 𝓤 H A (ended ws) (stayed ws) (clauses ws k 𝓤) .post ((κs, (q₀, (q₁, (q₂, (q₃, tt)))), tt, args, at), tt)
+      Post = walkOf 𝓤 H A (ended ws) (stayed ws) (clauses ws k 𝓤) .post ((κs, qsOf b, tt, args, at), tt)
 
       abbrev pub Fitting : Type 0
       Fitting = Are (rows 4 κs ws) (Ises (rows 4 κs ws)) ns (valss (rows 4 κs ws) (spell 4 κs ws) ns)
 
-      pub exits : Is RS ss (low-s ss ∷ []) → Fitting → (r : Reply) (v : Val) → Answered (k 4 κs ns) (length (now x₀)) (length (now x₁)) (length (now x)) (now x₃) ss r
-          → ent 𝓤 (⋆ 𝓤 H A (‵ (RA .own r (v ∷ [])) ∷ (‵ (flft κ₃ q₃) ⊛ ‵ ftrue) ∷ ‵ Logs ∷ ‵ (flft κ₂ q₂) ∷ ‵ (flft κ₁ q₁) ∷ ‵ (flft κ₀ q₀) ∷ ‵ (ShrSlice (named 0) κ₂ R .own x (slice-vals x)) ∷ ‵ (ShrSlice (named 0) κ₁ u8 .own x₁ (slice-vals x₁)) ∷ ‵ (ShrSlice (named 0) κ₀ u32 .own x₀ (slice-vals x₀)) ∷ [])) (Post v)
+      pub exits : Is RS (b .ss) (low-s (b .ss) ∷ []) → Fitting → (r : Reply) (v : Val) → Answered (k 4 κs ns) (length (now (b .x₀))) (length (now (b .x₁))) (length (now (b .x))) (now (b .x₃)) (b .ss) r
+          → ent 𝓤 (⋆ 𝓤 H A (‵ (RA .own r (v ∷ [])) ∷ (‵ (flft (b .κ₃) (b .q₃)) ⊛ ‵ ftrue) ∷ ‵ Logs ∷ ‵ (flft (b .κ₂) (b .q₂)) ∷ ‵ (flft (b .κ₁) (b .q₁)) ∷ ‵ (flft (b .κ₀) (b .q₀)) ∷ ‵ (ShrSlice (named 0) (b .κ₂) R .own (b .x) (slice-vals (b .x))) ∷ ‵ (ShrSlice (named 0) (b .κ₁) u8 .own (b .x₁) (slice-vals (b .x₁))) ∷ ‵ (ShrSlice (named 0) (b .κ₀) u32 .own (b .x₀) (slice-vals (b .x₀))) ∷ [])) (Post v)
       exits gs are r v f =
-          qed W (‵ (RA .own r (v ∷ [])) ∷ (‵ (flft κ₃ q₃) ⊛ ‵ ftrue) ∷ ‵ Logs ∷ ‵ (flft κ₂ q₂) ∷ ‵ (flft κ₁ q₁) ∷ ‵ (flft κ₀ q₀) ∷ ‵ (ShrSlice (named 0) κ₂ R .own x (slice-vals x)) ∷ ‵ (ShrSlice (named 0) κ₁ u8 .own x₁ (slice-vals x₁)) ∷ ‵ (ShrSlice (named 0) κ₀ u32 .own x₀ (slice-vals x₀)) ∷ []) ∵
-          suffices ! _ (ends-at 𝓤 H A (ended ws) (stayed ws) (clauses ws k 𝓤) W ((κs, (q₀, (q₁, (q₂, (q₃, tt)))), tt, args, at), tt) v r (tt, (tt, (tt, (tt, (tt, last 4 κs ws ns))))) (tt, (tt, (tt, (tt, (tt, fit 4 κs ws ns)))))) $
-          says ! (f (now x₀) (now x₁) (now x) refl refl refl) $
+          qed W (‵ (RA .own r (v ∷ [])) ∷ (‵ (flft (b .κ₃) (b .q₃)) ⊛ ‵ ftrue) ∷ ‵ Logs ∷ ‵ (flft (b .κ₂) (b .q₂)) ∷ ‵ (flft (b .κ₁) (b .q₁)) ∷ ‵ (flft (b .κ₀) (b .q₀)) ∷ ‵ (ShrSlice (named 0) (b .κ₂) R .own (b .x) (slice-vals (b .x))) ∷ ‵ (ShrSlice (named 0) (b .κ₁) u8 .own (b .x₁) (slice-vals (b .x₁))) ∷ ‵ (ShrSlice (named 0) (b .κ₀) u32 .own (b .x₀) (slice-vals (b .x₀))) ∷ []) ∵
+          suffices ! _ (ends-at 𝓤 H A (ended ws) (stayed ws) (clauses ws k 𝓤) W ((κs, qsOf b, tt, args, at), tt) v r (tt, (tt, (tt, (tt, (tt, last 4 κs ws ns))))) (tt, (tt, (tt, (tt, (tt, fit 4 κs ws ns)))))) $
+          says ! (f (now (b .x₀)) (now (b .x₁)) (now (b .x)) refl refl refl) $
           move ! (1 ∷ []) $ move ! (3 ∷ 0 ∷ []) $ join ! $ move ! (3 ∷ 0 ∷ []) $ join ! $ move ! (3 ∷ 0 ∷ []) $ join ! $ frame ! $
           -- [the reply; logs; locks; classes; values]
           use0 W (‵ (hasOf κs (numbers 4 ws) (all yes (numbers 4 ws)) (stays 4 ws) ns (last 4 κs ws ns) (valss (rows 4 κs ws) (spell 4 κs ws) ns))) (had 4 𝓤 H A W κs ws ns are) $
           move ! (2 ∷ 0 ∷ []) $ fjoin ! $ move ! (2 ∷ 0 ∷ []) $ fjoin ! $ move ! (2 ∷ 0 ∷ []) $ fjoin ! $ move ! (2 ∷ 0 ∷ []) $ fjoin ! $
-          owned ! RS (Is RS) (makes-s 𝓤 H A) ss (low-s ss ∷ []) gs $ fjoin ! $ frame ! $ done !
+          owned ! RS (Is RS) (makes-s 𝓤 H A) (b .ss) (low-s (b .ss) ∷ []) gs $ fjoin ! $ frame ! $ done !
 
   -- ---- a walk, taken to the contract
   module _ (𝓣 : Tables 𝓤 H) (f : Fn)
-      (walk : (κ₀ κ₁ κ₂ κ₃ : Lft) (q₀ q₁ q₂ q₃ : Share) (ss : Sessions) (x₀ x₁ : RefT (List ℕ)) (x : RefT (List Lock)) (x₃ : RefT (List ℕ)) (ns : Denots (rows 4 (κ₀, (κ₁, (κ₂, (κ₃, tt)))) ws))
-      → Is RS ss (low-s ss ∷ []) → Room u32 (length (now x₀)) → Room u8 (length (now x₁)) → Room R (length (now x)) → Room u32 (length (now x₃)) → Fitting κ₀ κ₁ κ₂ κ₃ q₀ q₁ q₂ q₃ ss x₀ x₁ x x₃ ns
-      → ent 𝓤 (Enters κ₀ κ₁ κ₂ κ₃ q₀ q₁ q₂ q₃ ss x₀ x₁ x x₃ ns) (WpFn 𝓤 H (𝓣 .C) (𝓣 .Λ) f (Passes κ₀ κ₁ κ₂ κ₃ q₀ q₁ q₂ q₃ ss x₀ x₁ x x₃ ns) (Post κ₀ κ₁ κ₂ κ₃ q₀ q₁ q₂ q₃ ss x₀ x₁ x x₃ ns))) where
+      (walk : (b : Borrows) (ns : Denots (rows 4 (κsOf b) ws))
+      → Sound b → Fitting b ns → ent 𝓤 (Enters b ns) (WpFn 𝓤 H (𝓣 .C) (𝓣 .Λ) f (Passes b ns) (Post b ns))) where
     pub meets : Meets 𝓤 H A (signature ws) (WpFn 𝓤 H (𝓣 .C) (𝓣 .Λ) f) (closing 𝓤 H A (ended ws) (clauses ws k 𝓤))
     meets = walk-meets 𝓤 H A (ended ws) (stayed ws) W
         (goes-none 𝓤 H A W 4 (λ _. RS) yes (λ κs x f. refl), (goes-none-slice 𝓤 H A W 4 (0 ∷ []) tt (plain (λ _. u32)) yes, (goes-none-slice 𝓤 H A W 4 (1 ∷ []) tt (plain (λ _. u8)) yes, (goes-none-slice 𝓤 H A W 4 (2 ∷ []) tt (plain (λ _. R)) yes, (goes-none-slice 𝓤 H A W 4 (3 ∷ []) tt (plain (λ _. u32)) yes, go 4 𝓤 H A W ws)))))
@@ -190,65 +193,64 @@ module _ {M : Type 1} (𝓤 : URA M) (H : Heap 𝓤) (A : Atoms 𝓤) (W : Given
         (walked 𝓤 H A (ended ws) (stayed ws) (clauses ws k 𝓤) (WpFn 𝓤 H (𝓣 .C) (𝓣 .Λ) f) (λ κs. (λ (s : Sessions). low-s s ∷ [], (slice-vals, (slice-vals, (slice-vals, (slice-vals, spell 4 κs ws))))))
         (λ κs. (tells-s, (shr-slice-tells (named 0) (κs .0) u32, (shr-slice-tells (named 1) (κs .1 .0) u8, (shr-slice-tells (named 2) (κs .1 .1 .0) R, (shr-slice-tells (named 3) (κs .1 .1 .1 .0) u32, tell 4 κs ws))))))
         (λ κs qs bounds a g are. via 𝓤 _ (fst∗ 𝓤 _ (emp 𝓤))
-        (walk (κs .0) (κs .1 .0) (κs .1 .1 .0) (κs .1 .1 .1 .0) (qs .0) (qs .1 .0) (qs .1 .1 .0) (qs .1 .1 .1 .0) (a .0) (a .1 .0) (a .1 .1 .0) (a .1 .1 .1 .0) (a .1 .1 .1 .1 .0) (a .1 .1 .1 .1 .1)
-        (are .0) (are .1 .0 .0 .1) (are .1 .1 .0 .0 .1) (are .1 .1 .1 .0 .0 .1) (are .1 .1 .1 .1 .0 .0 .1) (are .1 .1 .1 .1 .1))))
+        (walk
+        (record { κ₀ = κs .0; κ₁ = κs .1 .0; κ₂ = κs .1 .1 .0; κ₃ = κs .1 .1 .1 .0; q₀ = qs .0; q₁ = qs .1 .0; q₂ = qs .1 .1 .0; q₃ = qs .1 .1 .1 .0; ss = a .0; x₀ = a .1 .0; x₁ = a .1 .1 .0; x = a .1 .1 .1 .0; x₃ = a .1 .1 .1 .1 .0 })
+        (a .1 .1 .1 .1 .1) (record { records = are .0; room₀ = are .1 .0 .0 .1; room₁ = are .1 .1 .0 .0 .1; room = are .1 .1 .1 .0 .0 .1; room₃ = are .1 .1 .1 .1 .0 .0 .1 }) (are .1 .1 .1 .1 .1))))
 
 -- ---- the walks, by the count of numbers
 
 module _ {M : Type 1} (𝓤 : URA M) (H : Heap 𝓤) (A : Atoms 𝓤) (W : Given 𝓤 H A) (𝓣 : Tables 𝓤 H) (f : Name) (k : ℕ → Call) (known : Triple 𝓤 (𝓣 .C f) (Asked (w8 ∷ []) (λ n κs a. k (a .0)) 𝓤 H A)) where
-  module _ (κ₀ κ₁ κ₂ κ₃ : Lft) (q₀ q₁ q₂ q₃ : Share) (ss : Sessions) (x₀ x₁ : RefT (List ℕ)) (x : RefT (List Lock)) (x₃ : RefT (List ℕ)) (s : ℕ)
-      (gs : Is RS ss (low-s ss ∷ [])) (room₀ : Room u32 (length (now x₀))) (room₁ : Room u8 (length (now x₁))) (room : Room R (length (now x))) (room₃ : Room u32 (length (now x₃))) (fs : s < 2 ^ 8) where
-    walk-one : ent 𝓤 (Enters 𝓤 H A W (w8 ∷ []) (λ n κs a. k (a .0)) κ₀ κ₁ κ₂ κ₃ q₀ q₁ q₂ q₃ ss x₀ x₁ x x₃ (s, tt)) (WpFn 𝓤 H (𝓣 .C) (𝓣 .Λ) (counted f (w8 ∷ [])) (Passes 𝓤 H A W (w8 ∷ []) (λ n κs a. k (a .0)) κ₀ κ₁ κ₂ κ₃ q₀ q₁ q₂ q₃ ss x₀ x₁ x x₃ (s, tt)) (Post 𝓤 H A W (w8 ∷ []) (λ n κs a. k (a .0)) κ₀ κ₁ κ₂ κ₃ q₀ q₁ q₂ q₃ ss x₀ x₁ x x₃ (s, tt)))
+  module _ (b : Borrows) (s : ℕ) (o : Sound b) (fs : s < 2 ^ 8) where
+    walk-one : ent 𝓤 (Enters 𝓤 H A W (w8 ∷ []) (λ n κs a. k (a .0)) b (s, tt)) (WpFn 𝓤 H (𝓣 .C) (𝓣 .Λ) (counted f (w8 ∷ [])) (Passes 𝓤 H A W (w8 ∷ []) (λ n κs a. k (a .0)) b (s, tt)) (Post 𝓤 H A W (w8 ∷ []) (λ n κs a. k (a .0)) b (s, tt)))
     walk-one =
-        qed W ((‵ (flft κ₀ q₀) ⊛ (‵ (flft κ₁ q₁) ⊛ (‵ (flft κ₂ q₂) ⊛ (‵ (flft κ₃ q₃) ⊛ ‵ ftrue)))) ∷ ‵ (owns (RS ∷ ShrSlice (named 0) κ₀ u32 ∷ ShrSlice (named 1) κ₁ u8 ∷ ShrSlice (named 2) κ₂ R ∷ ShrSlice (named 3) κ₃ u32 ∷ u8 ∷ []) (ss, (x₀, (x₁, (x, (x₃, (s, tt)))))) (at 𝓤 H A W (w8 ∷ []) (λ n κs a. k (a .0)) κ₀ κ₁ κ₂ κ₃ q₀ q₁ q₂ q₃ ss x₀ x₁ x x₃ (s, tt))) ∷ []) ∵
-        enter ! (𝓣 .C) (𝓣 .Λ) (counted f (w8 ∷ [])) (low-s ss ∷ sliceVal (x₀ .ptr) (length (now x₀)) ∷ sliceVal (x₁ .ptr) (length (now x₁)) ∷ sliceVal (x .ptr) (length (now x)) ∷ sliceVal (x₃ .ptr) (length (now x₃)) ∷ vint w8 s ∷ []) _ $
+        qed W ((‵ (flft (b .κ₀) (b .q₀)) ⊛ (‵ (flft (b .κ₁) (b .q₁)) ⊛ (‵ (flft (b .κ₂) (b .q₂)) ⊛ (‵ (flft (b .κ₃) (b .q₃)) ⊛ ‵ ftrue)))) ∷ ‵ (Owned 𝓤 H A W (w8 ∷ []) (λ n κs a. k (a .0)) b (s, tt)) ∷ []) ∵
+        enter ! (𝓣 .C) (𝓣 .Λ) (counted f (w8 ∷ [])) (valsOf b (vint w8 s ∷ [])) _ $
         alloc1 ! (λ l₀. alloc1 ! (λ l₁. alloc1 ! (λ l₂. alloc1 ! (λ l₃. alloc1 ! (λ l₄. alloc1 ! (λ l₅. alloc1 ! (λ l₆. alloc1 ! (λ l₇. alloc1 ! (λ l₈. alloc1 ! (λ l₉. alloc0 ! $ params1 ! $
-        pass1 ! (init ! 16 refl (typed-s 𝓤 H A W ss (low-s ss) gs)) $ pass1 ! (init ! 14 refl (tt, (tt, (record { fits = room₀ .0 }, tt)))) $ pass1 ! (init ! 12 refl (tt, (tt, (record { fits = room₁ .0 }, tt)))) $
-        pass1 ! (init ! 10 refl (tt, (tt, (record { fits = room .0 }, tt)))) $ pass1 ! (init ! 8 refl (tt, (tt, (record { fits = room₃ .0 }, tt)))) $ pass1 ! (init ! 6 refl (tt, record { fits = fs })) $ pass0 ! $
+        pass1 ! (init ! 16 refl (typed-s 𝓤 H A W (b .ss) (low-s (b .ss)) (o .records))) $ pass1 ! (init ! 14 refl (tt, (tt, (record { fits = o .room₀ .0 }, tt)))) $ pass1 ! (init ! 12 refl (tt, (tt, (record { fits = o .room₁ .0 }, tt)))) $
+        pass1 ! (init ! 10 refl (tt, (tt, (record { fits = o .room .0 }, tt)))) $ pass1 ! (init ! 8 refl (tt, (tt, (record { fits = o .room₃ .0 }, tt)))) $ pass1 ! (init ! 6 refl (tt, record { fits = fs })) $ pass0 ! $
         move ! (21 ∷ []) $ fsplit ! $ move ! (1 ∷ []) $ fsplit ! $ move ! (1 ∷ []) $ fsplit ! $ move ! (1 ∷ []) $ fsplit ! $ move ! (1 ∷ []) $ fsplit ! $ move ! (1 ∷ []) $ fsplit ! $
         move ! (27 ∷ []) $ split ! $ move ! (1 ∷ []) $ split ! $ move ! (1 ∷ []) $ split ! $ move ! (1 ∷ []) $ split ! $ move ! (1 ∷ 5 ∷ 6 ∷ 11 ∷ []) $ drop ! $ drop ! $ drop ! $ drop ! $
         -- [logs' token; locks'; classes'; values'; logs; locks; classes; values; _9 at 8; …; _0 at 26; …]
-        sets ! (of-opd ! (load ! (from ! (fld ! refl (stop !))) (look-in ! 22 (sub ! 1 refl (whole !))))) 12 refl (tt, record { fits = room₀ .0 }) $
-        sets ! (of-opd ! (load ! (from ! (fld ! refl (stop !))) (look-in ! 20 (sub ! 1 refl (whole !))))) 10 refl (tt, record { fits = room₁ .0 }) $
-        sets ! (of-opd ! (load ! (from ! (fld ! refl (stop !))) (look-in ! 18 (sub ! 1 refl (whole !))))) 8 refl (tt, record { fits = room .0 }) $
+        sets ! (of-opd ! (load ! (from ! (fld ! refl (stop !))) (look-in ! 22 (sub ! 1 refl (whole !))))) 12 refl (tt, record { fits = o .room₀ .0 }) $
+        sets ! (of-opd ! (load ! (from ! (fld ! refl (stop !))) (look-in ! 20 (sub ! 1 refl (whole !))))) 10 refl (tt, record { fits = o .room₁ .0 }) $
+        sets ! (of-opd ! (load ! (from ! (fld ! refl (stop !))) (look-in ! 18 (sub ! 1 refl (whole !))))) 8 refl (tt, record { fits = o .room .0 }) $
         -- logs is Copy: one copy goes to f, with the token
-        move ! (4 ∷ []) $ use1 W (‵ (Logs 𝓤 H A W (w8 ∷ []) (λ n κs a. k (a .0)) κ₀ κ₁ κ₂ κ₃ q₀ q₁ q₂ q₃ ss x₀ x₁ x x₃) ⊛ ‵ (Logs 𝓤 H A W (w8 ∷ []) (λ n κs a. k (a .0)) κ₀ κ₁ κ₂ κ₃ q₀ q₁ q₂ q₃ ss x₀ x₁ x x₃)) (shr-slice-copy 𝓤 H A W (named 0) κ₃ u32 .twice x₃ (slice-vals x₃)) $ split ! $ move ! (0 ∷ 2 ∷ []) $ use2 W (raw (Asked (w8 ∷ []) (λ n κs a. k (a .0)) 𝓤 H A .pre (to 𝓤 H A W (w8 ∷ []) (λ n κs a. k (a .0)) κ₀ κ₁ κ₂ κ₃ q₀ q₁ q₂ q₃ ss x₀ x₁ x x₃ (s, tt)))) (goes 𝓤 H A W (w8 ∷ []) (λ n κs a. k (a .0)) κ₀ κ₁ κ₂ κ₃ q₀ q₁ q₂ q₃ ss x₀ x₁ x x₃ (s, tt) gs room₀ room₁ room ((refl, fs), tt)) $
+        move ! (4 ∷ []) $ use1 W (‵ (Logs 𝓤 H A W (w8 ∷ []) (λ n κs a. k (a .0)) b) ⊛ ‵ (Logs 𝓤 H A W (w8 ∷ []) (λ n κs a. k (a .0)) b)) (shr-slice-copy 𝓤 H A W (named 0) (b .κ₃) u32 .twice (b .x₃) (slice-vals (b .x₃))) $ split ! $ move ! (0 ∷ 2 ∷ []) $ use2 W (raw (Asked (w8 ∷ []) (λ n κs a. k (a .0)) 𝓤 H A .pre (to 𝓤 H A W (w8 ∷ []) (λ n κs a. k (a .0)) b (s, tt)))) (goes 𝓤 H A W (w8 ∷ []) (λ n κs a. k (a .0)) b (s, tt) o ((refl, fs), tt)) $
         -- [what f asks; logs; locks' token; classes'; values'; locks; classes; values; _9 at 8; …]
-        calls-at ! (fmOf 𝓤 H (W .laws) 𝓣) (Asked (w8 ∷ []) (λ n κs a. k (a .0)) 𝓤 H A) known (to 𝓤 H A W (w8 ∷ []) (λ n κs a. k (a .0)) κ₀ κ₁ κ₂ κ₃ q₀ q₁ q₂ q₃ ss x₀ x₁ x x₃ (s, tt)) (and-then ! (var ! 24 refl) (and-then ! (var ! 12 refl) (and-then ! (var ! 10 refl) (and-then ! (var ! 8 refl) (and-then ! (var ! 16 refl) (and-then ! (var ! 14 refl) (no-more !))))))) (λ v.
-        use1 W (later (some (λ (r : Reply). ((‵ (flft κ₃ q₃) ⊛ ‵ ftrue) ⊛ ‵ (RA .own r (v ∷ []))) ⊛ raw (Gives 𝓤 H A W (w8 ∷ []) (λ n κs a. k (a .0)) κ₀ κ₁ κ₂ κ₃ q₀ q₁ q₂ q₃ ss x₀ x₁ x x₃ (s, tt) v r)))) (id⊢ 𝓤 _) $ await ! tt $ pick ! (λ r.
-        split ! $ move ! (1 ∷ []) $ use1 W (raw (fact 𝓤 (Says 𝓤 H A W (w8 ∷ []) (λ n κs a. k (a .0)) κ₀ κ₁ κ₂ κ₃ q₀ q₁ q₂ q₃ ss x₀ x₁ x x₃ (s, tt) r))) (hears 𝓤 H A W (w8 ∷ []) (λ n κs a. k (a .0)) κ₀ κ₁ κ₂ κ₃ q₀ q₁ q₂ q₃ ss x₀ x₁ x x₃ (s, tt) v r) $ heard ! (Says 𝓤 H A W (w8 ∷ []) (λ n κs a. k (a .0)) κ₀ κ₁ κ₂ κ₃ q₀ q₁ q₂ q₃ ss x₀ x₁ x x₃ (s, tt) r) (λ g. split ! $ move ! (1 ∷ []) $
+        calls-at ! (fmOf 𝓤 H (W .laws) 𝓣) (Asked (w8 ∷ []) (λ n κs a. k (a .0)) 𝓤 H A) known (to 𝓤 H A W (w8 ∷ []) (λ n κs a. k (a .0)) b (s, tt)) (and-then ! (var ! 24 refl) (and-then ! (var ! 12 refl) (and-then ! (var ! 10 refl) (and-then ! (var ! 8 refl) (and-then ! (var ! 16 refl) (and-then ! (var ! 14 refl) (no-more !))))))) (λ v.
+        use1 W (later (some (λ (r : Reply). ((‵ (flft (b .κ₃) (b .q₃)) ⊛ ‵ ftrue) ⊛ ‵ (RA .own r (v ∷ []))) ⊛ raw (Gives 𝓤 H A W (w8 ∷ []) (λ n κs a. k (a .0)) b (s, tt) v r)))) (id⊢ 𝓤 _) $ await ! tt $ pick ! (λ r.
+        split ! $ move ! (1 ∷ []) $ use1 W (raw (fact 𝓤 (Says 𝓤 H A W (w8 ∷ []) (λ n κs a. k (a .0)) b (s, tt) r))) (hears 𝓤 H A W (w8 ∷ []) (λ n κs a. k (a .0)) b (s, tt) v r) $ heard ! (Says 𝓤 H A W (w8 ∷ []) (λ n κs a. k (a .0)) b (s, tt) r) (λ g. split ! $ move ! (1 ∷ []) $
         peeks ! RA (Is RA) (shows 𝓤 H A RA) r (v ∷ []) (λ p. land ! (from ! (stop !)) (init ! 27 refl (typed-a 𝓤 H A W r v p)) $
-        returns ! (look ! 27 refl) $ leave ! 9 (full _ ∷ full _ ∷ full _ ∷ full _ ∷ full _ ∷ full _ ∷ full _ ∷ full _ ∷ full _ ∷ full _ ∷ []) refl $ by ! (exits 𝓤 H A W (w8 ∷ []) (λ n κs a. k (a .0)) κ₀ κ₁ κ₂ κ₃ q₀ q₁ q₂ q₃ ss x₀ x₁ x x₃ (s, tt) gs ((refl, fs), tt) r v g)))))))))))))))
+        returns ! (look ! 27 refl) $ leave ! 9 (full _ ∷ full _ ∷ full _ ∷ full _ ∷ full _ ∷ full _ ∷ full _ ∷ full _ ∷ full _ ∷ full _ ∷ []) refl $ by ! (exits 𝓤 H A W (w8 ∷ []) (λ n κs a. k (a .0)) b (s, tt) (o .records) ((refl, fs), tt) r v g)))))))))))))))
 
   pub meets-one : Meets 𝓤 H A (signature (w8 ∷ [])) (WpFn 𝓤 H (𝓣 .C) (𝓣 .Λ) (counted f (w8 ∷ []))) (closing 𝓤 H A (ended (w8 ∷ [])) (clauses (w8 ∷ []) (λ n κs a. k (a .0)) 𝓤))
   meets-one = meets 𝓤 H A W (w8 ∷ []) (λ n κs a. k (a .0)) 𝓣 (counted f (w8 ∷ []))
-      (λ κ₀ κ₁ κ₂ κ₃ q₀ q₁ q₂ q₃ ss x₀ x₁ x x₃ ns gs room₀ room₁ room room₃ are. walk-one κ₀ κ₁ κ₂ κ₃ q₀ q₁ q₂ q₃ ss x₀ x₁ x x₃ (ns .0) gs room₀ room₁ room room₃ (are .0 .1))
+      (λ b ns o are. walk-one b (ns .0) o (are .0 .1))
 
 module _ {M : Type 1} (𝓤 : URA M) (H : Heap 𝓤) (A : Atoms 𝓤) (W : Given 𝓤 H A) (𝓣 : Tables 𝓤 H) (f : Name) (k : ℕ → ℕ → Call) (known : Triple 𝓤 (𝓣 .C f) (Asked (w8 ∷ w32 ∷ []) (λ n κs a. k (a .0) (a .1 .0)) 𝓤 H A)) where
-  module _ (κ₀ κ₁ κ₂ κ₃ : Lft) (q₀ q₁ q₂ q₃ : Share) (ss : Sessions) (x₀ x₁ : RefT (List ℕ)) (x : RefT (List Lock)) (x₃ : RefT (List ℕ)) (s c : ℕ)
-      (gs : Is RS ss (low-s ss ∷ [])) (room₀ : Room u32 (length (now x₀))) (room₁ : Room u8 (length (now x₁))) (room : Room R (length (now x))) (room₃ : Room u32 (length (now x₃))) (fs : s < 2 ^ 8) (fc : c < 2 ^ 32) where
-    walk-two : ent 𝓤 (Enters 𝓤 H A W (w8 ∷ w32 ∷ []) (λ n κs a. k (a .0) (a .1 .0)) κ₀ κ₁ κ₂ κ₃ q₀ q₁ q₂ q₃ ss x₀ x₁ x x₃ (s, (c, tt))) (WpFn 𝓤 H (𝓣 .C) (𝓣 .Λ) (counted f (w8 ∷ w32 ∷ [])) (Passes 𝓤 H A W (w8 ∷ w32 ∷ []) (λ n κs a. k (a .0) (a .1 .0)) κ₀ κ₁ κ₂ κ₃ q₀ q₁ q₂ q₃ ss x₀ x₁ x x₃ (s, (c, tt))) (Post 𝓤 H A W (w8 ∷ w32 ∷ []) (λ n κs a. k (a .0) (a .1 .0)) κ₀ κ₁ κ₂ κ₃ q₀ q₁ q₂ q₃ ss x₀ x₁ x x₃ (s, (c, tt))))
+  module _ (b : Borrows) (s c : ℕ) (o : Sound b) (fs : s < 2 ^ 8) (fc : c < 2 ^ 32) where
+    walk-two : ent 𝓤 (Enters 𝓤 H A W (w8 ∷ w32 ∷ []) (λ n κs a. k (a .0) (a .1 .0)) b (s, (c, tt))) (WpFn 𝓤 H (𝓣 .C) (𝓣 .Λ) (counted f (w8 ∷ w32 ∷ [])) (Passes 𝓤 H A W (w8 ∷ w32 ∷ []) (λ n κs a. k (a .0) (a .1 .0)) b (s, (c, tt))) (Post 𝓤 H A W (w8 ∷ w32 ∷ []) (λ n κs a. k (a .0) (a .1 .0)) b (s, (c, tt))))
     walk-two =
-        qed W ((‵ (flft κ₀ q₀) ⊛ (‵ (flft κ₁ q₁) ⊛ (‵ (flft κ₂ q₂) ⊛ (‵ (flft κ₃ q₃) ⊛ ‵ ftrue)))) ∷ ‵ (owns (RS ∷ ShrSlice (named 0) κ₀ u32 ∷ ShrSlice (named 1) κ₁ u8 ∷ ShrSlice (named 2) κ₂ R ∷ ShrSlice (named 3) κ₃ u32 ∷ u8 ∷ u32 ∷ []) (ss, (x₀, (x₁, (x, (x₃, (s, (c, tt))))))) (at 𝓤 H A W (w8 ∷ w32 ∷ []) (λ n κs a. k (a .0) (a .1 .0)) κ₀ κ₁ κ₂ κ₃ q₀ q₁ q₂ q₃ ss x₀ x₁ x x₃ (s, (c, tt)))) ∷ []) ∵
-        enter ! (𝓣 .C) (𝓣 .Λ) (counted f (w8 ∷ w32 ∷ [])) (low-s ss ∷ sliceVal (x₀ .ptr) (length (now x₀)) ∷ sliceVal (x₁ .ptr) (length (now x₁)) ∷ sliceVal (x .ptr) (length (now x)) ∷ sliceVal (x₃ .ptr) (length (now x₃)) ∷ vint w8 s ∷ vint w32 c ∷ []) _ $
+        qed W ((‵ (flft (b .κ₀) (b .q₀)) ⊛ (‵ (flft (b .κ₁) (b .q₁)) ⊛ (‵ (flft (b .κ₂) (b .q₂)) ⊛ (‵ (flft (b .κ₃) (b .q₃)) ⊛ ‵ ftrue)))) ∷ ‵ (Owned 𝓤 H A W (w8 ∷ w32 ∷ []) (λ n κs a. k (a .0) (a .1 .0)) b (s, (c, tt))) ∷ []) ∵
+        enter ! (𝓣 .C) (𝓣 .Λ) (counted f (w8 ∷ w32 ∷ [])) (valsOf b (vint w8 s ∷ vint w32 c ∷ [])) _ $
         alloc1 ! (λ l₀. alloc1 ! (λ l₁. alloc1 ! (λ l₂. alloc1 ! (λ l₃. alloc1 ! (λ l₄. alloc1 ! (λ l₅. alloc1 ! (λ l₆. alloc1 ! (λ l₇. alloc1 ! (λ l₈. alloc1 ! (λ l₉. alloc1 ! (λ l₁₀. alloc0 ! $ params1 ! $
-        pass1 ! (init ! 18 refl (typed-s 𝓤 H A W ss (low-s ss) gs)) $ pass1 ! (init ! 16 refl (tt, (tt, (record { fits = room₀ .0 }, tt)))) $ pass1 ! (init ! 14 refl (tt, (tt, (record { fits = room₁ .0 }, tt)))) $
-        pass1 ! (init ! 12 refl (tt, (tt, (record { fits = room .0 }, tt)))) $ pass1 ! (init ! 10 refl (tt, (tt, (record { fits = room₃ .0 }, tt)))) $ pass1 ! (init ! 8 refl (tt, record { fits = fs })) $ pass1 ! (init ! 6 refl (tt, record { fits = fc })) $ pass0 ! $
+        pass1 ! (init ! 18 refl (typed-s 𝓤 H A W (b .ss) (low-s (b .ss)) (o .records))) $ pass1 ! (init ! 16 refl (tt, (tt, (record { fits = o .room₀ .0 }, tt)))) $ pass1 ! (init ! 14 refl (tt, (tt, (record { fits = o .room₁ .0 }, tt)))) $
+        pass1 ! (init ! 12 refl (tt, (tt, (record { fits = o .room .0 }, tt)))) $ pass1 ! (init ! 10 refl (tt, (tt, (record { fits = o .room₃ .0 }, tt)))) $ pass1 ! (init ! 8 refl (tt, record { fits = fs })) $ pass1 ! (init ! 6 refl (tt, record { fits = fc })) $ pass0 ! $
         move ! (23 ∷ []) $ fsplit ! $ move ! (1 ∷ []) $ fsplit ! $ move ! (1 ∷ []) $ fsplit ! $ move ! (1 ∷ []) $ fsplit ! $ move ! (1 ∷ []) $ fsplit ! $ move ! (1 ∷ []) $ fsplit ! $ move ! (1 ∷ []) $ fsplit ! $
         move ! (30 ∷ []) $ split ! $ move ! (1 ∷ []) $ split ! $ move ! (1 ∷ []) $ split ! $ move ! (1 ∷ []) $ split ! $ move ! (1 ∷ 5 ∷ 6 ∷ 7 ∷ 12 ∷ []) $ drop ! $ drop ! $ drop ! $ drop ! $ drop ! $
         -- [logs' token; locks'; classes'; values'; logs; locks; classes; values; _10 at 8; …; _0 at 28; …]
-        sets ! (of-opd ! (load ! (from ! (fld ! refl (stop !))) (look-in ! 24 (sub ! 1 refl (whole !))))) 12 refl (tt, record { fits = room₀ .0 }) $
-        sets ! (of-opd ! (load ! (from ! (fld ! refl (stop !))) (look-in ! 22 (sub ! 1 refl (whole !))))) 10 refl (tt, record { fits = room₁ .0 }) $
-        sets ! (of-opd ! (load ! (from ! (fld ! refl (stop !))) (look-in ! 20 (sub ! 1 refl (whole !))))) 8 refl (tt, record { fits = room .0 }) $
+        sets ! (of-opd ! (load ! (from ! (fld ! refl (stop !))) (look-in ! 24 (sub ! 1 refl (whole !))))) 12 refl (tt, record { fits = o .room₀ .0 }) $
+        sets ! (of-opd ! (load ! (from ! (fld ! refl (stop !))) (look-in ! 22 (sub ! 1 refl (whole !))))) 10 refl (tt, record { fits = o .room₁ .0 }) $
+        sets ! (of-opd ! (load ! (from ! (fld ! refl (stop !))) (look-in ! 20 (sub ! 1 refl (whole !))))) 8 refl (tt, record { fits = o .room .0 }) $
         -- logs is Copy: one copy goes to f, with the token
-        move ! (4 ∷ []) $ use1 W (‵ (Logs 𝓤 H A W (w8 ∷ w32 ∷ []) (λ n κs a. k (a .0) (a .1 .0)) κ₀ κ₁ κ₂ κ₃ q₀ q₁ q₂ q₃ ss x₀ x₁ x x₃) ⊛ ‵ (Logs 𝓤 H A W (w8 ∷ w32 ∷ []) (λ n κs a. k (a .0) (a .1 .0)) κ₀ κ₁ κ₂ κ₃ q₀ q₁ q₂ q₃ ss x₀ x₁ x x₃)) (shr-slice-copy 𝓤 H A W (named 0) κ₃ u32 .twice x₃ (slice-vals x₃)) $ split ! $ move ! (0 ∷ 2 ∷ []) $ use2 W (raw (Asked (w8 ∷ w32 ∷ []) (λ n κs a. k (a .0) (a .1 .0)) 𝓤 H A .pre (to 𝓤 H A W (w8 ∷ w32 ∷ []) (λ n κs a. k (a .0) (a .1 .0)) κ₀ κ₁ κ₂ κ₃ q₀ q₁ q₂ q₃ ss x₀ x₁ x x₃ (s, (c, tt))))) (goes 𝓤 H A W (w8 ∷ w32 ∷ []) (λ n κs a. k (a .0) (a .1 .0)) κ₀ κ₁ κ₂ κ₃ q₀ q₁ q₂ q₃ ss x₀ x₁ x x₃ (s, (c, tt)) gs room₀ room₁ room ((refl, fs), ((refl, fc), tt))) $
+        move ! (4 ∷ []) $ use1 W (‵ (Logs 𝓤 H A W (w8 ∷ w32 ∷ []) (λ n κs a. k (a .0) (a .1 .0)) b) ⊛ ‵ (Logs 𝓤 H A W (w8 ∷ w32 ∷ []) (λ n κs a. k (a .0) (a .1 .0)) b)) (shr-slice-copy 𝓤 H A W (named 0) (b .κ₃) u32 .twice (b .x₃) (slice-vals (b .x₃))) $ split ! $ move ! (0 ∷ 2 ∷ []) $ use2 W (raw (Asked (w8 ∷ w32 ∷ []) (λ n κs a. k (a .0) (a .1 .0)) 𝓤 H A .pre (to 𝓤 H A W (w8 ∷ w32 ∷ []) (λ n κs a. k (a .0) (a .1 .0)) b (s, (c, tt))))) (goes 𝓤 H A W (w8 ∷ w32 ∷ []) (λ n κs a. k (a .0) (a .1 .0)) b (s, (c, tt)) o ((refl, fs), ((refl, fc), tt))) $
         -- [what f asks; logs; locks' token; classes'; values'; locks; classes; values; _10 at 8; …]
-        calls-at ! (fmOf 𝓤 H (W .laws) 𝓣) (Asked (w8 ∷ w32 ∷ []) (λ n κs a. k (a .0) (a .1 .0)) 𝓤 H A) known (to 𝓤 H A W (w8 ∷ w32 ∷ []) (λ n κs a. k (a .0) (a .1 .0)) κ₀ κ₁ κ₂ κ₃ q₀ q₁ q₂ q₃ ss x₀ x₁ x x₃ (s, (c, tt))) (and-then ! (var ! 26 refl) (and-then ! (var ! 12 refl) (and-then ! (var ! 10 refl) (and-then ! (var ! 8 refl) (and-then ! (var ! 18 refl) (and-then ! (var ! 16 refl) (and-then ! (var ! 14 refl) (no-more !)))))))) (λ v.
-        use1 W (later (some (λ (r : Reply). ((‵ (flft κ₃ q₃) ⊛ ‵ ftrue) ⊛ ‵ (RA .own r (v ∷ []))) ⊛ raw (Gives 𝓤 H A W (w8 ∷ w32 ∷ []) (λ n κs a. k (a .0) (a .1 .0)) κ₀ κ₁ κ₂ κ₃ q₀ q₁ q₂ q₃ ss x₀ x₁ x x₃ (s, (c, tt)) v r)))) (id⊢ 𝓤 _) $ await ! tt $ pick ! (λ r.
-        split ! $ move ! (1 ∷ []) $ use1 W (raw (fact 𝓤 (Says 𝓤 H A W (w8 ∷ w32 ∷ []) (λ n κs a. k (a .0) (a .1 .0)) κ₀ κ₁ κ₂ κ₃ q₀ q₁ q₂ q₃ ss x₀ x₁ x x₃ (s, (c, tt)) r))) (hears 𝓤 H A W (w8 ∷ w32 ∷ []) (λ n κs a. k (a .0) (a .1 .0)) κ₀ κ₁ κ₂ κ₃ q₀ q₁ q₂ q₃ ss x₀ x₁ x x₃ (s, (c, tt)) v r) $ heard ! (Says 𝓤 H A W (w8 ∷ w32 ∷ []) (λ n κs a. k (a .0) (a .1 .0)) κ₀ κ₁ κ₂ κ₃ q₀ q₁ q₂ q₃ ss x₀ x₁ x x₃ (s, (c, tt)) r) (λ g. split ! $ move ! (1 ∷ []) $
+        calls-at ! (fmOf 𝓤 H (W .laws) 𝓣) (Asked (w8 ∷ w32 ∷ []) (λ n κs a. k (a .0) (a .1 .0)) 𝓤 H A) known (to 𝓤 H A W (w8 ∷ w32 ∷ []) (λ n κs a. k (a .0) (a .1 .0)) b (s, (c, tt))) (and-then ! (var ! 26 refl) (and-then ! (var ! 12 refl) (and-then ! (var ! 10 refl) (and-then ! (var ! 8 refl) (and-then ! (var ! 18 refl) (and-then ! (var ! 16 refl) (and-then ! (var ! 14 refl) (no-more !)))))))) (λ v.
+        use1 W (later (some (λ (r : Reply). ((‵ (flft (b .κ₃) (b .q₃)) ⊛ ‵ ftrue) ⊛ ‵ (RA .own r (v ∷ []))) ⊛ raw (Gives 𝓤 H A W (w8 ∷ w32 ∷ []) (λ n κs a. k (a .0) (a .1 .0)) b (s, (c, tt)) v r)))) (id⊢ 𝓤 _) $ await ! tt $ pick ! (λ r.
+        split ! $ move ! (1 ∷ []) $ use1 W (raw (fact 𝓤 (Says 𝓤 H A W (w8 ∷ w32 ∷ []) (λ n κs a. k (a .0) (a .1 .0)) b (s, (c, tt)) r))) (hears 𝓤 H A W (w8 ∷ w32 ∷ []) (λ n κs a. k (a .0) (a .1 .0)) b (s, (c, tt)) v r) $ heard ! (Says 𝓤 H A W (w8 ∷ w32 ∷ []) (λ n κs a. k (a .0) (a .1 .0)) b (s, (c, tt)) r) (λ g. split ! $ move ! (1 ∷ []) $
         peeks ! RA (Is RA) (shows 𝓤 H A RA) r (v ∷ []) (λ p. land ! (from ! (stop !)) (init ! 29 refl (typed-a 𝓤 H A W r v p)) $
-        returns ! (look ! 29 refl) $ leave ! 9 (full _ ∷ full _ ∷ full _ ∷ full _ ∷ full _ ∷ full _ ∷ full _ ∷ full _ ∷ full _ ∷ full _ ∷ full _ ∷ []) refl $ by ! (exits 𝓤 H A W (w8 ∷ w32 ∷ []) (λ n κs a. k (a .0) (a .1 .0)) κ₀ κ₁ κ₂ κ₃ q₀ q₁ q₂ q₃ ss x₀ x₁ x x₃ (s, (c, tt)) gs ((refl, fs), ((refl, fc), tt)) r v g))))))))))))))))
+        returns ! (look ! 29 refl) $ leave ! 9 (full _ ∷ full _ ∷ full _ ∷ full _ ∷ full _ ∷ full _ ∷ full _ ∷ full _ ∷ full _ ∷ full _ ∷ full _ ∷ []) refl $ by ! (exits 𝓤 H A W (w8 ∷ w32 ∷ []) (λ n κs a. k (a .0) (a .1 .0)) b (s, (c, tt)) (o .records) ((refl, fs), ((refl, fc), tt)) r v g))))))))))))))))
 
   pub meets-two : Meets 𝓤 H A (signature (w8 ∷ w32 ∷ [])) (WpFn 𝓤 H (𝓣 .C) (𝓣 .Λ) (counted f (w8 ∷ w32 ∷ []))) (closing 𝓤 H A (ended (w8 ∷ w32 ∷ [])) (clauses (w8 ∷ w32 ∷ []) (λ n κs a. k (a .0) (a .1 .0)) 𝓤))
   meets-two = meets 𝓤 H A W (w8 ∷ w32 ∷ []) (λ n κs a. k (a .0) (a .1 .0)) 𝓣 (counted f (w8 ∷ w32 ∷ []))
-      (λ κ₀ κ₁ κ₂ κ₃ q₀ q₁ q₂ q₃ ss x₀ x₁ x x₃ ns gs room₀ room₁ room room₃ are. walk-two κ₀ κ₁ κ₂ κ₃ q₀ q₁ q₂ q₃ ss x₀ x₁ x x₃ (ns .0) (ns .1 .0) gs room₀ room₁ room room₃ (are .0 .1) (are .1 .0 .1))
+      (λ b ns o are. walk-two b (ns .0) (ns .1 .0) o (are .0 .1) (are .1 .0 .1))

@@ -1,6 +1,7 @@
 pub mod Again
 pub mod Lent
 pub mod Row
+pub mod Borrows
 pub mod Leave
 pub mod Short
 pub mod Calls
