@@ -1,11 +1,11 @@
 pub mod Again
 pub mod Lent
 pub mod Row
+pub mod Numbers
 pub mod Borrows
 pub mod Leave
 pub mod Short
 pub mod Calls
-pub mod Numbers
 pub mod Passed
 pub mod Filled
 pub mod Counted
