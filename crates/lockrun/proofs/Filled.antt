@@ -22,8 +22,8 @@ use ghost.Atoms.{Atoms}
 use contract.Lifetimes.{Lfts}
 use contract.Monad.{Fun, fact}
 use types.Kit.{Given, Item, ‵, raw, later, _⊛_, ⋆, _$_, _∵_, !, qed, by, move, drop, use0, use1, group, split, pick, learn, fsplit, fjoin, suffices, frame, await, done}
-use types.Part.{agg, whole, sub, look-in}
-use types.Run.{look, init, stop, hop, fld, from, load, lit, addr, and-then, no-more, land, returns, enter, alloc1, alloc0, params1, pass1, pass0}
+use types.Part.{agg}
+use types.Run.{look, init, stop, from, lit, and-then, no-more, land, returns, enter, alloc1, alloc0, params1, pass1, pass0}
 use sound.WpLaws.{fmOf, WpFn-mono}
 use denote.RattleType.{Denots, owns}
 use denote.Laws.{Is, shows}
@@ -54,7 +54,7 @@ use Rattle.lockrun.proofs.Row.{R, RS, low-s, tells-s, makes-s, typed-s,
 use Rattle.lockrun.proofs.Borrows.{Borrows, κsOf, qsOf, argsOf, atOf, borrowed, Nums, numsAt, Passes, Fitting, Sound, Kinds, Tokens}
 use Rattle.lockrun.proofs.Numbers.{hold, lent, inLocals, copies, numbers, stays, rows, spell, tell, last, fit, go, had}
 use Rattle.lockrun.proofs.Leave.{full, leave}
-use Rattle.lockrun.proofs.Short.{var, sets}
+use Rattle.lockrun.proofs.Short.{var, sets, relends}
 use Rattle.lockrun.proofs.Passed.{Left, Called, Step, Said, st-to, st-gives, st-goes, st-gets}
 use Rattle.lockrun.proofs.step.Symbol.{name as #lockrun·step}
 
@@ -181,12 +181,9 @@ module _ {M : Type 1} (𝓤 : URA M) (H : Heap 𝓤) (A : Atoms 𝓤) (W : Given
         move ! (29 ∷ []) $ fsplit ! $ move ! (1 ∷ []) $ fsplit ! $ move ! (1 ∷ []) $ fsplit ! $ move ! (1 ∷ []) $ fsplit ! $ move ! (1 ∷ []) $ fsplit ! $ move ! (1 ∷ []) $ fsplit ! $ move ! (0 ∷ 1 ∷ 6 ∷ []) $ drop ! $ drop ! $ drop ! $ move ! (32 ∷ []) $
         -- [the tokens; logs; locks; classes; values; _13 at 5; …; _0 at 31; …]
         sets ! (agg ! (and-then ! (lit ! small) (and-then ! (var ! 19 refl) (no-more !)))) 17 refl (typed-k 𝓤 H A W ((one b ns are) .call) ((one b ns are) .val) ((one b ns are) .is)) $
-        sets ! (addr ! (from ! (fld ! refl (hop ! (look-in ! 27 (sub ! 0 refl (whole !))) (stop !))))) 15 refl (tt, tt) $
-        sets ! (agg ! (and-then ! (var ! 15 refl) (and-then ! (load ! (from ! (fld ! refl (stop !))) (look-in ! 27 (sub ! 1 refl (whole !)))) (no-more !)))) 13 refl (tt, (tt, (record { fits = o .room₀ .0 }, tt))) $
-        sets ! (addr ! (from ! (fld ! refl (hop ! (look-in ! 23 (sub ! 0 refl (whole !))) (stop !))))) 11 refl (tt, tt) $
-        sets ! (agg ! (and-then ! (var ! 11 refl) (and-then ! (load ! (from ! (fld ! refl (stop !))) (look-in ! 23 (sub ! 1 refl (whole !)))) (no-more !)))) 9 refl (tt, (tt, (record { fits = o .room .0 }, tt))) $
-        sets ! (addr ! (from ! (fld ! refl (hop ! (look-in ! 21 (sub ! 0 refl (whole !))) (stop !))))) 7 refl (tt, tt) $
-        sets ! (agg ! (and-then ! (var ! 7 refl) (and-then ! (load ! (from ! (fld ! refl (stop !))) (look-in ! 21 (sub ! 1 refl (whole !)))) (no-more !)))) 5 refl (tt, (tt, (record { fits = o .room₃ .0 }, tt))) $
+        relends ! 27 refl refl 15 refl (tt, tt) refl refl 13 refl (tt, (tt, (record { fits = o .room₀ .0 }, tt))) $
+        relends ! 23 refl refl 11 refl (tt, tt) refl refl 9 refl (tt, (tt, (record { fits = o .room .0 }, tt))) $
+        relends ! 21 refl refl 7 refl (tt, tt) refl refl 5 refl (tt, (tt, (record { fits = o .room₃ .0 }, tt))) $
         -- classes is Copy: one copy goes to `step`
         move ! (3 ∷ []) $ use1 W (‵ (Kinds b) ⊛ ‵ (Kinds b)) (shr-slice-copy 𝓤 H A W (named 0) (b .κ₁) u8 .twice (b .x₁) (slice-vals (b .x₁))) $ split ! $ move ! (5 ∷ 0 ∷ 4 ∷ 3 ∷ 2 ∷ []) $ group ! 5 $
         use1 W (raw (Step 𝓤 H A mem run .pre (st-to 𝓤 H A mem run W b o (one b ns are)))) (st-goes 𝓤 H A mem run W b o (one b ns are)) $
@@ -215,12 +212,9 @@ module _ {M : Type 1} (𝓤 : URA M) (H : Heap 𝓤) (A : Atoms 𝓤) (W : Given
       move ! (31 ∷ []) $ fsplit ! $ move ! (1 ∷ []) $ fsplit ! $ move ! (1 ∷ []) $ fsplit ! $ move ! (1 ∷ []) $ fsplit ! $ move ! (1 ∷ []) $ fsplit ! $ move ! (1 ∷ []) $ fsplit ! $ move ! (1 ∷ []) $ fsplit ! $ move ! (0 ∷ 1 ∷ 2 ∷ 7 ∷ []) $ drop ! $ drop ! $ drop ! $ drop ! $ move ! (34 ∷ []) $
       -- [the tokens; logs; locks; classes; values; _14 at 5; …; _0 at 33; …]
       sets ! (agg ! (and-then ! (lit ! tt) (and-then ! (var ! 21 refl) (and-then ! (var ! 19 refl) (no-more !))))) 17 refl (typed-k 𝓤 H A W ((two b ns are) .call) ((two b ns are) .val) ((two b ns are) .is)) $
-      sets ! (addr ! (from ! (fld ! refl (hop ! (look-in ! 29 (sub ! 0 refl (whole !))) (stop !))))) 15 refl (tt, tt) $
-      sets ! (agg ! (and-then ! (var ! 15 refl) (and-then ! (load ! (from ! (fld ! refl (stop !))) (look-in ! 29 (sub ! 1 refl (whole !)))) (no-more !)))) 13 refl (tt, (tt, (record { fits = o .room₀ .0 }, tt))) $
-      sets ! (addr ! (from ! (fld ! refl (hop ! (look-in ! 25 (sub ! 0 refl (whole !))) (stop !))))) 11 refl (tt, tt) $
-      sets ! (agg ! (and-then ! (var ! 11 refl) (and-then ! (load ! (from ! (fld ! refl (stop !))) (look-in ! 25 (sub ! 1 refl (whole !)))) (no-more !)))) 9 refl (tt, (tt, (record { fits = o .room .0 }, tt))) $
-      sets ! (addr ! (from ! (fld ! refl (hop ! (look-in ! 23 (sub ! 0 refl (whole !))) (stop !))))) 7 refl (tt, tt) $
-      sets ! (agg ! (and-then ! (var ! 7 refl) (and-then ! (load ! (from ! (fld ! refl (stop !))) (look-in ! 23 (sub ! 1 refl (whole !)))) (no-more !)))) 5 refl (tt, (tt, (record { fits = o .room₃ .0 }, tt))) $
+      relends ! 29 refl refl 15 refl (tt, tt) refl refl 13 refl (tt, (tt, (record { fits = o .room₀ .0 }, tt))) $
+      relends ! 25 refl refl 11 refl (tt, tt) refl refl 9 refl (tt, (tt, (record { fits = o .room .0 }, tt))) $
+      relends ! 23 refl refl 7 refl (tt, tt) refl refl 5 refl (tt, (tt, (record { fits = o .room₃ .0 }, tt))) $
       -- classes is Copy: one copy goes to `step`
       move ! (3 ∷ []) $ use1 W (‵ (Kinds b) ⊛ ‵ (Kinds b)) (shr-slice-copy 𝓤 H A W (named 0) (b .κ₁) u8 .twice (b .x₁) (slice-vals (b .x₁))) $ split ! $ move ! (5 ∷ 0 ∷ 4 ∷ 3 ∷ 2 ∷ []) $ group ! 5 $
       use1 W (raw (Step 𝓤 H A mem run .pre (st-to 𝓤 H A mem run W b o (two b ns are)))) (st-goes 𝓤 H A mem run W b o (two b ns are)) $
@@ -249,12 +243,9 @@ module _ {M : Type 1} (𝓤 : URA M) (H : Heap 𝓤) (A : Atoms 𝓤) (W : Given
       move ! (33 ∷ []) $ fsplit ! $ move ! (1 ∷ []) $ fsplit ! $ move ! (1 ∷ []) $ fsplit ! $ move ! (1 ∷ []) $ fsplit ! $ move ! (1 ∷ []) $ fsplit ! $ move ! (1 ∷ []) $ fsplit ! $ move ! (1 ∷ []) $ fsplit ! $ move ! (1 ∷ []) $ fsplit ! $ move ! (0 ∷ 1 ∷ 2 ∷ 3 ∷ 8 ∷ []) $ drop ! $ drop ! $ drop ! $ drop ! $ drop ! $ move ! (36 ∷ []) $
       -- [the tokens; logs; locks; classes; values; _15 at 5; …; _0 at 35; …]
       sets ! (agg ! (and-then ! (lit ! tt) (and-then ! (var ! 23 refl) (and-then ! (var ! 21 refl) (and-then ! (var ! 19 refl) (no-more !)))))) 17 refl (typed-k 𝓤 H A W ((three b ns are) .call) ((three b ns are) .val) ((three b ns are) .is)) $
-      sets ! (addr ! (from ! (fld ! refl (hop ! (look-in ! 31 (sub ! 0 refl (whole !))) (stop !))))) 15 refl (tt, tt) $
-      sets ! (agg ! (and-then ! (var ! 15 refl) (and-then ! (load ! (from ! (fld ! refl (stop !))) (look-in ! 31 (sub ! 1 refl (whole !)))) (no-more !)))) 13 refl (tt, (tt, (record { fits = o .room₀ .0 }, tt))) $
-      sets ! (addr ! (from ! (fld ! refl (hop ! (look-in ! 27 (sub ! 0 refl (whole !))) (stop !))))) 11 refl (tt, tt) $
-      sets ! (agg ! (and-then ! (var ! 11 refl) (and-then ! (load ! (from ! (fld ! refl (stop !))) (look-in ! 27 (sub ! 1 refl (whole !)))) (no-more !)))) 9 refl (tt, (tt, (record { fits = o .room .0 }, tt))) $
-      sets ! (addr ! (from ! (fld ! refl (hop ! (look-in ! 25 (sub ! 0 refl (whole !))) (stop !))))) 7 refl (tt, tt) $
-      sets ! (agg ! (and-then ! (var ! 7 refl) (and-then ! (load ! (from ! (fld ! refl (stop !))) (look-in ! 25 (sub ! 1 refl (whole !)))) (no-more !)))) 5 refl (tt, (tt, (record { fits = o .room₃ .0 }, tt))) $
+      relends ! 31 refl refl 15 refl (tt, tt) refl refl 13 refl (tt, (tt, (record { fits = o .room₀ .0 }, tt))) $
+      relends ! 27 refl refl 11 refl (tt, tt) refl refl 9 refl (tt, (tt, (record { fits = o .room .0 }, tt))) $
+      relends ! 25 refl refl 7 refl (tt, tt) refl refl 5 refl (tt, (tt, (record { fits = o .room₃ .0 }, tt))) $
       -- classes is Copy: one copy goes to `step`
       move ! (3 ∷ []) $ use1 W (‵ (Kinds b) ⊛ ‵ (Kinds b)) (shr-slice-copy 𝓤 H A W (named 0) (b .κ₁) u8 .twice (b .x₁) (slice-vals (b .x₁))) $ split ! $ move ! (5 ∷ 0 ∷ 4 ∷ 3 ∷ 2 ∷ []) $ group ! 5 $
       use1 W (raw (Step 𝓤 H A mem run .pre (st-to 𝓤 H A mem run W b o (three b ns are)))) (st-goes 𝓤 H A mem run W b o (three b ns are)) $
