@@ -20,7 +20,7 @@ use contract.Lifetimes.{Lfts}
 use contract.Monad.{fact}
 use types.Kit.{Given, Item, ‵, raw, some, given, later, _⊛_, mean, ⋆, _$_, _∵_, !, qed, by, move, drop, use0, use1, use2, split, join, pick, learn, fsplit, fjoin, suffices, frame, await, updating, now as at-once, show, check, done}
 use types.Part.{whole, sub, look-in}
-use types.Run.{look, init, stop, fld, from, load, of-opd, and-then, no-more, land, returns, enter, alloc1, alloc0, params1, pass1, pass0}
+use types.Run.{look, init, stop, fld, from, load, of-opd, and-then, no-more, land, returns, enter, params1, pass1, pass0}
 use sound.WpLaws.{fmOf, WpFn-mono}
 use denote.RattleType.{Denots, Valss, owns}
 use denote.Laws.{Is, Ises, Are, valss, shows}
@@ -51,7 +51,7 @@ use Rattle.lockrun.proofs.Row.{R, RS, low-s, tells-s, makes-s, typed-s,
 use Rattle.lockrun.proofs.Borrows.{Borrows, κsOf, qsOf, argsOf, atOf, borrowed, Nums, numsAt, Passes, Fitting, Sound, Kinds, Tokens}
 use Rattle.lockrun.proofs.Numbers.{hold, lent, inLocals, copies, numbers, stays, rows, spell, tell, last, fit, go, had, passed}
 use Rattle.lockrun.proofs.Leave.{full, leave}
-use Rattle.lockrun.proofs.Short.{var, sets}
+use Rattle.lockrun.proofs.Short.{allocates, var, sets}
 
 -- ---- the MIR
 
@@ -211,7 +211,7 @@ module _ {M : Type 1} (𝓤 : URA M) (H : Heap 𝓤) (A : Atoms 𝓤) (W : Given
     walk-one b ns o are =
         qed W (Tokens 𝓤 b ∷ ‵ (Owned (w8 ∷ []) b ns) ∷ []) ∵
         enter ! (𝓣 .C) (𝓣 .Λ) (counted f (w8 ∷ [])) (Passes (w8 ∷ []) b ns) _ $
-        alloc1 ! (λ l₀. alloc1 ! (λ l₁. alloc1 ! (λ l₂. alloc1 ! (λ l₃. alloc1 ! (λ l₄. alloc1 ! (λ l₅. alloc1 ! (λ l₆. alloc1 ! (λ l₇. alloc1 ! (λ l₈. alloc1 ! (λ l₉. alloc0 ! $ params1 ! $
+        allocates ! _ (λ bs. params1 ! $
         pass1 ! (init ! 16 refl (typed-s 𝓤 H A W (b .ss) (low-s (b .ss)) (o .records))) $ pass1 ! (init ! 14 refl (tt, (tt, (record { fits = o .room₀ .0 }, tt)))) $ pass1 ! (init ! 12 refl (tt, (tt, (record { fits = o .room₁ .0 }, tt)))) $
         pass1 ! (init ! 10 refl (tt, (tt, (record { fits = o .room .0 }, tt)))) $ pass1 ! (init ! 8 refl (tt, (tt, (record { fits = o .room₃ .0 }, tt)))) $ pass1 ! (init ! 6 refl (tt, record { fits = are .0 .1 })) $ pass0 ! $
         move ! (21 ∷ []) $ fsplit ! $ move ! (1 ∷ []) $ fsplit ! $ move ! (1 ∷ []) $ fsplit ! $ move ! (1 ∷ []) $ fsplit ! $ move ! (1 ∷ []) $ fsplit ! $ move ! (1 ∷ []) $ fsplit ! $
@@ -226,7 +226,7 @@ module _ {M : Type 1} (𝓤 : URA M) (H : Heap 𝓤) (A : Atoms 𝓤) (W : Given
         calls-at ! (fmOf 𝓤 H (W .laws) 𝓣) (Asked (w8 ∷ []) of-one 𝓤 H A) known (to 𝓤 H A W (w8 ∷ []) of-one b ns) (and-then ! (var ! 24 refl) (and-then ! (var ! 12 refl) (and-then ! (var ! 10 refl) (and-then ! (var ! 8 refl) (and-then ! (var ! 16 refl) (and-then ! (var ! 14 refl) (no-more !))))))) (λ v.
         use1 W (later (gives 𝓤 H A W (w8 ∷ []) of-one b ns v)) (gets 𝓤 H A W (w8 ∷ []) of-one b ns v) $ await ! tt $ pick ! (λ r. learn ! (λ g. split ! $
         peeks ! RA (Is RA) (shows 𝓤 H A RA) r (v ∷ []) (λ p. land ! (from ! (stop !)) (init ! 27 refl (typed-a 𝓤 H A W r v p)) $
-        returns ! (look ! 27 refl) $ leave ! 9 (full _ ∷ full _ ∷ full _ ∷ full _ ∷ full _ ∷ full _ ∷ full _ ∷ full _ ∷ full _ ∷ full _ ∷ []) refl $ by ! (exits 𝓤 H A W (w8 ∷ []) of-one b ns o are r v g)))))))))))))))
+        returns ! (look ! 27 refl) $ leave ! 9 (full _ ∷ full _ ∷ full _ ∷ full _ ∷ full _ ∷ full _ ∷ full _ ∷ full _ ∷ full _ ∷ full _ ∷ []) refl $ by ! (exits 𝓤 H A W (w8 ∷ []) of-one b ns o are r v g))))))
 
     pub meets-one : Meets 𝓤 H A (signature (w8 ∷ [])) (WpFn 𝓤 H (𝓣 .C) (𝓣 .Λ) (counted f (w8 ∷ []))) (closing 𝓤 H A (ended (w8 ∷ [])) (clauses (w8 ∷ []) of-one 𝓤))
     meets-one = meets 𝓤 H A W (w8 ∷ []) of-one 𝓣 (counted f (w8 ∷ [])) walk-one
@@ -240,7 +240,7 @@ module _ {M : Type 1} (𝓤 : URA M) (H : Heap 𝓤) (A : Atoms 𝓤) (W : Given
     walk-two b ns o are =
         qed W (Tokens 𝓤 b ∷ ‵ (Owned (w8 ∷ w32 ∷ []) b ns) ∷ []) ∵
         enter ! (𝓣 .C) (𝓣 .Λ) (counted f (w8 ∷ w32 ∷ [])) (Passes (w8 ∷ w32 ∷ []) b ns) _ $
-        alloc1 ! (λ l₀. alloc1 ! (λ l₁. alloc1 ! (λ l₂. alloc1 ! (λ l₃. alloc1 ! (λ l₄. alloc1 ! (λ l₅. alloc1 ! (λ l₆. alloc1 ! (λ l₇. alloc1 ! (λ l₈. alloc1 ! (λ l₉. alloc1 ! (λ l₁₀. alloc0 ! $ params1 ! $
+        allocates ! _ (λ bs. params1 ! $
         pass1 ! (init ! 18 refl (typed-s 𝓤 H A W (b .ss) (low-s (b .ss)) (o .records))) $ pass1 ! (init ! 16 refl (tt, (tt, (record { fits = o .room₀ .0 }, tt)))) $ pass1 ! (init ! 14 refl (tt, (tt, (record { fits = o .room₁ .0 }, tt)))) $
         pass1 ! (init ! 12 refl (tt, (tt, (record { fits = o .room .0 }, tt)))) $ pass1 ! (init ! 10 refl (tt, (tt, (record { fits = o .room₃ .0 }, tt)))) $ pass1 ! (init ! 8 refl (tt, record { fits = are .0 .1 })) $ pass1 ! (init ! 6 refl (tt, record { fits = are .1 .0 .1 })) $ pass0 ! $
         move ! (23 ∷ []) $ fsplit ! $ move ! (1 ∷ []) $ fsplit ! $ move ! (1 ∷ []) $ fsplit ! $ move ! (1 ∷ []) $ fsplit ! $ move ! (1 ∷ []) $ fsplit ! $ move ! (1 ∷ []) $ fsplit ! $ move ! (1 ∷ []) $ fsplit ! $
@@ -255,7 +255,7 @@ module _ {M : Type 1} (𝓤 : URA M) (H : Heap 𝓤) (A : Atoms 𝓤) (W : Given
         calls-at ! (fmOf 𝓤 H (W .laws) 𝓣) (Asked (w8 ∷ w32 ∷ []) of-two 𝓤 H A) known (to 𝓤 H A W (w8 ∷ w32 ∷ []) of-two b ns) (and-then ! (var ! 26 refl) (and-then ! (var ! 12 refl) (and-then ! (var ! 10 refl) (and-then ! (var ! 8 refl) (and-then ! (var ! 18 refl) (and-then ! (var ! 16 refl) (and-then ! (var ! 14 refl) (no-more !)))))))) (λ v.
         use1 W (later (gives 𝓤 H A W (w8 ∷ w32 ∷ []) of-two b ns v)) (gets 𝓤 H A W (w8 ∷ w32 ∷ []) of-two b ns v) $ await ! tt $ pick ! (λ r. learn ! (λ g. split ! $
         peeks ! RA (Is RA) (shows 𝓤 H A RA) r (v ∷ []) (λ p. land ! (from ! (stop !)) (init ! 29 refl (typed-a 𝓤 H A W r v p)) $
-        returns ! (look ! 29 refl) $ leave ! 9 (full _ ∷ full _ ∷ full _ ∷ full _ ∷ full _ ∷ full _ ∷ full _ ∷ full _ ∷ full _ ∷ full _ ∷ full _ ∷ []) refl $ by ! (exits 𝓤 H A W (w8 ∷ w32 ∷ []) of-two b ns o are r v g))))))))))))))))
+        returns ! (look ! 29 refl) $ leave ! 9 (full _ ∷ full _ ∷ full _ ∷ full _ ∷ full _ ∷ full _ ∷ full _ ∷ full _ ∷ full _ ∷ full _ ∷ full _ ∷ []) refl $ by ! (exits 𝓤 H A W (w8 ∷ w32 ∷ []) of-two b ns o are r v g))))))
 
     pub meets-two : Meets 𝓤 H A (signature (w8 ∷ w32 ∷ [])) (WpFn 𝓤 H (𝓣 .C) (𝓣 .Λ) (counted f (w8 ∷ w32 ∷ []))) (closing 𝓤 H A (ended (w8 ∷ w32 ∷ [])) (clauses (w8 ∷ w32 ∷ []) of-two 𝓤))
     meets-two = meets 𝓤 H A W (w8 ∷ w32 ∷ []) of-two 𝓣 (counted f (w8 ∷ w32 ∷ [])) walk-two

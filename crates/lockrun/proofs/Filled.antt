@@ -23,7 +23,7 @@ use contract.Lifetimes.{Lfts}
 use contract.Monad.{Fun, fact}
 use types.Kit.{Given, Item, ‵, raw, later, _⊛_, ⋆, _$_, _∵_, !, qed, by, move, drop, use0, use1, group, split, pick, learn, fsplit, fjoin, suffices, frame, await, done}
 use types.Part.{agg}
-use types.Run.{look, init, stop, from, lit, and-then, no-more, land, returns, enter, alloc1, alloc0, params1, pass1, pass0}
+use types.Run.{look, init, stop, from, lit, and-then, no-more, land, returns, enter, params1, pass1, pass0}
 use sound.WpLaws.{fmOf, WpFn-mono}
 use denote.RattleType.{Denots, owns}
 use denote.Laws.{Is, shows}
@@ -54,7 +54,7 @@ use Rattle.lockrun.proofs.Row.{R, RS, low-s, tells-s, makes-s, typed-s,
 use Rattle.lockrun.proofs.Borrows.{Borrows, κsOf, qsOf, argsOf, atOf, borrowed, Nums, numsAt, Passes, Fitting, Sound, Kinds, Tokens}
 use Rattle.lockrun.proofs.Numbers.{hold, lent, inLocals, copies, numbers, stays, rows, spell, tell, last, fit, go, had}
 use Rattle.lockrun.proofs.Leave.{full, leave}
-use Rattle.lockrun.proofs.Short.{var, sets, relends}
+use Rattle.lockrun.proofs.Short.{allocates, var, sets, relends}
 use Rattle.lockrun.proofs.Passed.{Left, Called, Step, Said, st-to, st-gives, st-goes, st-gets}
 use Rattle.lockrun.proofs.step.Symbol.{name as #lockrun·step}
 
@@ -175,7 +175,7 @@ module _ {M : Type 1} (𝓤 : URA M) (H : Heap 𝓤) (A : Atoms 𝓤) (W : Given
     walk-one b ns o are =
         qed W (Tokens 𝓤 b ∷ ‵ (Owned (w8 ∷ []) b ns) ∷ []) ∵
         enter ! (𝓣 .C) (𝓣 .Λ) (made j (w8 ∷ [])) (Passes (w8 ∷ []) b ns) _ $
-        alloc1 ! (λ l₀. alloc1 ! (λ l₁. alloc1 ! (λ l₂. alloc1 ! (λ l₃. alloc1 ! (λ l₄. alloc1 ! (λ l₅. alloc1 ! (λ l₆. alloc1 ! (λ l₇. alloc1 ! (λ l₈. alloc1 ! (λ l₉. alloc1 ! (λ l₁₀. alloc1 ! (λ l₁₁. alloc1 ! (λ l₁₂. alloc1 ! (λ l₁₃. alloc0 ! $ params1 ! $
+        allocates ! _ (λ bs. params1 ! $
         pass1 ! (init ! 24 refl (typed-s 𝓤 H A W (b .ss) (low-s (b .ss)) (o .records))) $ pass1 ! (init ! 22 refl (tt, (tt, (record { fits = o .room₀ .0 }, tt)))) $ pass1 ! (init ! 20 refl (tt, (tt, (record { fits = o .room₁ .0 }, tt)))) $
         pass1 ! (init ! 18 refl (tt, (tt, (record { fits = o .room .0 }, tt)))) $ pass1 ! (init ! 16 refl (tt, (tt, (record { fits = o .room₃ .0 }, tt)))) $ pass1 ! (init ! 14 refl (tt, record { fits = are .0 .1 })) $ pass0 ! $
         move ! (29 ∷ []) $ fsplit ! $ move ! (1 ∷ []) $ fsplit ! $ move ! (1 ∷ []) $ fsplit ! $ move ! (1 ∷ []) $ fsplit ! $ move ! (1 ∷ []) $ fsplit ! $ move ! (1 ∷ []) $ fsplit ! $ move ! (0 ∷ 1 ∷ 6 ∷ []) $ drop ! $ drop ! $ drop ! $ move ! (32 ∷ []) $
@@ -191,7 +191,7 @@ module _ {M : Type 1} (𝓤 : URA M) (H : Heap 𝓤) (A : Atoms 𝓤) (W : Given
         calls-at ! (fmOf 𝓤 H (W .laws) 𝓣) (Step 𝓤 H A mem run) known (st-to 𝓤 H A mem run W b o (one b ns are)) (and-then ! (var ! 14 refl) (and-then ! (var ! 26 refl) (and-then ! (var ! 10 refl) (and-then ! (var ! 22 refl) (and-then ! (var ! 6 refl) (and-then ! (var ! 2 refl) (no-more !))))))) (λ v.
         use1 W (later (st-gives 𝓤 H A mem run W b o (one b ns are) v)) (st-gets 𝓤 H A mem run W b o (one b ns are) v) $ await ! tt $ pick ! (λ p. learn ! (λ f. split ! $
         peeks ! RA (Is RA) (shows 𝓤 H A RA) (p .0) (v ∷ []) (λ pa. land ! (from ! (stop !)) (init ! 29 refl (typed-a 𝓤 H A W (p .0) v pa)) $
-        returns ! (look ! 29 refl) $ leave ! 3 (full _ ∷ full _ ∷ full _ ∷ full _ ∷ full _ ∷ full _ ∷ full _ ∷ full _ ∷ full _ ∷ full _ ∷ full _ ∷ full _ ∷ full _ ∷ full _ ∷ []) refl $ by ! (exits 𝓤 H A W mem run (w8 ∷ []) of-one b ns o are ((one b ns are) .val) ((one b ns are) .is) p v f)))))))))))))))))))
+        returns ! (look ! 29 refl) $ leave ! 3 (full _ ∷ full _ ∷ full _ ∷ full _ ∷ full _ ∷ full _ ∷ full _ ∷ full _ ∷ full _ ∷ full _ ∷ full _ ∷ full _ ∷ full _ ∷ full _ ∷ []) refl $ by ! (exits 𝓤 H A W mem run (w8 ∷ []) of-one b ns o are ((one b ns are) .val) ((one b ns are) .is) p v f))))))
 
     pub meets-one : Meets 𝓤 H A (signature (w8 ∷ [])) (WpFn 𝓤 H (𝓣 .C) (𝓣 .Λ) (made j (w8 ∷ []))) (closing 𝓤 H A (ended (w8 ∷ [])) (clauses (w8 ∷ []) of-one 𝓤))
     meets-one = meets 𝓤 H A W mem run (w8 ∷ []) of-one 𝓣 (made j (w8 ∷ [])) walk-one
@@ -206,7 +206,7 @@ module _ {M : Type 1} (𝓤 : URA M) (H : Heap 𝓤) (A : Atoms 𝓤) (W : Given
   walk-two b ns o are =
       qed W (Tokens 𝓤 b ∷ ‵ (Owned (w8 ∷ w32 ∷ []) b ns) ∷ []) ∵
       enter ! (𝓣 .C) (𝓣 .Λ) (made 1 (w8 ∷ w32 ∷ [])) (Passes (w8 ∷ w32 ∷ []) b ns) _ $
-      alloc1 ! (λ l₀. alloc1 ! (λ l₁. alloc1 ! (λ l₂. alloc1 ! (λ l₃. alloc1 ! (λ l₄. alloc1 ! (λ l₅. alloc1 ! (λ l₆. alloc1 ! (λ l₇. alloc1 ! (λ l₈. alloc1 ! (λ l₉. alloc1 ! (λ l₁₀. alloc1 ! (λ l₁₁. alloc1 ! (λ l₁₂. alloc1 ! (λ l₁₃. alloc1 ! (λ l₁₄. alloc0 ! $ params1 ! $
+      allocates ! _ (λ bs. params1 ! $
       pass1 ! (init ! 26 refl (typed-s 𝓤 H A W (b .ss) (low-s (b .ss)) (o .records))) $ pass1 ! (init ! 24 refl (tt, (tt, (record { fits = o .room₀ .0 }, tt)))) $ pass1 ! (init ! 22 refl (tt, (tt, (record { fits = o .room₁ .0 }, tt)))) $
       pass1 ! (init ! 20 refl (tt, (tt, (record { fits = o .room .0 }, tt)))) $ pass1 ! (init ! 18 refl (tt, (tt, (record { fits = o .room₃ .0 }, tt)))) $ pass1 ! (init ! 16 refl (tt, record { fits = are .0 .1 })) $ pass1 ! (init ! 14 refl (tt, record { fits = are .1 .0 .1 })) $ pass0 ! $
       move ! (31 ∷ []) $ fsplit ! $ move ! (1 ∷ []) $ fsplit ! $ move ! (1 ∷ []) $ fsplit ! $ move ! (1 ∷ []) $ fsplit ! $ move ! (1 ∷ []) $ fsplit ! $ move ! (1 ∷ []) $ fsplit ! $ move ! (1 ∷ []) $ fsplit ! $ move ! (0 ∷ 1 ∷ 2 ∷ 7 ∷ []) $ drop ! $ drop ! $ drop ! $ drop ! $ move ! (34 ∷ []) $
@@ -222,7 +222,7 @@ module _ {M : Type 1} (𝓤 : URA M) (H : Heap 𝓤) (A : Atoms 𝓤) (W : Given
       calls-at ! (fmOf 𝓤 H (W .laws) 𝓣) (Step 𝓤 H A mem run) known (st-to 𝓤 H A mem run W b o (two b ns are)) (and-then ! (var ! 14 refl) (and-then ! (var ! 28 refl) (and-then ! (var ! 10 refl) (and-then ! (var ! 24 refl) (and-then ! (var ! 6 refl) (and-then ! (var ! 2 refl) (no-more !))))))) (λ v.
       use1 W (later (st-gives 𝓤 H A mem run W b o (two b ns are) v)) (st-gets 𝓤 H A mem run W b o (two b ns are) v) $ await ! tt $ pick ! (λ p. learn ! (λ f. split ! $
       peeks ! RA (Is RA) (shows 𝓤 H A RA) (p .0) (v ∷ []) (λ pa. land ! (from ! (stop !)) (init ! 31 refl (typed-a 𝓤 H A W (p .0) v pa)) $
-      returns ! (look ! 31 refl) $ leave ! 3 (full _ ∷ full _ ∷ full _ ∷ full _ ∷ full _ ∷ full _ ∷ full _ ∷ full _ ∷ full _ ∷ full _ ∷ full _ ∷ full _ ∷ full _ ∷ full _ ∷ full _ ∷ []) refl $ by ! (exits 𝓤 H A W mem run (w8 ∷ w32 ∷ []) of-two b ns o are ((two b ns are) .val) ((two b ns are) .is) p v f))))))))))))))))))))
+      returns ! (look ! 31 refl) $ leave ! 3 (full _ ∷ full _ ∷ full _ ∷ full _ ∷ full _ ∷ full _ ∷ full _ ∷ full _ ∷ full _ ∷ full _ ∷ full _ ∷ full _ ∷ full _ ∷ full _ ∷ full _ ∷ []) refl $ by ! (exits 𝓤 H A W mem run (w8 ∷ w32 ∷ []) of-two b ns o are ((two b ns are) .val) ((two b ns are) .is) p v f))))))
 
   pub meets-two : Meets 𝓤 H A (signature (w8 ∷ w32 ∷ [])) (WpFn 𝓤 H (𝓣 .C) (𝓣 .Λ) (made 1 (w8 ∷ w32 ∷ []))) (closing 𝓤 H A (ended (w8 ∷ w32 ∷ [])) (clauses (w8 ∷ w32 ∷ []) of-two 𝓤))
   meets-two = meets 𝓤 H A W mem run (w8 ∷ w32 ∷ []) of-two 𝓣 (made 1 (w8 ∷ w32 ∷ [])) walk-two
@@ -237,7 +237,7 @@ module _ {M : Type 1} (𝓤 : URA M) (H : Heap 𝓤) (A : Atoms 𝓤) (W : Given
   walk-three b ns o are =
       qed W (Tokens 𝓤 b ∷ ‵ (Owned (w8 ∷ w32 ∷ w32 ∷ []) b ns) ∷ []) ∵
       enter ! (𝓣 .C) (𝓣 .Λ) (made 2 (w8 ∷ w32 ∷ w32 ∷ [])) (Passes (w8 ∷ w32 ∷ w32 ∷ []) b ns) _ $
-      alloc1 ! (λ l₀. alloc1 ! (λ l₁. alloc1 ! (λ l₂. alloc1 ! (λ l₃. alloc1 ! (λ l₄. alloc1 ! (λ l₅. alloc1 ! (λ l₆. alloc1 ! (λ l₇. alloc1 ! (λ l₈. alloc1 ! (λ l₉. alloc1 ! (λ l₁₀. alloc1 ! (λ l₁₁. alloc1 ! (λ l₁₂. alloc1 ! (λ l₁₃. alloc1 ! (λ l₁₄. alloc1 ! (λ l₁₅. alloc0 ! $ params1 ! $
+      allocates ! _ (λ bs. params1 ! $
       pass1 ! (init ! 28 refl (typed-s 𝓤 H A W (b .ss) (low-s (b .ss)) (o .records))) $ pass1 ! (init ! 26 refl (tt, (tt, (record { fits = o .room₀ .0 }, tt)))) $ pass1 ! (init ! 24 refl (tt, (tt, (record { fits = o .room₁ .0 }, tt)))) $
       pass1 ! (init ! 22 refl (tt, (tt, (record { fits = o .room .0 }, tt)))) $ pass1 ! (init ! 20 refl (tt, (tt, (record { fits = o .room₃ .0 }, tt)))) $ pass1 ! (init ! 18 refl (tt, record { fits = are .0 .1 })) $ pass1 ! (init ! 16 refl (tt, record { fits = are .1 .0 .1 })) $ pass1 ! (init ! 14 refl (tt, record { fits = are .1 .1 .0 .1 })) $ pass0 ! $
       move ! (33 ∷ []) $ fsplit ! $ move ! (1 ∷ []) $ fsplit ! $ move ! (1 ∷ []) $ fsplit ! $ move ! (1 ∷ []) $ fsplit ! $ move ! (1 ∷ []) $ fsplit ! $ move ! (1 ∷ []) $ fsplit ! $ move ! (1 ∷ []) $ fsplit ! $ move ! (1 ∷ []) $ fsplit ! $ move ! (0 ∷ 1 ∷ 2 ∷ 3 ∷ 8 ∷ []) $ drop ! $ drop ! $ drop ! $ drop ! $ drop ! $ move ! (36 ∷ []) $
@@ -253,7 +253,7 @@ module _ {M : Type 1} (𝓤 : URA M) (H : Heap 𝓤) (A : Atoms 𝓤) (W : Given
       calls-at ! (fmOf 𝓤 H (W .laws) 𝓣) (Step 𝓤 H A mem run) known (st-to 𝓤 H A mem run W b o (three b ns are)) (and-then ! (var ! 14 refl) (and-then ! (var ! 30 refl) (and-then ! (var ! 10 refl) (and-then ! (var ! 26 refl) (and-then ! (var ! 6 refl) (and-then ! (var ! 2 refl) (no-more !))))))) (λ v.
       use1 W (later (st-gives 𝓤 H A mem run W b o (three b ns are) v)) (st-gets 𝓤 H A mem run W b o (three b ns are) v) $ await ! tt $ pick ! (λ p. learn ! (λ f. split ! $
       peeks ! RA (Is RA) (shows 𝓤 H A RA) (p .0) (v ∷ []) (λ pa. land ! (from ! (stop !)) (init ! 33 refl (typed-a 𝓤 H A W (p .0) v pa)) $
-      returns ! (look ! 33 refl) $ leave ! 3 (full _ ∷ full _ ∷ full _ ∷ full _ ∷ full _ ∷ full _ ∷ full _ ∷ full _ ∷ full _ ∷ full _ ∷ full _ ∷ full _ ∷ full _ ∷ full _ ∷ full _ ∷ full _ ∷ []) refl $ by ! (exits 𝓤 H A W mem run (w8 ∷ w32 ∷ w32 ∷ []) of-three b ns o are ((three b ns are) .val) ((three b ns are) .is) p v f)))))))))))))))))))))
+      returns ! (look ! 33 refl) $ leave ! 3 (full _ ∷ full _ ∷ full _ ∷ full _ ∷ full _ ∷ full _ ∷ full _ ∷ full _ ∷ full _ ∷ full _ ∷ full _ ∷ full _ ∷ full _ ∷ full _ ∷ full _ ∷ full _ ∷ []) refl $ by ! (exits 𝓤 H A W mem run (w8 ∷ w32 ∷ w32 ∷ []) of-three b ns o are ((three b ns are) .val) ((three b ns are) .is) p v f))))))
 
   pub meets-three : Meets 𝓤 H A (signature (w8 ∷ w32 ∷ w32 ∷ [])) (WpFn 𝓤 H (𝓣 .C) (𝓣 .Λ) (made 2 (w8 ∷ w32 ∷ w32 ∷ []))) (closing 𝓤 H A (ended (w8 ∷ w32 ∷ w32 ∷ [])) (clauses (w8 ∷ w32 ∷ w32 ∷ []) of-three 𝓤))
   meets-three = meets 𝓤 H A W mem run (w8 ∷ w32 ∷ w32 ∷ []) of-three 𝓣 (made 2 (w8 ∷ w32 ∷ w32 ∷ [])) walk-three

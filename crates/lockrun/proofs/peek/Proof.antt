@@ -17,7 +17,7 @@ use contract.Monad.{Fun, fact}
 use contract.Running.{givenOf, tables, tablesOf}
 use types.Kit.{Given, ‵, raw, some, later, _⊛_, ⋆, _$_, _∵_, !, qed, by, move, drop, use1, use3, split, join, pick, fsplit, fjoin, suffices, frame, await, done}
 use types.Part.{whole, sub, look-in}
-use types.Run.{look, init, stop, fld, from, load, of-opd, and-then, no-more, land, returns, enter, alloc1, alloc0, params1, pass1, pass0}
+use types.Run.{look, init, stop, fld, from, load, of-opd, and-then, no-more, land, returns, enter, params1, pass1, pass0}
 use sound.WpLaws.{FmC, fmOf, WpFn-mono}
 use denote.RattleType.{owns}
 use denote.Laws.{Is, shows}
@@ -40,7 +40,7 @@ use Rattle.model.specs.declared.Sessions.{Sessions}
 use Rattle.lockrun.specs.Turns.{HandsBack}
 use Rattle.lockrun.proofs.Row.{R, RS, low-s, tells-s, makes-s, typed-s}
 use Rattle.lockrun.proofs.Leave.{full, leave}
-use Rattle.lockrun.proofs.Short.{var, sets}
+use Rattle.lockrun.proofs.Short.{allocates, var, sets}
 use Rattle.lockrun.proofs.peek_part as peek-part
 use Rattle.lockrun.proofs.peek_part.Symbol as peek-part-def
 use Rattle.lockrun.proofs.peek_part.Symbol.{name as #lockrun·peek-part}
@@ -127,7 +127,7 @@ module _ {M : Type 1} (𝓤 : URA M) (H : Heap 𝓤) (A : Atoms 𝓤) (W : Given
     walk =
         qed W ((‵ (flft κ₀ q₀) ⊛ (‵ (flft κ₁ q₁) ⊛ (‵ (flft κ₂ q₂) ⊛ ‵ ftrue))) ∷ ‵ (owns (RS ∷ ShrSlice (named 0) κ₀ u32 ∷ ShrSlice (named 1) κ₁ u8 ∷ ShrSlice (named 2) κ₂ R ∷ ShrSlice (named 0) κ₀ u32 ∷ u8 ∷ u32 ∷ []) a at) ∷ []) ∵
         enter ! C Λ code.function (low-s ss ∷ sliceVal (x₀ .ptr) n₀ ∷ sliceVal (x₁ .ptr) n₁ ∷ sliceVal (x .ptr) n ∷ sliceVal (x₃ .ptr) (length (now x₃)) ∷ vint w8 s ∷ vint w32 c ∷ []) _ $
-        alloc1 ! (λ l₀. alloc1 ! (λ l₁. alloc1 ! (λ l₂. alloc1 ! (λ l₃. alloc1 ! (λ l₄. alloc1 ! (λ l₅. alloc1 ! (λ l₆. alloc1 ! (λ l₇. alloc1 ! (λ l₈. alloc1 ! (λ l₉. alloc0 ! $ params1 ! $
+        allocates ! _ (λ bs. params1 ! $
         pass1 ! (init ! 16 refl (typed-s 𝓤 H A W ss (low-s ss) gs)) $ pass1 ! (init ! 14 refl (tt, (tt, (record { fits = room₀ .0 }, tt)))) $ pass1 ! (init ! 12 refl (tt, (tt, (record { fits = room₁ .0 }, tt)))) $
         pass1 ! (init ! 10 refl (tt, (tt, (record { fits = room .0 }, tt)))) $ pass1 ! (init ! 8 refl (tt, (tt, (record { fits = room₃ .0 }, tt)))) $ pass1 ! (init ! 6 refl (tt, record { fits = fs })) $ pass1 ! (init ! 4 refl (tt, record { fits = fc })) $ pass0 ! $
         move ! (21 ∷ []) $ fsplit ! $ move ! (1 ∷ []) $ fsplit ! $ move ! (1 ∷ []) $ fsplit ! $ move ! (1 ∷ []) $ fsplit ! $ move ! (1 ∷ []) $ fsplit ! $ move ! (1 ∷ []) $ fsplit ! $ move ! (1 ∷ []) $ fsplit ! $
@@ -143,7 +143,7 @@ module _ {M : Type 1} (𝓤 : URA M) (H : Heap 𝓤) (A : Atoms 𝓤) (W : Given
         use1 W (later (some (λ (r : RefT (List ℕ)). ((‵ (flft κ₀ q₀) ⊛ ‵ ftrue) ⊛ ‵ (Part r v)) ⊛ raw (ensured 𝓤 H A peek-part.ended (peek-part.clauses 𝓤 H A mem run) (κ₀, tt) (ss, (x₀, (n₁, (n, (x₃, (s, (c, tt))))))) tt r)))) (id⊢ 𝓤 _) $ await ! tt $ pick ! (λ r.
         split ! $ move ! (1 ∷ []) $ use1 W (raw (fact 𝓤 (Says r))) (hears r) $ heard ! (Says r) (λ f. split ! $ move ! (1 ∷ []) $
         peeks ! (ShrSlice (named 0) κ₀ u32) (Is (ShrSlice (named 0) κ₀ u32)) (shows 𝓤 H A (ShrSlice (named 0) κ₀ u32)) r (v ∷ []) (λ p. land ! (from ! (stop !)) (init ! 26 refl (shr-slice-lawful 𝓤 H A W (named 0) κ₀ u32 .typed r (v ∷ []) p .0)) $
-        returns ! (look ! 26 refl) $ leave ! 8 (full _ ∷ full _ ∷ full _ ∷ full _ ∷ full _ ∷ full _ ∷ full _ ∷ full _ ∷ full _ ∷ full _ ∷ []) refl $ by ! (exits r v f)))))))))))))))
+        returns ! (look ! 26 refl) $ leave ! 8 (full _ ∷ full _ ∷ full _ ∷ full _ ∷ full _ ∷ full _ ∷ full _ ∷ full _ ∷ full _ ∷ full _ ∷ []) refl $ by ! (exits r v f))))))
 
 module _ {M : Type 1} (𝓤 : URA M) (H : Heap 𝓤) (A : Atoms 𝓤) (W : Given 𝓤 H A) (mem : Memory → SProp 𝓤) (run : Routine → Fun 𝓤) (𝓣 : Tables 𝓤 H) (known : Triple 𝓤 (𝓣 .C #lockrun·peek-part) (PeekPart 𝓤 H A mem run)) where
   walks : Walks 𝓤 H A peek.ended stayed (WpFn 𝓤 H (𝓣 .C) (𝓣 .Λ) code.function) (peek.clauses 𝓤 H A mem run)
