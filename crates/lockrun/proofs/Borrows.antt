@@ -2,7 +2,7 @@
 --     Borrows      the lifetimes κ, a share of the token of each, the records, and the slices: x₀ values, x₁ classes, x the run, x₃ logs
 --     κsOf, qsOf   the lifetimes and the shares as a signature has them.        argsOf, atOf   the arguments and their values, before the numbers.        borrowed     the way back
 --     Nums, numsAt     the numbers behind, of widths ws, and their values.        Passes   the machine values of all.        Fitting  the numbers fit
---     Kinds, Tokens    what classes own, and the tokens
+--     Classes, Tokens    what classes own, and the tokens
 --     Sound        what the machine values owe: the records are well formed, and each slice has room
 -- Assumes nothing.
 use Prim.Native.Nat.{ℕ}
@@ -80,8 +80,8 @@ pub record Sound (b : Borrows) : Type 0 where
   pub room₃ : Room u32 (length (now (b .x₃)))
 
 -- what classes own, which every call has by `&`, and the tokens
-abbrev pub Kinds : Borrows → Fml
-Kinds b = ShrSlice (named 0) (b .κ₁) u8 .own (b .x₁) (slice-vals (b .x₁))
+abbrev pub Classes : Borrows → Fml
+Classes b = ShrSlice (named 0) (b .κ₁) u8 .own (b .x₁) (slice-vals (b .x₁))
 
 abbrev pub Tokens : {M : Type 1} (𝓤 : URA M) → Borrows → Item 𝓤
 Tokens 𝓤 b = ‵ (flft (b .κ₀) (b .q₀)) ⊛ (‵ (flft (b .κ₁) (b .q₁)) ⊛ (‵ (flft (b .κ₂) (b .q₂)) ⊛ (‵ (flft (b .κ₃) (b .q₃)) ⊛ ‵ ftrue)))

@@ -2,9 +2,9 @@
 -- Their MIR is one function over that function's name and the widths of the numbers. A walk for each count of numbers; what comes before and after a walk is said once.
 --     counted      the MIR: the counts of values, classes and locks, the logs and the numbers of widths ws are passed on to f
 --     Asked        what f is known by: it answers the call that k makes of the numbers.        signature, ended, clauses    the contract
---     goes, gets   what f is passed, and what it gives.       exits    the end of each walk.        meets    a walk, taken to the contract
+--     goes, gets   what f is passed, and what it gives.        Walk     what a walk shows.        exits    the end of each.        meets    a walk, taken to the contract
 --     meets-one, meets-two     by the walk for that many numbers
--- Assumes nothing but for `goes` and `exits`: these take `Given`.
+-- Assumes `Given`.
 use mathlib.Core.Path.{_≡_, refl}
 use Prim.Native.Nat.{ℕ, _+_}
 use mathlib.Core.List.{List, [], _∷_}
@@ -48,7 +48,7 @@ use Rattle.model.proofs.Reply.Laws as A′
 use Rattle.lockrun.specs.Run.{storeOn}
 use Rattle.lockrun.specs.Turns.{Answered}
 use Rattle.lockrun.proofs.Row.{R, RS, low-s, tells-s, makes-s, typed-s, RA, typed-a}
-use Rattle.lockrun.proofs.Borrows.{Borrows, κsOf, qsOf, argsOf, atOf, borrowed, Nums, numsAt, Passes, Fitting, Sound, Kinds, Tokens}
+use Rattle.lockrun.proofs.Borrows.{Borrows, κsOf, qsOf, argsOf, atOf, borrowed, Nums, numsAt, Passes, Fitting, Sound, Classes, Tokens}
 use Rattle.lockrun.proofs.Numbers.{hold, lent, inLocals, copies, numbers, stays, rows, spell, tell, last, fit, go, had, passed}
 use Rattle.lockrun.proofs.Leave.{full, leave}
 use Rattle.lockrun.proofs.Short.{allocates, var, sets}
@@ -128,12 +128,12 @@ module _ (ws : List Width) where
   Walk k 𝓤 H A 𝓣 f = (b : Borrows) (ns : Nums ws b) → Sound b → Fitting ws b ns
       → ent 𝓤 (onEntry 𝓤 H A signature (κsOf b) (qsOf b) (argsOf b ns) (at b ns)) (WpFn 𝓤 H (𝓣 .C) (𝓣 .Λ) f (Passes ws b ns) (Post b ns k 𝓤 H A))
 
--- what the logs own, and all that is lent
+-- what the slices own, beside classes
 abbrev Logs : Borrows → Fml
 Logs b = ShrSlice (named 0) (b .κ₃) u32 .own (b .x₃) (slice-vals (b .x₃))
 
-abbrev Figs : Borrows → Fml
-Figs b = ShrSlice (named 0) (b .κ₀) u32 .own (b .x₀) (slice-vals (b .x₀))
+abbrev Values : Borrows → Fml
+Values b = ShrSlice (named 0) (b .κ₀) u32 .own (b .x₀) (slice-vals (b .x₀))
 
 abbrev Locks : Borrows → Fml
 Locks b = ShrSlice (named 0) (b .κ₂) R .own (b .x) (slice-vals (b .x))
@@ -177,7 +177,7 @@ module _ {M : Type 1} (𝓤 : URA M) (H : Heap 𝓤) (A : Atoms 𝓤) (W : Given
 
     abbrev Ends : Reply → Val → List (Item 𝓤)
     Ends r v =
-        ‵ (RA .own r (v ∷ [])) ∷ (‵ (flft (b .κ₃) (b .q₃)) ⊛ ‵ ftrue) ∷ ‵ (Logs b) ∷ ‵ (flft (b .κ₂) (b .q₂)) ∷ ‵ (flft (b .κ₁) (b .q₁)) ∷ ‵ (flft (b .κ₀) (b .q₀)) ∷ ‵ (Locks b) ∷ ‵ (Kinds b) ∷ ‵ (Figs b) ∷ []
+        ‵ (RA .own r (v ∷ [])) ∷ (‵ (flft (b .κ₃) (b .q₃)) ⊛ ‵ ftrue) ∷ ‵ (Logs b) ∷ ‵ (flft (b .κ₂) (b .q₂)) ∷ ‵ (flft (b .κ₁) (b .q₁)) ∷ ‵ (flft (b .κ₀) (b .q₀)) ∷ ‵ (Locks b) ∷ ‵ (Classes b) ∷ ‵ (Values b) ∷ []
 
     exits : (r : Reply) (v : Val) → Answered (k 4 κs ns) (length (now (b .x₀))) (length (now (b .x₁))) (length (now (b .x))) (now (b .x₃)) (b .ss) r → ent 𝓤 (⋆ 𝓤 H A (Ends r v)) (Post ws b ns k 𝓤 H A v)
     exits r v f =

@@ -1,10 +1,11 @@
 -- The calls that are `step` with the call filled in: `seal`, `advance` and `abandon` take one number more than what they are lent, `read` two and `write` three.
 -- Their MIR is one function over the variant and the widths of the numbers. A walk for each count builds the call, borrows what is lent again and passes it on to `step` at its own lifetimes (`Passed.antt`); what comes before and after a walk is said once.
+-- (The places behind the numbers are literals of the MIR, and a walk goes by them: so there is one for each count.)
 --     made         the MIR: the call of variant j, of numbers of widths ws
 --     signature, ended, clauses    the contract, of the call that k makes of the numbers
---     exits        the end of each walk.        meets    a walk, taken to the contract
+--     Walk         what a walk shows.        exits    the end of each.        meets    a walk, taken to the contract
 --     meets-one, meets-two, meets-three    by the walk for that many numbers
--- Assumes nothing but for `exits`: it takes `Given`.
+-- Assumes `Given`.
 use mathlib.Core.Path.{_≡_, refl}
 use Prim.Native.Nat.{ℕ, _+_, _<_, _^_}
 use mathlib.Core.List.{List, [], _∷_}
@@ -51,7 +52,7 @@ use Rattle.model.proofs.Call.Laws as K′
 use Rattle.model.proofs.Lock.Laws as T′
 use Rattle.lockrun.specs.Run.{storeOn}
 use Rattle.lockrun.proofs.Row.{R, RS, low-s, tells-s, makes-s, typed-s, RA, typed-a, RK, low-k, typed-k, read-is, write-is}
-use Rattle.lockrun.proofs.Borrows.{Borrows, κsOf, qsOf, argsOf, atOf, borrowed, Nums, numsAt, Passes, Fitting, Sound, Kinds, Tokens}
+use Rattle.lockrun.proofs.Borrows.{Borrows, κsOf, qsOf, argsOf, atOf, borrowed, Nums, numsAt, Passes, Fitting, Sound, Classes, Tokens}
 use Rattle.lockrun.proofs.Numbers.{hold, lent, inLocals, copies, numbers, stays, rows, spell, tell, last, fit, go, had}
 use Rattle.lockrun.proofs.Leave.{full, leave}
 use Rattle.lockrun.proofs.Short.{allocates, var, sets, relends}
@@ -138,7 +139,7 @@ module _ {M : Type 1} (𝓤 : URA M) (H : Heap 𝓤) (A : Atoms 𝓤) (W : Given
     κs = κsOf b
 
     abbrev Ends : Left → Val → List (Item 𝓤)
-    Ends p v = ‵ (RA .own (p .0) (v ∷ [])) ∷ (Tokens 𝓤 b ⊛ (‵ (finally u32 (b .x₀ .name) (p .1 .0)) ⊛ (‵ (finally R (b .x .name) (p .1 .1 .0)) ⊛ ‵ (finally u32 (b .x₃ .name) (p .1 .1 .1))))) ∷ ‵ (Kinds b) ∷ []
+    Ends p v = ‵ (RA .own (p .0) (v ∷ [])) ∷ (Tokens 𝓤 b ⊛ (‵ (finally u32 (b .x₀ .name) (p .1 .0)) ⊛ (‵ (finally R (b .x .name) (p .1 .1 .0)) ⊛ ‵ (finally u32 (b .x₃ .name) (p .1 .1 .1))))) ∷ ‵ (Classes b) ∷ []
 
     exits : (p : Left) (v : Val) → Said 𝓤 H A mem run W b o (record { call = k κs ns; val = w; is = is }) p → ent 𝓤 (⋆ 𝓤 H A (Ends p v)) (Post ws b ns k 𝓤 H A v)
     exits p v f =
@@ -185,7 +186,7 @@ module _ {M : Type 1} (𝓤 : URA M) (H : Heap 𝓤) (A : Atoms 𝓤) (W : Given
         relends ! 23 refl refl 11 refl (tt, tt) refl refl 9 refl (tt, (tt, (record { fits = o .room .0 }, tt))) $
         relends ! 21 refl refl 7 refl (tt, tt) refl refl 5 refl (tt, (tt, (record { fits = o .room₃ .0 }, tt))) $
         -- classes is Copy: one copy goes to `step`
-        move ! (3 ∷ []) $ use1 W (‵ (Kinds b) ⊛ ‵ (Kinds b)) (shr-slice-copy 𝓤 H A W (named 0) (b .κ₁) u8 .twice (b .x₁) (slice-vals (b .x₁))) $ split ! $ move ! (5 ∷ 0 ∷ 4 ∷ 3 ∷ 2 ∷ []) $ group ! 5 $
+        move ! (3 ∷ []) $ use1 W (‵ (Classes b) ⊛ ‵ (Classes b)) (shr-slice-copy 𝓤 H A W (named 0) (b .κ₁) u8 .twice (b .x₁) (slice-vals (b .x₁))) $ split ! $ move ! (5 ∷ 0 ∷ 4 ∷ 3 ∷ 2 ∷ []) $ group ! 5 $
         use1 W (raw (Step 𝓤 H A mem run .pre (st-to 𝓤 H A mem run W b o (one b ns are)))) (st-goes 𝓤 H A mem run W b o (one b ns are)) $
         -- [what `step` asks; classes; _13 at 2; …]
         calls-at ! (fmOf 𝓤 H (W .laws) 𝓣) (Step 𝓤 H A mem run) known (st-to 𝓤 H A mem run W b o (one b ns are)) (and-then ! (var ! 14 refl) (and-then ! (var ! 26 refl) (and-then ! (var ! 10 refl) (and-then ! (var ! 22 refl) (and-then ! (var ! 6 refl) (and-then ! (var ! 2 refl) (no-more !))))))) (λ v.
@@ -216,7 +217,7 @@ module _ {M : Type 1} (𝓤 : URA M) (H : Heap 𝓤) (A : Atoms 𝓤) (W : Given
       relends ! 25 refl refl 11 refl (tt, tt) refl refl 9 refl (tt, (tt, (record { fits = o .room .0 }, tt))) $
       relends ! 23 refl refl 7 refl (tt, tt) refl refl 5 refl (tt, (tt, (record { fits = o .room₃ .0 }, tt))) $
       -- classes is Copy: one copy goes to `step`
-      move ! (3 ∷ []) $ use1 W (‵ (Kinds b) ⊛ ‵ (Kinds b)) (shr-slice-copy 𝓤 H A W (named 0) (b .κ₁) u8 .twice (b .x₁) (slice-vals (b .x₁))) $ split ! $ move ! (5 ∷ 0 ∷ 4 ∷ 3 ∷ 2 ∷ []) $ group ! 5 $
+      move ! (3 ∷ []) $ use1 W (‵ (Classes b) ⊛ ‵ (Classes b)) (shr-slice-copy 𝓤 H A W (named 0) (b .κ₁) u8 .twice (b .x₁) (slice-vals (b .x₁))) $ split ! $ move ! (5 ∷ 0 ∷ 4 ∷ 3 ∷ 2 ∷ []) $ group ! 5 $
       use1 W (raw (Step 𝓤 H A mem run .pre (st-to 𝓤 H A mem run W b o (two b ns are)))) (st-goes 𝓤 H A mem run W b o (two b ns are)) $
       -- [what `step` asks; classes; _14 at 2; …]
       calls-at ! (fmOf 𝓤 H (W .laws) 𝓣) (Step 𝓤 H A mem run) known (st-to 𝓤 H A mem run W b o (two b ns are)) (and-then ! (var ! 14 refl) (and-then ! (var ! 28 refl) (and-then ! (var ! 10 refl) (and-then ! (var ! 24 refl) (and-then ! (var ! 6 refl) (and-then ! (var ! 2 refl) (no-more !))))))) (λ v.
@@ -247,7 +248,7 @@ module _ {M : Type 1} (𝓤 : URA M) (H : Heap 𝓤) (A : Atoms 𝓤) (W : Given
       relends ! 27 refl refl 11 refl (tt, tt) refl refl 9 refl (tt, (tt, (record { fits = o .room .0 }, tt))) $
       relends ! 25 refl refl 7 refl (tt, tt) refl refl 5 refl (tt, (tt, (record { fits = o .room₃ .0 }, tt))) $
       -- classes is Copy: one copy goes to `step`
-      move ! (3 ∷ []) $ use1 W (‵ (Kinds b) ⊛ ‵ (Kinds b)) (shr-slice-copy 𝓤 H A W (named 0) (b .κ₁) u8 .twice (b .x₁) (slice-vals (b .x₁))) $ split ! $ move ! (5 ∷ 0 ∷ 4 ∷ 3 ∷ 2 ∷ []) $ group ! 5 $
+      move ! (3 ∷ []) $ use1 W (‵ (Classes b) ⊛ ‵ (Classes b)) (shr-slice-copy 𝓤 H A W (named 0) (b .κ₁) u8 .twice (b .x₁) (slice-vals (b .x₁))) $ split ! $ move ! (5 ∷ 0 ∷ 4 ∷ 3 ∷ 2 ∷ []) $ group ! 5 $
       use1 W (raw (Step 𝓤 H A mem run .pre (st-to 𝓤 H A mem run W b o (three b ns are)))) (st-goes 𝓤 H A mem run W b o (three b ns are)) $
       -- [what `step` asks; classes; _15 at 2; …]
       calls-at ! (fmOf 𝓤 H (W .laws) 𝓣) (Step 𝓤 H A mem run) known (st-to 𝓤 H A mem run W b o (three b ns are)) (and-then ! (var ! 14 refl) (and-then ! (var ! 30 refl) (and-then ! (var ! 10 refl) (and-then ! (var ! 26 refl) (and-then ! (var ! 6 refl) (and-then ! (var ! 2 refl) (no-more !))))))) (λ v.

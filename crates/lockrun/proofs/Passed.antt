@@ -28,7 +28,7 @@ use Rattle.model.specs.declared.Reply.{Reply}
 use Rattle.model.specs.declared.Call.{Call}
 use Rattle.lockrun.specs.Run.{storeOn}
 use Rattle.lockrun.proofs.Row.{R, RS, low-s, makes-s, RA, RK, makes-k}
-use Rattle.lockrun.proofs.Borrows.{Borrows, κsOf, qsOf, Sound, Kinds, Tokens}
+use Rattle.lockrun.proofs.Borrows.{Borrows, κsOf, qsOf, Sound, Classes, Tokens}
 use Rattle.lockrun.proofs.step as step
 
 -- a reply, and the last lists of values, run and logs
@@ -56,9 +56,9 @@ module _ {M : Type 1} (𝓤 : URA M) (H : Heap 𝓤) (A : Atoms 𝓤) (mem : Mem
     abbrev pub st-gives : Val → Item 𝓤
     st-gives v = some (λ (p : Left). given (Said p) (‵ (RA .own (p .0) (v ∷ [])) ⊛ (Tokens 𝓤 b ⊛ (‵ (finally u32 (b .x₀ .name) (p .1 .0)) ⊛ (‵ (finally R (b .x .name) (p .1 .1 .0)) ⊛ ‵ (finally u32 (b .x₃ .name) (p .1 .1 .1)))))))
 
-    pub st-goes : ent 𝓤 (⋆ 𝓤 H A (‵ (MutSlice (named 0) (b .κ₀) u32 .own (b .x₀) (slice-vals (b .x₀))) ∷ ‵ (Kinds b) ∷ ‵ (MutSlice (named 0) (b .κ₂) R .own (b .x) (slice-vals (b .x))) ∷ ‵ (MutSlice (named 0) (b .κ₃) u32 .own (b .x₃) (slice-vals (b .x₃))) ∷ Tokens 𝓤 b ∷ [])) (Step .pre st-to)
+    pub st-goes : ent 𝓤 (⋆ 𝓤 H A (‵ (MutSlice (named 0) (b .κ₀) u32 .own (b .x₀) (slice-vals (b .x₀))) ∷ ‵ (Classes b) ∷ ‵ (MutSlice (named 0) (b .κ₂) R .own (b .x) (slice-vals (b .x))) ∷ ‵ (MutSlice (named 0) (b .κ₃) u32 .own (b .x₃) (slice-vals (b .x₃))) ∷ Tokens 𝓤 b ∷ [])) (Step .pre st-to)
     st-goes =
-        qed W (‵ (MutSlice (named 0) (b .κ₀) u32 .own (b .x₀) (slice-vals (b .x₀))) ∷ ‵ (Kinds b) ∷ ‵ (MutSlice (named 0) (b .κ₂) R .own (b .x) (slice-vals (b .x))) ∷ ‵ (MutSlice (named 0) (b .κ₃) u32 .own (b .x₃) (slice-vals (b .x₃))) ∷ Tokens 𝓤 b ∷ []) ∵
+        qed W (‵ (MutSlice (named 0) (b .κ₀) u32 .own (b .x₀) (slice-vals (b .x₀))) ∷ ‵ (Classes b) ∷ ‵ (MutSlice (named 0) (b .κ₂) R .own (b .x) (slice-vals (b .x))) ∷ ‵ (MutSlice (named 0) (b .κ₃) u32 .own (b .x₃) (slice-vals (b .x₃))) ∷ Tokens 𝓤 b ∷ []) ∵
         nothing ! $ move ! (4 ∷ 0 ∷ []) $ fjoin ! $ move ! (3 ∷ 0 ∷ []) $ fjoin ! $ move ! (2 ∷ 0 ∷ []) $ fjoin ! $ move ! (1 ∷ 0 ∷ []) $ fjoin ! $
         owned ! RS (Is RS) (makes-s 𝓤 H A) (b .ss) (low-s (b .ss) ∷ []) (o .records) $ fjoin ! $ owned ! RK (Is RK) (makes-k 𝓤 H A) (c .call) (c .val ∷ []) (c .is) $ fjoin ! $ move ! (1 ∷ 0 ∷ []) $ join ! $ frame ! $ done !
 

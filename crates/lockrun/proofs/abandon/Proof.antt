@@ -1,4 +1,4 @@
--- `lockrun::abandon` meets its contract: its MIR is `Filled.antt`'s, and the walk for one number, at its own variant passes all that it is lent on to `step`.
+-- `lockrun::abandon` meets its contract: a walk of its MIR, by hand, which `seal` and `advance` share (`Filled.antt`, one number). All that it is lent is passed on to `step`, at its own lifetimes.
 -- Assumes nothing.
 use contract.Running.{givenOf, tables, tablesOf}
 use denote.Triple.Spec.{tripleOf}

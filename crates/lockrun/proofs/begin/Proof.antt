@@ -1,4 +1,4 @@
--- `lockrun::begin` meets its contract: its MIR is `Counted.antt`'s, and the walk for one number passes the counts on to `begin_turn`, which is covered.
+-- `lockrun::begin` meets its contract: a walk of its MIR, by hand (`Counted.antt`, one number). Of the run only the count is read; `begin_turn`, which is covered, does the rest.
 -- Assumes nothing.
 use contract.Running.{givenOf, tables, tablesOf}
 use denote.Triple.Spec.{tripleOf}

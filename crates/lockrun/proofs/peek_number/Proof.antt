@@ -1,4 +1,4 @@
--- `lockrun::peek_number` meets its contract: its MIR is `Counted.antt`'s, and the walk for two numbers passes the counts on to `peek_turn`, which is covered.
+-- `lockrun::peek_number` meets its contract: a walk of its MIR, by hand (`Counted.antt`, two numbers). Of the run only the count is read; `peek_turn`, which is covered, answers.
 -- Assumes nothing.
 use contract.Running.{givenOf, tables, tablesOf}
 use denote.Triple.Spec.{tripleOf}

@@ -1,4 +1,4 @@
--- `lockrun::read` meets its contract: its MIR is `Filled.antt`'s, and the walk for two numbers passes all that it is lent on to `step`.
+-- `lockrun::read` meets its contract: a walk of its MIR, by hand (`Filled.antt`, two numbers). All that it is lent is passed on to `step`, at its own lifetimes.
 -- Assumes nothing.
 use contract.Running.{givenOf, tables, tablesOf}
 use denote.Triple.Spec.{tripleOf}

@@ -1,4 +1,4 @@
--- `lockrun::seal` meets its contract: its MIR is `Filled.antt`'s, and the walk for one number, at its own variant passes all that it is lent on to `step`.
+-- `lockrun::seal` meets its contract: a walk of its MIR, by hand, which `advance` and `abandon` share (`Filled.antt`, one number). All that it is lent is passed on to `step`, at its own lifetimes.
 -- Assumes nothing.
 use contract.Running.{givenOf, tables, tablesOf}
 use denote.Triple.Spec.{tripleOf}

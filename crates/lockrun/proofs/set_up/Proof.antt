@@ -94,11 +94,11 @@ module _ {M : Type 1} (𝓤 : URA M) (H : Heap 𝓤) (A : Atoms 𝓤) (W : Given
   Post = walkOf 𝓤 H A set-up.ended stayed (set-up.clauses 𝓤 H A mem run) .post (((κ₀, (κ₁, (κ₂, (κ₃, tt)))), (q₀, (q₁, (q₂, (q₃, tt)))), tt, a, at), tt)
 
   -- what each slice owns
-  abbrev Figs : Fml
-  Figs = ShrSlice (named 0) κ₀ u32 .own x₀ (slice-vals x₀)
+  abbrev Values : Fml
+  Values = ShrSlice (named 0) κ₀ u32 .own x₀ (slice-vals x₀)
 
-  abbrev Kinds : Fml
-  Kinds = ShrSlice (named 0) κ₁ u8 .own x₁ (slice-vals x₁)
+  abbrev Classes : Fml
+  Classes = ShrSlice (named 0) κ₁ u8 .own x₁ (slice-vals x₁)
 
   abbrev Locks : List Lock → Fml
   Locks zs = MutSlice (named 0) κ₂ R .own (ref-at b o γ zs) (s ∷ [])
@@ -117,7 +117,7 @@ module _ {M : Type 1} (𝓤 : URA M) (H : Heap 𝓤) (A : Atoms 𝓤) (W : Given
   gives v ws = some (λ (t : Turn). given (Says ws t) (‵ (RU .own t (v ∷ [])) ⊛ (‵ (flft κ₀ q₀) ⊛ ‵ (flft κ₁ q₁))))
 
   abbrev Asks : Item 𝓤
-  Asks = ‵ Figs ⊛ (‵ Kinds ⊛ (‵ (flft κ₀ q₀) ⊛ ‵ (flft κ₁ q₁)))
+  Asks = ‵ Values ⊛ (‵ Classes ⊛ (‵ (flft κ₀ q₀) ⊛ ‵ (flft κ₁ q₁)))
 
   goes : (ν : ℕ) (δ : GName) → ent 𝓤 (⋆ 𝓤 H A (‵ (flft (ν ∷ []) fullShare) ∷ ‵ (MutSlice (named 0) (ν ∷ []) u32 .own (ref-at b₃ o₃ δ logs) (s₃ ∷ [])) ∷ Asks ∷ [])) (SetUpTurn 𝓤 H A mem run .pre (to ν δ))
   goes ν δ =
@@ -140,9 +140,9 @@ module _ {M : Type 1} (𝓤 : URA M) (H : Heap 𝓤) (A : Atoms 𝓤) (W : Given
 
   -- ---- the end
   exits : (t : Turn) (v : Val) → Is RU t (v ∷ []) → (zs : List Lock) (ws : List ℕ) → Says ws t → length zs ≡ n → zs ≡ sweptBy ws (t .change) ys → length ws ≡ k
-      → ent 𝓤 (⋆ 𝓤 H A (‵ (Locks zs) ∷ ‵ (flft κ₂ q₂) ∷ ‵ (Logs ws) ∷ ‵ (flft κ₃ q₃) ∷ ‵ (flft κ₀ q₀) ∷ ‵ (flft κ₁ q₁) ∷ ‵ Kinds ∷ ‵ Figs ∷ [])) (Post (low-a (t .reply)))
+      → ent 𝓤 (⋆ 𝓤 H A (‵ (Locks zs) ∷ ‵ (flft κ₂ q₂) ∷ ‵ (Logs ws) ∷ ‵ (flft κ₃ q₃) ∷ ‵ (flft κ₀ q₀) ∷ ‵ (flft κ₁ q₁) ∷ ‵ Classes ∷ ‵ Values ∷ [])) (Post (low-a (t .reply)))
   exits t v p zs ws f len put len₃ =
-      qed W (‵ (Locks zs) ∷ ‵ (flft κ₂ q₂) ∷ ‵ (Logs ws) ∷ ‵ (flft κ₃ q₃) ∷ ‵ (flft κ₀ q₀) ∷ ‵ (flft κ₁ q₁) ∷ ‵ Kinds ∷ ‵ Figs ∷ []) ∵
+      qed W (‵ (Locks zs) ∷ ‵ (flft κ₂ q₂) ∷ ‵ (Logs ws) ∷ ‵ (flft κ₃ q₃) ∷ ‵ (flft κ₀ q₀) ∷ ‵ (flft κ₁ q₁) ∷ ‵ Classes ∷ ‵ Values ∷ []) ∵
       suffices ! _ (ends-at 𝓤 H A set-up.ended stayed (set-up.clauses 𝓤 H A mem run) W (((κ₀, (κ₁, (κ₂, (κ₃, tt)))), (q₀, (q₁, (q₂, (q₃, tt)))), tt, a, at), tt) (low-a (t .reply)) (t .reply) (tt, (tt, (tt, (zs, (ws, tt))))) (tt, (tt, (tt, (len, (len₃, tt)))))) $
       says ! (ap (λ (us : List Lock). outcome (t .reply .answer) (storeOn (now x₀) (now x₁) us ws (t .reply .sessions))) put ∙ f .1 ys refl) $
       nothing ! $ move ! (4 ∷ 0 ∷ []) $ join ! $ move ! (2 ∷ 0 ∷ []) $ join ! $ move ! (4 ∷ 0 ∷ []) $ join ! $ move ! (3 ∷ 0 ∷ []) $ join ! $ frame ! $
@@ -164,8 +164,8 @@ module _ {M : Type 1} (𝓤 : URA M) (H : Heap 𝓤) (A : Atoms 𝓤) (W : Given
         sets ! (of-opd ! (load ! (from ! (fld ! refl (stop !))) (look-in ! 31 (sub ! 1 refl (whole !))))) 25 refl (tt, record { fits = room .0 }) $
         relends ! 29 refl refl 23 refl (tt, tt) refl refl 21 refl (tt, (tt, (record { fits = room₃ .0 }, tt))) $
         -- values and classes are Copy: one copy of each goes to `set_up_turn`
-        move ! (9 ∷ []) $ use1 W (‵ Figs ⊛ ‵ Figs) (shr-slice-copy 𝓤 H A W (named 0) κ₀ u32 .twice x₀ (slice-vals x₀)) $ split ! $
-        move ! (10 ∷ []) $ use1 W (‵ Kinds ⊛ ‵ Kinds) (shr-slice-copy 𝓤 H A W (named 0) κ₁ u8 .twice x₁ (slice-vals x₁)) $ split ! $
+        move ! (9 ∷ []) $ use1 W (‵ Values ⊛ ‵ Values) (shr-slice-copy 𝓤 H A W (named 0) κ₀ u32 .twice x₀ (slice-vals x₀)) $ split ! $
+        move ! (10 ∷ []) $ use1 W (‵ Classes ⊛ ‵ Classes) (shr-slice-copy 𝓤 H A W (named 0) κ₁ u8 .twice x₁ (slice-vals x₁)) $ split ! $
         move ! (2 ∷ 0 ∷ 8 ∷ 7 ∷ []) $ group ! 4 $ move ! (6 ∷ 3 ∷ 0 ∷ []) $
         -- [logs; its token; what else `set_up_turn` asks; classes; values; true; locks' token; true; locks; sessions; _14 at 10; …]
         lent ! fm (SetUpTurn 𝓤 H A mem run) known-turn u32 κ₃ q₃ b₃ o₃ k γ₃ logs refl room₃ gives to goes gets

@@ -114,11 +114,11 @@ module _ {M : Type 1} (𝓤 : URA M) (H : Heap 𝓤) (A : Atoms 𝓤) (W : Given
   Post = walkOf 𝓤 H A step.ended stayed (step.clauses 𝓤 H A mem run) .post (((κ₀, (κ₁, (κ₂, (κ₃, tt)))), (q₀, (q₁, (q₂, (q₃, tt)))), tt, a, at), tt)
 
   -- what each slice owns
-  abbrev Figs : Fml
-  Figs = MutSlice (named 0) κ₀ u32 .own x₀ (slice-vals x₀)
+  abbrev Values : Fml
+  Values = MutSlice (named 0) κ₀ u32 .own x₀ (slice-vals x₀)
 
-  abbrev Kinds : Fml
-  Kinds = ShrSlice (named 0) κ₁ u8 .own x₁ (slice-vals x₁)
+  abbrev Classes : Fml
+  Classes = ShrSlice (named 0) κ₁ u8 .own x₁ (slice-vals x₁)
 
   abbrev Locks : List Lock → Fml
   Locks zs = MutSlice (named 0) κ₂ R .own (ref-at b o γ zs) (s ∷ [])
@@ -167,7 +167,7 @@ module _ {M : Type 1} (𝓤 : URA M) (H : Heap 𝓤) (A : Atoms 𝓤) (W : Given
     gives u ws = some (λ (p : Turn × List ℕ). given (Says (p .1) ws (p .0) × (length (p .1) ≡ n₀)) (‵ (RU .own (p .0) (u ∷ [])) ⊛ (‵ (finally u32 (x₀ .name) (p .1)) ⊛ (‵ (flft κ₀ q₀) ⊛ ‵ (flft κ₁ q₁)))))
 
     abbrev Asks : Item 𝓤
-    Asks = ‵ Figs ⊛ (‵ Kinds ⊛ (‵ (flft κ₀ q₀) ⊛ ‵ (flft κ₁ q₁)))
+    Asks = ‵ Values ⊛ (‵ Classes ⊛ (‵ (flft κ₀ q₀) ⊛ ‵ (flft κ₁ q₁)))
 
     goes : (ν : ℕ) (δ : GName) → ent 𝓤 (⋆ 𝓤 H A (‵ (flft (ν ∷ []) fullShare) ∷ ‵ (MutSlice (named 0) (ν ∷ []) u32 .own (ref-at b₃ o₃ δ logs) (s₃ ∷ [])) ∷ Asks ∷ [])) (TakeTurn 𝓤 H A mem run .pre (to ν δ))
     goes ν δ =
@@ -192,9 +192,9 @@ module _ {M : Type 1} (𝓤 : URA M) (H : Heap 𝓤) (A : Atoms 𝓤) (W : Given
   -- ---- the end
   exits : (g : Look) (r : Lock) → r ≡ lockIn ys (g .cell) → (t : Turn) (v : Val) → Is RU t (v ∷ []) → (vs : List ℕ) (zs : List Lock) (ws : List ℕ) → Turned call (now x₀) (now x₁) n (g .cell) r logs ss vs ws t
       → length vs ≡ n₀ → length zs ≡ n → zs ≡ sweptBy ws (t .change) ys → length ws ≡ k
-      → ent 𝓤 (⋆ 𝓤 H A (‵ (Locks zs) ∷ ‵ (flft κ₂ q₂) ∷ ‵ (Logs ws) ∷ ‵ (flft κ₃ q₃) ∷ ‵ (flft κ₀ q₀) ∷ ‵ (flft κ₁ q₁) ∷ ‵ (finally u32 (x₀ .name) vs) ∷ ‵ Kinds ∷ [])) (Post (low-a (t .reply)))
+      → ent 𝓤 (⋆ 𝓤 H A (‵ (Locks zs) ∷ ‵ (flft κ₂ q₂) ∷ ‵ (Logs ws) ∷ ‵ (flft κ₃ q₃) ∷ ‵ (flft κ₀ q₀) ∷ ‵ (flft κ₁ q₁) ∷ ‵ (finally u32 (x₀ .name) vs) ∷ ‵ Classes ∷ [])) (Post (low-a (t .reply)))
   exits g r r-is t v p vs zs ws f len₀ len put len₃ =
-      qed W (‵ (Locks zs) ∷ ‵ (flft κ₂ q₂) ∷ ‵ (Logs ws) ∷ ‵ (flft κ₃ q₃) ∷ ‵ (flft κ₀ q₀) ∷ ‵ (flft κ₁ q₁) ∷ ‵ (finally u32 (x₀ .name) vs) ∷ ‵ Kinds ∷ []) ∵
+      qed W (‵ (Locks zs) ∷ ‵ (flft κ₂ q₂) ∷ ‵ (Logs ws) ∷ ‵ (flft κ₃ q₃) ∷ ‵ (flft κ₀ q₀) ∷ ‵ (flft κ₁ q₁) ∷ ‵ (finally u32 (x₀ .name) vs) ∷ ‵ Classes ∷ []) ∵
       suffices ! _ (ends-at 𝓤 H A step.ended stayed (step.clauses 𝓤 H A mem run) W (((κ₀, (κ₁, (κ₂, (κ₃, tt)))), (q₀, (q₁, (q₂, (q₃, tt)))), tt, a, at), tt) (low-a (t .reply)) (t .reply) (tt, (tt, (vs, (tt, (zs, (ws, tt)))))) (tt, (tt, (len₀, (tt, (len, (len₃, tt))))))) $
       says ! (ap (λ (us : List Lock). outcome (t .reply .answer) (storeOn vs (now x₁) us ws (t .reply .sessions))) put ∙ f .1 ys refl (sym r-is)) $
       nothing ! $ move ! (4 ∷ 0 ∷ []) $ join ! $ move ! (2 ∷ 0 ∷ []) $ join ! $ move ! (4 ∷ 0 ∷ []) $ join ! $ move ! (3 ∷ 0 ∷ []) $ join ! $ frame ! $
@@ -236,7 +236,7 @@ module _ {M : Type 1} (𝓤 : URA M) (H : Heap 𝓤) (A : Atoms 𝓤) (W : Given
         assigns ! (of-opd ! (load ! (from ! (fld ! refl (stop !))) (look-in ! 48 (sub ! 1 refl (whole !))))) (from ! (stop !)) (store ! 38 refl (tt, record { fits = room .0 })) $
         relends ! 46 refl refl 20 refl (tt, tt) refl refl 18 refl (tt, (tt, (record { fits = room₃ .0 }, tt))) $
         -- classes is Copy: one copy goes to `take_turn`
-        move ! (6 ∷ []) $ use1 W (‵ Kinds ⊛ ‵ Kinds) (shr-slice-copy 𝓤 H A W (named 0) κ₁ u8 .twice x₁ (slice-vals x₁)) $ split ! $
+        move ! (6 ∷ []) $ use1 W (‵ Classes ⊛ ‵ Classes) (shr-slice-copy 𝓤 H A W (named 0) κ₁ u8 .twice x₁ (slice-vals x₁)) $ split ! $
         move ! (8 ∷ 0 ∷ 7 ∷ 6 ∷ []) $ group ! 4 $ move ! (4 ∷ 5 ∷ 0 ∷ []) $
         -- [logs; its token; what else `take_turn` asks; classes; locks; its token; _25 at 6; …]
         lent ! fm (TakeTurn 𝓤 H A mem run) known-turn u32 κ₃ q₃ b₃ o₃ k γ₃ logs refl room₃ (gives g w pg g-is r v pr) (to g w pg g-is r v pr) (goes g w pg g-is r v pr) (gets g w pg g-is r v pr)

@@ -1,4 +1,4 @@
--- `lockrun::write` meets its contract: its MIR is `Filled.antt`'s, and the walk for three numbers passes all that it is lent on to `step`.
+-- `lockrun::write` meets its contract: a walk of its MIR, by hand (`Filled.antt`, three numbers). All that it is lent is passed on to `step`, at its own lifetimes.
 -- Assumes nothing.
 use contract.Running.{givenOf, tables, tablesOf}
 use denote.Triple.Spec.{tripleOf}
