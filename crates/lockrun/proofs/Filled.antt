@@ -61,7 +61,7 @@ use Rattle.lockrun.proofs.step.Symbol.{name as #lockrun·step}
 
 -- ---- the MIR
 
--- a pointer's type, and a run of locks' in it
+-- the type of a pointer to words, and of one to locks
 abbrev at-32 : Lifetime → Ty
 at-32 ℓ = tyRef ℓ mut (tyInt w32)
 
