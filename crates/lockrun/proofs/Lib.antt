@@ -1,10 +1,14 @@
 pub mod Again
 pub mod Lent
 pub mod Row
+pub mod Numbers
+pub mod Borrows
 pub mod Leave
 pub mod Short
 pub mod Calls
 pub mod Passed
+pub mod Filled
+pub mod Counted
 pub mod Changes
 pub mod Ways
 pub mod AdvanceWays

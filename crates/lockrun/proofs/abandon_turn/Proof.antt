@@ -10,41 +10,11 @@ use Rattle.lockrun.proofs.abandon_turn.Tie as tie
 sizes : (c : tie.Else2) → let a = c .before .before .before .before .before .before .args in AllSized (a .values .now) (a .classes .now) (a .logs .now) (a .t1) (a .locks) (a .session)
 sizes c = let a = c .before .before .before .before .before .before .args in all-sized (a .values .now) (a .classes .now) (a .logs .now) (a .t1) (a .locks) _ (c .before .before .lengths-fit .ensures) (a .session) (not-false _ (c .before .if1 .left)) (c .if2 .left)
 
-lengths-fit-requires : tie.Need-lengths-fit-requires
-lengths-fit-requires c κs = search needs
-
-kept-requires : tie.Need-kept-requires
-kept-requires c κs = search needs
-
 returns : tie.Need-returns
 returns c = let a = c .before .before .before .before .before .before .args in turned-7 (a .values .now) (a .classes .now) (a .logs .now) (a .t1) (a .locks) _ (c .before .before .lengths-fit .ensures) _ _ _ _ (not-true _ (c .before .if1 .taken)) (c .kept .ensures)
 
-kept-requires-2 : tie.Need-kept-requires-2
-kept-requires-2 c κs = search needs
-
 returns-2 : tie.Need-returns-2
 returns-2 c = let a = c .before .before .before .before .before .before .before .args in turned-1 (a .values .now) (a .classes .now) (a .logs .now) (a .t1) (a .locks) _ (c .before .before .before .lengths-fit .ensures) _ _ _ _ (not-false _ (c .before .before .if1 .left)) (c .before .if2 .taken) (c .kept2 .ensures)
-
-mul-a : tie.Need-mul-a
-mul-a c = search needs
-
-add-e : tie.Need-add-e
-add-e c = search needs
-
-mul-x : tie.Need-mul-x
-mul-x c = search needs
-
-element-copy-out-x : tie.Need-element-copy-out-x
-element-copy-out-x c = search needs
-
-mul-tests : tie.Need-mul-tests
-mul-tests c = search needs
-
-sub-tests : tie.Need-sub-tests
-sub-tests c = search needs
-
-part-tests-start : tie.Need-part-tests-start
-part-tests-start c = search needs
 
 part-tests-end : tie.Need-part-tests-end
 part-tests-end c = let a = c .before .before .before .before .before .before .before .args in plain-part (length (a .values .now)) (length (a .classes .now)) (a .locks) (a .logs .now) (a .t1) _ (c .before .before .before .lengths-fit .ensures) (a .session) (not-false _ (c .before .before .if1 .left)) (c .before .if2 .left)
@@ -52,20 +22,8 @@ part-tests-end c = let a = c .before .before .before .before .before .before .be
 tests-requires : tie.Need-tests-requires
 tests-requires c κs = let a = c .before .before .before .before .before .before .before .before .args in plain-decides (length (a .values .now)) (length (a .classes .now)) (a .locks) (a .logs .now) (a .t1) _ (c .before .before .before .before .lengths-fit .ensures) (a .session) (not-false _ (c .before .before .before .if1 .left)) (c .before .before .if2 .left)
 
-kept-requires-3 : tie.Need-kept-requires-3
-kept-requires-3 c κs = search needs
-
 returns-3 : tie.Need-returns-3
 returns-3 c = let a = c .before .before .before .before .before .before .before .before .before .before .before .args in abandon-turned (a .values .now) (a .classes .now) (a .logs .now) (a .t1) (a .locks) (a .session) (sizes (c .before .before .before .before .before)) _ _ (c .before .before .tests .ensures) (c .before .if3 .taken) _ (c .kept3 .ensures)
-
-rested-requires : tie.Need-rested-requires
-rested-requires c κs = search needs
-
-mul-t20 : tie.Need-mul-t20
-mul-t20 c = search needs
-
-element-set-from-sessions : tie.Need-element-set-from-sessions
-element-set-from-sessions c = search needs
 
 returns-4 : tie.Need-returns-4
 returns-4 c = let a = c .before .before .before .before .before .before .before .before .before .before .before .args in abandons (a .values .now) (a .classes .now) (a .logs .now) (a .t1) (a .locks) (a .session) (sizes (c .before .before .before .before .before)) _ _ (c .before .before .tests .ensures) (c .before .if3 .left) _ (c .rested .ensures)
@@ -74,23 +32,6 @@ pub abandon-turn-spec : {M : Type 1} → statement M
 abandon-turn-spec =
     tie.close
     (tie.spec
-    lengths-fit-requires
-    kept-requires
-    returns
-    kept-requires-2
-    returns-2
-    mul-a
-    add-e
-    mul-x
-    element-copy-out-x
-    mul-tests
-    sub-tests
-    part-tests-start
-    part-tests-end
-    tests-requires
-    kept-requires-3
-    returns-3
-    rested-requires
-    mul-t20
-    element-set-from-sessions
-    returns-4)
+    (λ c κs. search needs) (λ c κs. search needs) returns (λ c κs. search needs) returns-2 (λ c. search needs) (λ c. search needs) (λ c. search needs)
+    (λ c. search needs) (λ c. search needs) (λ c. search needs) (λ c. search needs) part-tests-end tests-requires (λ c κs. search needs) returns-3
+    (λ c κs. search needs) (λ c. search needs) (λ c. search needs) returns-4)

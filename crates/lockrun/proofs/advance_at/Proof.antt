@@ -4,26 +4,8 @@ use borrow.Author.Needs.{needs}
 use Rattle.lockrun.proofs.advance_at.Statement.{statement}
 use Rattle.lockrun.proofs.advance_at.Tie as tie
 
-mul-a : tie.Need-mul-a
-mul-a c = search needs
-
-add-e : tie.Need-add-e
-add-e c = search needs
-
-mul-x : tie.Need-mul-x
-mul-x c = search needs
-
 element-copy-out-x : tie.Need-element-copy-out-x
 element-copy-out-x c = let a = c .before .before .before .args in can-advance (a .values .now) (a .classes .now) (a .logs .now) (a .t1) (a .locks) (a .session) (a .k) (c .before .before .before .pre) .0
-
-mul-log : tie.Need-mul-log
-mul-log c = search needs
-
-sub-log : tie.Need-sub-log
-sub-log c = search needs
-
-part-log-start : tie.Need-part-log-start
-part-log-start c = search needs
 
 part-log-end : tie.Need-part-log-end
 part-log-end c = let a = c .before .before .before .before .args in part-ends (a .values .now) (a .classes .now) (a .logs .now) (a .t1) (a .locks) (a .session) (a .k) (c .before .before .before .before .pre)
@@ -34,20 +16,8 @@ cell-at-requires c κs = let a = c .before .before .before .before .before .args
 advance-requires : tie.Need-advance-requires
 advance-requires c κs = let a = c .before .before .before .before .before .before .args in can-advance (a .values .now) (a .classes .now) (a .logs .now) (a .t1) (a .locks) (a .session) (a .k) (c .before .before .before .before .before .before .pre)
 
-enum-told : tie.Need-enum-told
-enum-told c = search needs
-
 returns : tie.Need-returns
 returns c = let a = c .before .before .before .before .before .before .before .before .before .args in advance-waits (a .values .now) (a .classes .now) (a .logs .now) (a .t1) (a .locks) (a .session) (a .k) (c .before .before .before .before .before .before .before .before .before .pre) _ (c .before .before .before .cell-at .ensures) _ _ (c .before .before .advance .ensures) (c .enum-told .given .1)
-
-enum-told-2 : tie.Need-enum-told-2
-enum-told-2 c = search needs
-
-rested-requires : tie.Need-rested-requires
-rested-requires c κs = search needs
-
-mul-t36 : tie.Need-mul-t36
-mul-t36 c = search needs
 
 element-set-from-sessions : tie.Need-element-set-from-sessions
 element-set-from-sessions c = let a = c .before .before .before .before .before .before .before .before .before .before .before .args in can-advance (a .values .now) (a .classes .now) (a .logs .now) (a .t1) (a .locks) (a .session) (a .k) (c .before .before .before .before .before .before .before .before .before .before .before .pre) .0
@@ -58,32 +28,14 @@ returns-2 c = let a = c .before .before .before .before .before .before .before 
 handle-requires : tie.Need-handle-requires
 handle-requires c κs = let a = c .before .before .before .before .before .before .before .before .before .args in handles (a .values .now) (a .classes .now) (a .logs .now) (a .t1) (a .locks) (a .session) (a .k) (c .before .before .before .before .before .before .before .before .before .pre) _ (c .before .before .before .cell-at .ensures)
 
-mul-y : tie.Need-mul-y
-mul-y c = search needs
-
 element-set-from-y : tie.Need-element-set-from-y
 element-set-from-y c = let a = c .before .before .before .before .before .before .before .before .before .before .before .args in can-advance (a .values .now) (a .classes .now) (a .logs .now) (a .t1) (a .locks) (a .session) (a .k) (c .before .before .before .before .before .before .before .before .before .before .before .pre) .0
-
-enum-told-3 : tie.Need-enum-told-3
-enum-told-3 c = search needs
 
 returns-3 : tie.Need-returns-3
 returns-3 c = let a = c .before .before .before .before .before .before .before .before .before .before .before .before .before .args in advance-owns (a .values .now) (a .classes .now) (a .logs .now) (a .t1) (a .locks) (a .session) (a .k) (c .before .before .before .before .before .before .before .before .before .before .before .before .before .pre) _ (c .before .before .before .before .before .before .before .cell-at .ensures) _ _ (c .before .before .before .before .before .before .advance .ensures) _ (c .before .before .before .handle .ensures) (c .enum-told3 .given .1)
 
-enum-known-p : tie.Need-enum-known-p
-enum-known-p c = search needs
-
-cast-values : tie.Need-cast-values
-cast-values c = search needs
-
-mul-values : tie.Need-mul-values
-mul-values c = search needs
-
 slice-write-values : tie.Need-slice-write-values
 slice-write-values c = let a = c .before .before .before .before .before .before .before .before .before .before .before .before .before .before .before .args in in-values (a .values .now) (a .classes .now) (a .logs .now) (a .t1) (a .locks) (a .session) (a .k) (c .before .before .before .before .before .before .before .before .before .before .before .before .before .before .before .pre) _ (c .before .before .before .before .before .before .before .before .before .cell-at .ensures)
-
-same-length : tie.Need-same-length
-same-length c = search needs
 
 returns-4 : tie.Need-returns-4
 returns-4 c = let a = c .before .before .before .before .before .before .before .before .before .before .before .before .before .before .before .args in advance-publishes (a .values .now) (a .classes .now) (a .logs .now) (a .t1) (a .locks) (a .session) (a .k) (c .before .before .before .before .before .before .before .before .before .before .before .before .before .before .before .pre) _ (c .before .before .before .before .before .before .before .before .before .cell-at .ensures) _ _ (c .before .before .before .before .before .before .before .before .advance .ensures) _ (c .before .before .before .before .before .handle .ensures) (c .before .p .given .1)
@@ -95,32 +47,7 @@ pub advance-at-spec : {M : Type 1} → statement M
 advance-at-spec =
     tie.close
     (tie.spec
-    mul-a
-    add-e
-    mul-x
-    element-copy-out-x
-    mul-log
-    sub-log
-    part-log-start
-    part-log-end
-    cell-at-requires
-    advance-requires
-    enum-told
-    returns
-    enum-told-2
-    rested-requires
-    mul-t36
-    element-set-from-sessions
-    returns-2
-    handle-requires
-    mul-y
-    element-set-from-y
-    enum-told-3
-    returns-3
-    enum-known-p
-    cast-values
-    mul-values
-    slice-write-values
-    same-length
-    returns-4
-    returns-5)
+    (λ c. search needs) (λ c. search needs) (λ c. search needs) element-copy-out-x (λ c. search needs) (λ c. search needs) (λ c. search needs)
+    part-log-end cell-at-requires advance-requires (λ c. search needs) returns (λ c. search needs) (λ c κs. search needs) (λ c. search needs)
+    element-set-from-sessions returns-2 handle-requires (λ c. search needs) element-set-from-y (λ c. search needs) returns-3 (λ c. search needs)
+    (λ c. search needs) (λ c. search needs) slice-write-values (λ c. search needs) returns-4 returns-5)

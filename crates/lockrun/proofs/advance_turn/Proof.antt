@@ -6,23 +6,11 @@ use borrow.Author.Needs.{needs}
 use Rattle.lockrun.proofs.advance_turn.Statement.{statement}
 use Rattle.lockrun.proofs.advance_turn.Tie as tie
 
-enum-known-entry : tie.Need-enum-known-entry
-enum-known-entry c = search needs
-
-kept-requires : tie.Need-kept-requires
-kept-requires c κs = search needs
-
-enum-known-entry-2 : tie.Need-enum-known-entry-2
-enum-known-entry-2 c = search needs
-
 advance-at-requires : tie.Need-advance-at-requires
 advance-at-requires c κs = sym (c .before .before .entry2 .given .1) ∙ c .before .before .before .before .before .before .before .pre
 
 returns : tie.Need-returns
 returns c = let a = c .before .before .before .before .before .before .before .args in advance-turned (a .values .now) (a .classes .now) (a .logs .now) (a .sessions) (a .locks) (a .session) _ _ _ (sym (c .before .before .entry .given .1) ∙ c .before .before .before .before .before .before .before .pre) _ (c .kept .ensures)
-
-same-length : tie.Need-same-length
-same-length c = search needs
 
 returns-2 : tie.Need-returns-2
 unfolding cellDue
@@ -32,10 +20,4 @@ pub advance-turn-spec : {M : Type 1} → statement M
 advance-turn-spec =
     tie.close
     (tie.spec
-    enum-known-entry
-    kept-requires
-    enum-known-entry-2
-    advance-at-requires
-    returns
-    same-length
-    returns-2)
+    (λ c. search needs) (λ c κs. search needs) (λ c. search needs) advance-at-requires returns (λ c. search needs) returns-2)

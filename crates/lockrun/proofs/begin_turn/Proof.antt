@@ -5,35 +5,11 @@ use borrow.Author.Needs.{needs}
 use Rattle.lockrun.proofs.begin_turn.Statement.{statement}
 use Rattle.lockrun.proofs.begin_turn.Tie as tie
 
-lengths-fit-requires : tie.Need-lengths-fit-requires
-lengths-fit-requires c κs = search needs
-
 returns : tie.Need-returns
 returns c = let a = c .before .before .before .args in answered-7 (a .n) (a .classes) (a .locks) (a .logs .now) (a .t1) _ (c .before .lengths-fit .ensures) _ (not-true _ (c .if1 .taken))
 
 returns-2 : tie.Need-returns-2
 returns-2 c = let a = c .before .before .before .before .args in answered-1 (a .n) (a .classes) (a .locks) (a .logs .now) (a .t1) _ (c .before .before .lengths-fit .ensures) _ (not-false _ (c .before .if1 .left)) (c .if2 .taken)
-
-mul-a : tie.Need-mul-a
-mul-a c = search needs
-
-add-e : tie.Need-add-e
-add-e c = search needs
-
-mul-x : tie.Need-mul-x
-mul-x c = search needs
-
-element-copy-out-x : tie.Need-element-copy-out-x
-element-copy-out-x c = search needs
-
-mul-tests : tie.Need-mul-tests
-mul-tests c = search needs
-
-sub-tests : tie.Need-sub-tests
-sub-tests c = search needs
-
-part-tests-start : tie.Need-part-tests-start
-part-tests-start c = search needs
 
 part-tests-end : tie.Need-part-tests-end
 part-tests-end c = let a = c .before .before .before .before .before .args in plain-part (a .n) (a .classes) (a .locks) (a .logs .now) (a .t1) _ (c .before .before .before .lengths-fit .ensures) (a .session) (not-false _ (c .before .before .if1 .left)) (c .before .if2 .left)
@@ -44,15 +20,6 @@ tests-requires c κs = let a = c .before .before .before .before .before .before
 returns-3 : tie.Need-returns-3
 returns-3 c = let a = c .before .before .before .before .before .before .before .before .args in begin-turned-down (a .n) (a .classes) (a .locks) (a .logs .now) (a .t1) _ (c .before .before .before .before .before .before .lengths-fit .ensures) (a .session) (not-false _ (c .before .before .before .before .before .if1 .left)) (c .before .before .before .before .if2 .left) _ (c .before .tests .ensures) (c .if3 .taken)
 
-begun-requires : tie.Need-begun-requires
-begun-requires c κs = search needs
-
-mul-t15 : tie.Need-mul-t15
-mul-t15 c = search needs
-
-element-set-from-sessions : tie.Need-element-set-from-sessions
-element-set-from-sessions c = search needs
-
 returns-4 : tie.Need-returns-4
 returns-4 c = let a = c .before .before .before .before .before .before .before .before .before .args in begins (a .n) (a .classes) (a .locks) (a .logs .now) (a .t1) _ (c .before .before .before .before .before .before .before .lengths-fit .ensures) (a .session) (not-false _ (c .before .before .before .before .before .before .if1 .left)) (c .before .before .before .before .before .if2 .left) _ (c .before .before .tests .ensures) (c .before .if3 .left) _ (c .begun .ensures)
 
@@ -60,20 +27,6 @@ pub begin-turn-spec : {M : Type 1} → statement M
 begin-turn-spec =
     tie.close
     (tie.spec
-    lengths-fit-requires
-    returns
-    returns-2
-    mul-a
-    add-e
-    mul-x
-    element-copy-out-x
-    mul-tests
-    sub-tests
-    part-tests-start
-    part-tests-end
-    tests-requires
-    returns-3
-    begun-requires
-    mul-t15
-    element-set-from-sessions
+    (λ c κs. search needs) returns returns-2 (λ c. search needs) (λ c. search needs) (λ c. search needs) (λ c. search needs) (λ c. search needs)
+    (λ c. search needs) (λ c. search needs) part-tests-end tests-requires returns-3 (λ c κs. search needs) (λ c. search needs) (λ c. search needs)
     returns-4)

@@ -5,47 +5,11 @@ use borrow.Author.Needs.{needs}
 use Rattle.lockrun.proofs.cell_of.Statement.{statement}
 use Rattle.lockrun.proofs.cell_of.Tie as tie
 
-enum-told : tie.Need-enum-told
-enum-told c = search needs
-
-enum-known-change : tie.Need-enum-known-change
-enum-known-change c = search needs
-
-cast-result : tie.Need-cast-result
-cast-result c = search needs
-
-enum-known-change-2 : tie.Need-enum-known-change-2
-enum-known-change-2 c = search needs
-
-cast-result-2 : tie.Need-cast-result-2
-cast-result-2 c = search needs
-
-enum-known-change-3 : tie.Need-enum-known-change-3
-enum-known-change-3 c = search needs
-
-cast-result-3 : tie.Need-cast-result-3
-cast-result-3 c = search needs
-
-enum-known-change-4 : tie.Need-enum-known-change-4
-enum-known-change-4 c = search needs
-
-cast-result-4 : tie.Need-cast-result-4
-cast-result-4 c = search needs
-
-enum-known-change-5 : tie.Need-enum-known-change-5
-enum-known-change-5 c = search needs
-
 entry-cell-requires : tie.Need-entry-cell-requires
 entry-cell-requires c κs = withdraw-fits (c .before .before .before .before .args .logs .now) (c .before .before .before .before .args .change) _ _ (c .before .before .before .before .args .i) (c .before .change5 .given .1) (c .before .before .before .before .pre .0) (c .before .before .before .before .pre .1)
 
-enum-known-change-6 : tie.Need-enum-known-change-6
-enum-known-change-6 c = search needs
-
 unwritten-cell-requires : tie.Need-unwritten-cell-requires
 unwritten-cell-requires c κs = leave-fits (c .before .before .before .before .args .logs .now) (c .before .before .before .before .args .change) _ _ (c .before .before .before .before .args .i) (c .before .change6 .given .1) (c .before .before .before .before .pre .0) (c .before .before .before .before .pre .1)
-
-enum-told-2 : tie.Need-enum-told-2
-enum-told-2 c = search needs
 
 returns : tie.Need-returns
 unfolding cellOf
@@ -82,25 +46,6 @@ pub cell-of-spec : {M : Type 1} → statement M
 cell-of-spec =
     tie.close
     (tie.spec
-    enum-told
-    enum-known-change
-    cast-result
-    enum-known-change-2
-    cast-result-2
-    enum-known-change-3
-    cast-result-3
-    enum-known-change-4
-    cast-result-4
-    enum-known-change-5
-    entry-cell-requires
-    enum-known-change-6
-    unwritten-cell-requires
-    enum-told-2
-    returns
-    returns-2
-    returns-3
-    returns-4
-    returns-5
-    returns-6
-    returns-7
-    returns-8)
+    (λ c. search needs) (λ c. search needs) (λ c. search needs) (λ c. search needs) (λ c. search needs) (λ c. search needs) (λ c. search needs)
+    (λ c. search needs) (λ c. search needs) (λ c. search needs) entry-cell-requires (λ c. search needs) unwritten-cell-requires (λ c. search needs)
+    returns returns-2 returns-3 returns-4 returns-5 returns-6 returns-7 returns-8)

@@ -4,47 +4,17 @@ use borrow.Author.Needs.{needs}
 use Rattle.lockrun.proofs.changed.Statement.{statement}
 use Rattle.lockrun.proofs.changed.Tie as tie
 
-enum-told : tie.Need-enum-told
-enum-told c = search needs
-
-enum-known-change : tie.Need-enum-known-change
-enum-known-change c = search needs
-
 joined-requires : tie.Need-joined-requires
 joined-requires c κs = rw (c .before .change .given .1) at (c .before .before .before .pre)
-
-enum-known-change-2 : tie.Need-enum-known-change-2
-enum-known-change-2 c = search needs
-
-claimed-requires : tie.Need-claimed-requires
-claimed-requires c κs = search needs
-
-enum-known-change-3 : tie.Need-enum-known-change-3
-enum-known-change-3 c = search needs
-
-owned-requires : tie.Need-owned-requires
-owned-requires c κs = search needs
-
-enum-known-change-4 : tie.Need-enum-known-change-4
-enum-known-change-4 c = search needs
 
 vacated-requires : tie.Need-vacated-requires
 vacated-requires c κs = rw (c .before .change4 .given .1) at (c .before .before .before .pre)
 
-enum-known-change-5 : tie.Need-enum-known-change-5
-enum-known-change-5 c = search needs
-
 withdrawn-requires : tie.Need-withdrawn-requires
 withdrawn-requires c κs = rw (c .before .change5 .given .1) at (c .before .before .before .pre)
 
-enum-known-change-6 : tie.Need-enum-known-change-6
-enum-known-change-6 c = search needs
-
 left-requires : tie.Need-left-requires
 left-requires c κs = rw (c .before .change6 .given .1) at (c .before .before .before .pre)
-
-enum-told-2 : tie.Need-enum-told-2
-enum-told-2 c = search needs
 
 returns : tie.Need-returns
 unfolding changeOf
@@ -82,25 +52,6 @@ pub changed-spec : {M : Type 1} → statement M
 changed-spec =
     tie.close
     (tie.spec
-    enum-told
-    enum-known-change
-    joined-requires
-    enum-known-change-2
-    claimed-requires
-    enum-known-change-3
-    owned-requires
-    enum-known-change-4
-    vacated-requires
-    enum-known-change-5
-    withdrawn-requires
-    enum-known-change-6
-    left-requires
-    enum-told-2
-    returns
-    returns-2
-    returns-3
-    returns-4
-    returns-5
-    returns-6
-    returns-7
-    returns-8)
+    (λ c. search needs) (λ c. search needs) joined-requires (λ c. search needs) (λ c κs. search needs) (λ c. search needs) (λ c κs. search needs)
+    (λ c. search needs) vacated-requires (λ c. search needs) withdrawn-requires (λ c. search needs) left-requires (λ c. search needs) returns
+    returns-2 returns-3 returns-4 returns-5 returns-6 returns-7 returns-8)

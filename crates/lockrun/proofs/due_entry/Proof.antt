@@ -6,35 +6,11 @@ use borrow.Author.Needs.{needs}
 use Rattle.lockrun.proofs.due_entry.Statement.{statement}
 use Rattle.lockrun.proofs.due_entry.Tie as tie
 
-lengths-fit-requires : tie.Need-lengths-fit-requires
-lengths-fit-requires c κs = search needs
-
 returns : tie.Need-returns
 returns c = let a = c .before .before .before .args in due-7 (a .t1) (a .n) (a .classes) (a .locks) (a .logs .now) (a .session) _ (c .before .lengths-fit .ensures) (not-true _ (c .if1 .taken))
 
 returns-2 : tie.Need-returns-2
 returns-2 c = let a = c .before .before .before .before .args in due-1 (a .t1) (a .n) (a .classes) (a .locks) (a .logs .now) (a .session) _ (c .before .before .lengths-fit .ensures) (not-false _ (c .before .if1 .left)) (c .if2 .taken)
-
-mul-a : tie.Need-mul-a
-mul-a c = search needs
-
-add-e : tie.Need-add-e
-add-e c = search needs
-
-mul-x : tie.Need-mul-x
-mul-x c = search needs
-
-element-copy-out-x : tie.Need-element-copy-out-x
-element-copy-out-x c = search needs
-
-mul-due-slot : tie.Need-mul-due-slot
-mul-due-slot c = search needs
-
-sub-due-slot : tie.Need-sub-due-slot
-sub-due-slot c = search needs
-
-part-due-slot-start : tie.Need-part-due-slot-start
-part-due-slot-start c = search needs
 
 part-due-slot-end : tie.Need-part-due-slot-end
 part-due-slot-end c = let a = c .before .before .before .before .before .args in plain-part (a .n) (a .classes) (a .locks) (a .logs .now) (a .t1) _ (c .before .before .before .lengths-fit .ensures) (a .session) (not-false _ (c .before .before .if1 .left)) (c .before .if2 .left)
@@ -49,16 +25,5 @@ pub due-entry-spec : {M : Type 1} → statement M
 due-entry-spec =
     tie.close
     (tie.spec
-    lengths-fit-requires
-    returns
-    returns-2
-    mul-a
-    add-e
-    mul-x
-    element-copy-out-x
-    mul-due-slot
-    sub-due-slot
-    part-due-slot-start
-    part-due-slot-end
-    due-slot-requires
-    returns-3)
+    (λ c κs. search needs) returns returns-2 (λ c. search needs) (λ c. search needs) (λ c. search needs) (λ c. search needs) (λ c. search needs)
+    (λ c. search needs) (λ c. search needs) part-due-slot-end due-slot-requires returns-3)

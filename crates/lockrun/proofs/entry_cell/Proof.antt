@@ -7,29 +7,11 @@ use borrow.Author.Needs.{needs}
 use Rattle.lockrun.proofs.entry_cell.Statement.{statement}
 use Rattle.lockrun.proofs.entry_cell.Tie as tie
 
-mul-a : tie.Need-mul-a
-mul-a c = search needs
-
-add-e : tie.Need-add-e
-add-e c = search needs
-
-mul-cell-at : tie.Need-mul-cell-at
-mul-cell-at c = search needs
-
-sub-cell-at : tie.Need-sub-cell-at
-sub-cell-at c = search needs
-
-part-cell-at-start : tie.Need-part-cell-at-start
-part-cell-at-start c = search needs
-
 part-cell-at-end : tie.Need-part-cell-at-end
 part-cell-at-end c = omega (arith, c .before .pre .0, c .before .pre .2)
 
 cell-at-requires : tie.Need-cell-at-requires
 cell-at-requires c κs = let w = part-long (c .before .before .args .logs .now) (c .before .before .args .session) (c .before .before .pre .2) (c .before .before .pre .0) in let i = c .before .before .pre .1 in omega arith
-
-cast-result : tie.Need-cast-result
-cast-result c = search needs
 
 returns : tie.Need-returns
 returns c = c .cell-at .ensures ∙ rw cut-is (part-cell _ _ _ (c .before .before .before .pre .1))
@@ -38,12 +20,5 @@ pub entry-cell-spec : {M : Type 1} → statement M
 entry-cell-spec =
     tie.close
     (tie.spec
-    mul-a
-    add-e
-    mul-cell-at
-    sub-cell-at
-    part-cell-at-start
-    part-cell-at-end
-    cell-at-requires
-    cast-result
-    returns)
+    (λ c. search needs) (λ c. search needs) (λ c. search needs) (λ c. search needs) (λ c. search needs) part-cell-at-end cell-at-requires
+    (λ c. search needs) returns)

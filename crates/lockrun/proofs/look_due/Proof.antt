@@ -4,15 +4,6 @@ use borrow.Author.Needs.{needs}
 use Rattle.lockrun.proofs.look_due.Statement.{statement}
 use Rattle.lockrun.proofs.look_due.Tie as tie
 
-enum-told : tie.Need-enum-told
-enum-told c = search needs
-
-enum-known-entry : tie.Need-enum-known-entry
-enum-known-entry c = search needs
-
-cast-entry-cell : tie.Need-cast-entry-cell
-cast-entry-cell c = search needs
-
 entry-cell-requires : tie.Need-entry-cell-requires
 entry-cell-requires c κs = rw (c .before .entry .given .1) at (c .before .before .before .before .pre)
 
@@ -27,4 +18,4 @@ returns-2 c = rw (c .entry-cell .ensures, c .before .before .entry .given .1)
 pub look-due-spec : {M : Type 1} → statement M
 look-due-spec =
     tie.close
-    (tie.spec enum-told enum-known-entry cast-entry-cell entry-cell-requires returns returns-2)
+    (tie.spec (λ c. search needs) (λ c. search needs) (λ c. search needs) entry-cell-requires returns returns-2)

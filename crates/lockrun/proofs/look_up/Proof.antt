@@ -5,38 +5,8 @@ use borrow.Author.Needs.{needs}
 use Rattle.lockrun.proofs.look_up.Statement.{statement}
 use Rattle.lockrun.proofs.look_up.Tie as tie
 
-enum-told : tie.Need-enum-told
-enum-told c = search needs
-
-enum-known-call : tie.Need-enum-known-call
-enum-known-call c = search needs
-
-cast-t12 : tie.Need-cast-t12
-cast-t12 c = search needs
-
-enum-known-call-2 : tie.Need-enum-known-call-2
-enum-known-call-2 c = search needs
-
-cast-t14 : tie.Need-cast-t14
-cast-t14 c = search needs
-
-enum-told-2 : tie.Need-enum-told-2
-enum-told-2 c = search needs
-
-enum-known-call-3 : tie.Need-enum-known-call-3
-enum-known-call-3 c = search needs
-
-due-entry-requires : tie.Need-due-entry-requires
-due-entry-requires c κs = search needs
-
 look-due-requires : tie.Need-look-due-requires
 look-due-requires c κs = let a = c .before .before .before .before .before .args in due-found (a .sessions) (a .n) (a .classes) (a .locks) (a .logs .now) _ _ (c .due-entry .ensures)
-
-enum-told-3 : tie.Need-enum-told-3
-enum-told-3 c = search needs
-
-enum-told-4 : tie.Need-enum-told-4
-enum-told-4 c = search needs
 
 returns : tie.Need-returns
 unfolding lookOf
@@ -70,21 +40,6 @@ pub look-up-spec : {M : Type 1} → statement M
 look-up-spec =
     tie.close
     (tie.spec
-    enum-told
-    enum-known-call
-    cast-t12
-    enum-known-call-2
-    cast-t14
-    enum-told-2
-    enum-known-call-3
-    due-entry-requires
-    look-due-requires
-    enum-told-3
-    enum-told-4
-    returns
-    returns-2
-    returns-3
-    returns-4
-    returns-5
-    returns-6
+    (λ c. search needs) (λ c. search needs) (λ c. search needs) (λ c. search needs) (λ c. search needs) (λ c. search needs) (λ c. search needs)
+    (λ c κs. search needs) look-due-requires (λ c. search needs) (λ c. search needs) returns returns-2 returns-3 returns-4 returns-5 returns-6
     returns-7)

@@ -17,7 +17,7 @@ use contract.Monad.{Fun, fact}
 use contract.Running.{givenOf, tables, tablesOf}
 use types.Kit.{Given, ‵, raw, some, later, _⊛_, ⋆, _$_, _∵_, !, qed, by, move, drop, use1, use3, split, join, pick, fsplit, fjoin, suffices, frame, await, done}
 use types.Part.{whole, sub, look-in}
-use types.Run.{look, init, stop, fld, from, load, of-opd, and-then, no-more, land, returns, enter, alloc1, alloc0, params1, pass1, pass0}
+use types.Run.{look, init, stop, fld, from, load, of-opd, and-then, no-more, land, returns, enter, params1, pass1, pass0}
 use sound.WpLaws.{FmC, fmOf, WpFn-mono}
 use denote.RattleType.{owns}
 use denote.Laws.{Is, shows}
@@ -40,7 +40,7 @@ use Rattle.model.specs.declared.Sessions.{Sessions}
 use Rattle.lockrun.specs.Turns.{HandsBack}
 use Rattle.lockrun.proofs.Row.{R, RS, low-s, tells-s, makes-s, typed-s}
 use Rattle.lockrun.proofs.Leave.{full, leave}
-use Rattle.lockrun.proofs.Short.{var, sets}
+use Rattle.lockrun.proofs.Short.{allocates, var, sets}
 use Rattle.lockrun.proofs.peek_part as peek-part
 use Rattle.lockrun.proofs.peek_part.Symbol as peek-part-def
 use Rattle.lockrun.proofs.peek_part.Symbol.{name as #lockrun·peek-part}
@@ -81,11 +81,11 @@ module _ {M : Type 1} (𝓤 : URA M) (H : Heap 𝓤) (A : Atoms 𝓤) (W : Given
   Post = walkOf 𝓤 H A peek.ended stayed (peek.clauses 𝓤 H A mem run) .post (((κ₀, (κ₁, (κ₂, tt))), (q₀, (q₁, (q₂, tt))), tt, a, at), tt)
 
   -- what each slice owns
-  abbrev Figs : Fml
-  Figs = ShrSlice (named 0) κ₀ u32 .own x₀ (slice-vals x₀)
+  abbrev Values : Fml
+  Values = ShrSlice (named 0) κ₀ u32 .own x₀ (slice-vals x₀)
 
-  abbrev Kinds : Fml
-  Kinds = ShrSlice (named 0) κ₁ u8 .own x₁ (slice-vals x₁)
+  abbrev Classes : Fml
+  Classes = ShrSlice (named 0) κ₁ u8 .own x₁ (slice-vals x₁)
 
   abbrev Locks : Fml
   Locks = ShrSlice (named 0) κ₂ R .own x (slice-vals x)
@@ -103,18 +103,18 @@ module _ {M : Type 1} (𝓤 : URA M) (H : Heap 𝓤) (A : Atoms 𝓤) (W : Given
   abbrev Says : RefT (List ℕ) → Type 0
   Says r = HandsBack x₀ n₁ n x₃ ss s c r
 
-  goes : ent 𝓤 (⋆ 𝓤 H A (‵ Figs ∷ ‵ Logs ∷ ‵ (flft κ₀ q₀) ∷ [])) (PeekPart 𝓤 H A mem run .pre to)
+  goes : ent 𝓤 (⋆ 𝓤 H A (‵ Values ∷ ‵ Logs ∷ ‵ (flft κ₀ q₀) ∷ [])) (PeekPart 𝓤 H A mem run .pre to)
   goes =
-      qed W (‵ Figs ∷ ‵ Logs ∷ ‵ (flft κ₀ q₀) ∷ []) ∵ nothing ! $ owned ! u32 (Is u32) (uint-makes 𝓤 H A W w32) c _ (refl, fc) $ fjoin ! $ owned ! u8 (Is u8) (uint-makes 𝓤 H A W w8) s _ (refl, fs) $ fjoin ! $ move ! (2 ∷ 0 ∷ []) $ fjoin ! $
+      qed W (‵ Values ∷ ‵ Logs ∷ ‵ (flft κ₀ q₀) ∷ []) ∵ nothing ! $ owned ! u32 (Is u32) (uint-makes 𝓤 H A W w32) c _ (refl, fc) $ fjoin ! $ owned ! u8 (Is u8) (uint-makes 𝓤 H A W w8) s _ (refl, fs) $ fjoin ! $ move ! (2 ∷ 0 ∷ []) $ fjoin ! $
       owned ! usize (Is usize) (uint-makes 𝓤 H A W w64) n _ (refl, room .0) $ fjoin ! $ owned ! usize (Is usize) (uint-makes 𝓤 H A W w64) n₁ _ (refl, room₁ .0) $ fjoin ! $ move ! (1 ∷ 0 ∷ []) $ fjoin ! $
       owned ! RS (Is RS) (makes-s 𝓤 H A) ss (low-s ss ∷ []) gs $ fjoin ! $ nothing ! $ move ! (2 ∷ 0 ∷ []) $ join ! $ join ! $ frame ! $ done !
 
   hears : (r : RefT (List ℕ)) → ent 𝓤 (ensured 𝓤 H A peek-part.ended (peek-part.clauses 𝓤 H A mem run) (κ₀, tt) (ss, (x₀, (n₁, (n, (x₃, (s, (c, tt))))))) tt r) (fact 𝓤 (Says r))
   hears r = exE 𝓤 _ (λ ws. snd∗ 𝓤 (sem 𝓤 H A (lasts peek-part.ended (κ₀, tt) (ss, (x₀, (n₁, (n, (x₃, (s, (c, tt))))))) ws)) (fact 𝓤 (Says r)))
 
-  exits : (r : RefT (List ℕ)) (v : Val) → Says r → ent 𝓤 (⋆ 𝓤 H A (‵ (Part r v) ∷ (‵ (flft κ₀ q₀) ⊛ ‵ ftrue) ∷ ‵ Figs ∷ ‵ Logs ∷ ‵ (flft κ₂ q₂) ∷ ‵ (flft κ₁ q₁) ∷ ‵ Locks ∷ ‵ Kinds ∷ [])) (Post v)
+  exits : (r : RefT (List ℕ)) (v : Val) → Says r → ent 𝓤 (⋆ 𝓤 H A (‵ (Part r v) ∷ (‵ (flft κ₀ q₀) ⊛ ‵ ftrue) ∷ ‵ Values ∷ ‵ Logs ∷ ‵ (flft κ₂ q₂) ∷ ‵ (flft κ₁ q₁) ∷ ‵ Locks ∷ ‵ Classes ∷ [])) (Post v)
   exits r v f =
-      qed W (‵ (Part r v) ∷ (‵ (flft κ₀ q₀) ⊛ ‵ ftrue) ∷ ‵ Figs ∷ ‵ Logs ∷ ‵ (flft κ₂ q₂) ∷ ‵ (flft κ₁ q₁) ∷ ‵ Locks ∷ ‵ Kinds ∷ []) ∵
+      qed W (‵ (Part r v) ∷ (‵ (flft κ₀ q₀) ⊛ ‵ ftrue) ∷ ‵ Values ∷ ‵ Logs ∷ ‵ (flft κ₂ q₂) ∷ ‵ (flft κ₁ q₁) ∷ ‵ Locks ∷ ‵ Classes ∷ []) ∵
       suffices ! _ (ends-at 𝓤 H A peek.ended stayed (peek.clauses 𝓤 H A mem run) W (((κ₀, (κ₁, (κ₂, tt))), (q₀, (q₁, (q₂, tt))), tt, a, at), tt) v r (tt, (tt, (tt, (tt, (tt, (tt, (tt, tt))))))) (tt, (tt, (tt, (tt, (tt, (tt, (tt, tt)))))))) $
       says ! (f (now x₁) (now x) refl refl) $
       move ! (1 ∷ []) $ split ! $ move ! (5 ∷ 1 ∷ []) $ join ! $ move ! (5 ∷ 0 ∷ []) $ join ! $ move ! (1 ∷ 0 ∷ []) $ join ! $ frame ! $
@@ -127,7 +127,7 @@ module _ {M : Type 1} (𝓤 : URA M) (H : Heap 𝓤) (A : Atoms 𝓤) (W : Given
     walk =
         qed W ((‵ (flft κ₀ q₀) ⊛ (‵ (flft κ₁ q₁) ⊛ (‵ (flft κ₂ q₂) ⊛ ‵ ftrue))) ∷ ‵ (owns (RS ∷ ShrSlice (named 0) κ₀ u32 ∷ ShrSlice (named 1) κ₁ u8 ∷ ShrSlice (named 2) κ₂ R ∷ ShrSlice (named 0) κ₀ u32 ∷ u8 ∷ u32 ∷ []) a at) ∷ []) ∵
         enter ! C Λ code.function (low-s ss ∷ sliceVal (x₀ .ptr) n₀ ∷ sliceVal (x₁ .ptr) n₁ ∷ sliceVal (x .ptr) n ∷ sliceVal (x₃ .ptr) (length (now x₃)) ∷ vint w8 s ∷ vint w32 c ∷ []) _ $
-        alloc1 ! (λ l₀. alloc1 ! (λ l₁. alloc1 ! (λ l₂. alloc1 ! (λ l₃. alloc1 ! (λ l₄. alloc1 ! (λ l₅. alloc1 ! (λ l₆. alloc1 ! (λ l₇. alloc1 ! (λ l₈. alloc1 ! (λ l₉. alloc0 ! $ params1 ! $
+        allocates ! _ (λ bs. params1 ! $
         pass1 ! (init ! 16 refl (typed-s 𝓤 H A W ss (low-s ss) gs)) $ pass1 ! (init ! 14 refl (tt, (tt, (record { fits = room₀ .0 }, tt)))) $ pass1 ! (init ! 12 refl (tt, (tt, (record { fits = room₁ .0 }, tt)))) $
         pass1 ! (init ! 10 refl (tt, (tt, (record { fits = room .0 }, tt)))) $ pass1 ! (init ! 8 refl (tt, (tt, (record { fits = room₃ .0 }, tt)))) $ pass1 ! (init ! 6 refl (tt, record { fits = fs })) $ pass1 ! (init ! 4 refl (tt, record { fits = fc })) $ pass0 ! $
         move ! (21 ∷ []) $ fsplit ! $ move ! (1 ∷ []) $ fsplit ! $ move ! (1 ∷ []) $ fsplit ! $ move ! (1 ∷ []) $ fsplit ! $ move ! (1 ∷ []) $ fsplit ! $ move ! (1 ∷ []) $ fsplit ! $ move ! (1 ∷ []) $ fsplit ! $
@@ -136,14 +136,14 @@ module _ {M : Type 1} (𝓤 : URA M) (H : Heap 𝓤) (A : Atoms 𝓤) (W : Given
         sets ! (of-opd ! (load ! (from ! (fld ! refl (stop !))) (look-in ! 19 (sub ! 1 refl (whole !))))) 9 refl (tt, record { fits = room₁ .0 }) $
         sets ! (of-opd ! (load ! (from ! (fld ! refl (stop !))) (look-in ! 17 (sub ! 1 refl (whole !))))) 7 refl (tt, record { fits = room .0 }) $
         -- values and logs are Copy: one copy of each goes to `peek_part`, with the token
-        move ! (3 ∷ []) $ use1 W (‵ Logs ⊛ ‵ Logs) (shr-slice-copy 𝓤 H A W (named 0) κ₀ u32 .twice x₃ (slice-vals x₃)) $ split ! $ move ! (7 ∷ []) $ use1 W (‵ Figs ⊛ ‵ Figs) (shr-slice-copy 𝓤 H A W (named 0) κ₀ u32 .twice x₀ (slice-vals x₀)) $ split ! $
+        move ! (3 ∷ []) $ use1 W (‵ Logs ⊛ ‵ Logs) (shr-slice-copy 𝓤 H A W (named 0) κ₀ u32 .twice x₃ (slice-vals x₃)) $ split ! $ move ! (7 ∷ []) $ use1 W (‵ Values ⊛ ‵ Values) (shr-slice-copy 𝓤 H A W (named 0) κ₀ u32 .twice x₀ (slice-vals x₀)) $ split ! $
         move ! (0 ∷ 2 ∷ 6 ∷ []) $ use3 W (raw (PeekPart 𝓤 H A mem run .pre to)) goes $
         -- [what `peek_part` asks; values; logs; locks' token; classes'; locks; classes; _9 at 7; …]
         calls-at ! fm (PeekPart 𝓤 H A mem run) known to (and-then ! (var ! 23 refl) (and-then ! (var ! 21 refl) (and-then ! (var ! 9 refl) (and-then ! (var ! 7 refl) (and-then ! (var ! 15 refl) (and-then ! (var ! 13 refl) (and-then ! (var ! 11 refl) (no-more !)))))))) (λ v.
         use1 W (later (some (λ (r : RefT (List ℕ)). ((‵ (flft κ₀ q₀) ⊛ ‵ ftrue) ⊛ ‵ (Part r v)) ⊛ raw (ensured 𝓤 H A peek-part.ended (peek-part.clauses 𝓤 H A mem run) (κ₀, tt) (ss, (x₀, (n₁, (n, (x₃, (s, (c, tt))))))) tt r)))) (id⊢ 𝓤 _) $ await ! tt $ pick ! (λ r.
         split ! $ move ! (1 ∷ []) $ use1 W (raw (fact 𝓤 (Says r))) (hears r) $ heard ! (Says r) (λ f. split ! $ move ! (1 ∷ []) $
         peeks ! (ShrSlice (named 0) κ₀ u32) (Is (ShrSlice (named 0) κ₀ u32)) (shows 𝓤 H A (ShrSlice (named 0) κ₀ u32)) r (v ∷ []) (λ p. land ! (from ! (stop !)) (init ! 26 refl (shr-slice-lawful 𝓤 H A W (named 0) κ₀ u32 .typed r (v ∷ []) p .0)) $
-        returns ! (look ! 26 refl) $ leave ! 8 (full _ ∷ full _ ∷ full _ ∷ full _ ∷ full _ ∷ full _ ∷ full _ ∷ full _ ∷ full _ ∷ full _ ∷ []) refl $ by ! (exits r v f)))))))))))))))
+        returns ! (look ! 26 refl) $ leave ! 8 (full _ ∷ full _ ∷ full _ ∷ full _ ∷ full _ ∷ full _ ∷ full _ ∷ full _ ∷ full _ ∷ full _ ∷ []) refl $ by ! (exits r v f))))))
 
 module _ {M : Type 1} (𝓤 : URA M) (H : Heap 𝓤) (A : Atoms 𝓤) (W : Given 𝓤 H A) (mem : Memory → SProp 𝓤) (run : Routine → Fun 𝓤) (𝓣 : Tables 𝓤 H) (known : Triple 𝓤 (𝓣 .C #lockrun·peek-part) (PeekPart 𝓤 H A mem run)) where
   walks : Walks 𝓤 H A peek.ended stayed (WpFn 𝓤 H (𝓣 .C) (𝓣 .Λ) code.function) (peek.clauses 𝓤 H A mem run)

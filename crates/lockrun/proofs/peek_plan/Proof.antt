@@ -5,35 +5,11 @@ use borrow.Author.Needs.{needs}
 use Rattle.lockrun.proofs.peek_plan.Statement.{statement}
 use Rattle.lockrun.proofs.peek_plan.Tie as tie
 
-lengths-fit-requires : tie.Need-lengths-fit-requires
-lengths-fit-requires c κs = search needs
-
 returns : tie.Need-returns
 returns c = let a = c .before .before .before .args in peeks-7 (a .n) (a .classes) (a .locks) (a .logs .now) (a .t1) _ (c .before .lengths-fit .ensures) (a .session) (a .cell) (not-true _ (c .if1 .taken))
 
 returns-2 : tie.Need-returns-2
 returns-2 c = let a = c .before .before .before .before .args in peeks-1 (a .n) (a .classes) (a .locks) (a .logs .now) (a .t1) _ (c .before .before .lengths-fit .ensures) (a .session) (a .cell) (not-false _ (c .before .if1 .left)) (c .if2 .taken)
-
-mul-a : tie.Need-mul-a
-mul-a c = search needs
-
-add-e : tie.Need-add-e
-add-e c = search needs
-
-mul-x : tie.Need-mul-x
-mul-x c = search needs
-
-element-copy-out-x : tie.Need-element-copy-out-x
-element-copy-out-x c = search needs
-
-mul-peek : tie.Need-mul-peek
-mul-peek c = search needs
-
-sub-peek : tie.Need-sub-peek
-sub-peek c = search needs
-
-part-peek-start : tie.Need-part-peek-start
-part-peek-start c = search needs
 
 part-peek-end : tie.Need-part-peek-end
 part-peek-end c = let a = c .before .before .before .before .before .args in plain-part (a .n) (a .classes) (a .locks) (a .logs .now) (a .t1) _ (c .before .before .before .lengths-fit .ensures) (a .session) (not-false _ (c .before .before .if1 .left)) (c .before .if2 .left)
@@ -48,16 +24,5 @@ pub peek-plan-spec : {M : Type 1} → statement M
 peek-plan-spec =
     tie.close
     (tie.spec
-    lengths-fit-requires
-    returns
-    returns-2
-    mul-a
-    add-e
-    mul-x
-    element-copy-out-x
-    mul-peek
-    sub-peek
-    part-peek-start
-    part-peek-end
-    peek-requires
-    returns-3)
+    (λ c κs. search needs) returns returns-2 (λ c. search needs) (λ c. search needs) (λ c. search needs) (λ c. search needs) (λ c. search needs)
+    (λ c. search needs) (λ c. search needs) part-peek-end peek-requires returns-3)

@@ -4,12 +4,6 @@ use borrow.Author.Needs.{needs}
 use Rattle.lockrun.proofs.peek_turn.Statement.{statement}
 use Rattle.lockrun.proofs.peek_turn.Tie as tie
 
-peek-plan-requires : tie.Need-peek-plan-requires
-peek-plan-requires c κs = search needs
-
-enum-known-p : tie.Need-enum-known-p
-enum-known-p c = search needs
-
 returns : tie.Need-returns
 returns c = let a = c .before .before .before .before .before .args in peek-turns (a .n) (a .classes) (a .locks) (a .logs .now) (a .sessions) (a .session) (a .cell) _ (c .before .before .before .peek-plan .ensures) _ (c .before .p .given .1)
 
@@ -17,4 +11,4 @@ returns-2 : tie.Need-returns-2
 returns-2 c = let a = c .before .before .before .args in peek-shows (a .n) (a .classes) (a .locks) (a .logs .now) (a .sessions) (a .session) (a .cell) _ (c .before .peek-plan .ensures) (c .match .keys2)
 
 pub peek-turn-spec : {M : Type 1} → statement M
-peek-turn-spec = tie.close (tie.spec peek-plan-requires enum-known-p returns returns-2)
+peek-turn-spec = tie.close (tie.spec (λ c κs. search needs) (λ c. search needs) returns returns-2)

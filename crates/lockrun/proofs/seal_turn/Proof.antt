@@ -10,41 +10,11 @@ use Rattle.lockrun.proofs.seal_turn.Tie as tie
 sizes : (c : tie.Else2) → let a = c .before .before .before .before .before .before .args in AllSized (a .values .now) (a .classes .now) (a .logs .now) (a .t1) (a .locks) (a .session)
 sizes c = let a = c .before .before .before .before .before .before .args in all-sized (a .values .now) (a .classes .now) (a .logs .now) (a .t1) (a .locks) _ (c .before .before .lengths-fit .ensures) (a .session) (not-false _ (c .before .if1 .left)) (c .if2 .left)
 
-lengths-fit-requires : tie.Need-lengths-fit-requires
-lengths-fit-requires c κs = search needs
-
-kept-requires : tie.Need-kept-requires
-kept-requires c κs = search needs
-
 returns : tie.Need-returns
 returns c = let a = c .before .before .before .before .before .before .args in turned-7 (a .values .now) (a .classes .now) (a .logs .now) (a .t1) (a .locks) _ (c .before .before .lengths-fit .ensures) _ _ _ _ (not-true _ (c .before .if1 .taken)) (c .kept .ensures)
 
-kept-requires-2 : tie.Need-kept-requires-2
-kept-requires-2 c κs = search needs
-
 returns-2 : tie.Need-returns-2
 returns-2 c = let a = c .before .before .before .before .before .before .before .args in turned-1 (a .values .now) (a .classes .now) (a .logs .now) (a .t1) (a .locks) _ (c .before .before .before .lengths-fit .ensures) _ _ _ _ (not-false _ (c .before .before .if1 .left)) (c .before .if2 .taken) (c .kept2 .ensures)
-
-mul-a : tie.Need-mul-a
-mul-a c = search needs
-
-add-e : tie.Need-add-e
-add-e c = search needs
-
-mul-x : tie.Need-mul-x
-mul-x c = search needs
-
-element-copy-out-x : tie.Need-element-copy-out-x
-element-copy-out-x c = search needs
-
-mul-seal : tie.Need-mul-seal
-mul-seal c = search needs
-
-sub-seal : tie.Need-sub-seal
-sub-seal c = search needs
-
-part-seal-start : tie.Need-part-seal-start
-part-seal-start c = search needs
 
 part-seal-end : tie.Need-part-seal-end
 part-seal-end c = let a = c .before .before .before .before .before .before .before .args in plain-part (length (a .values .now)) (length (a .classes .now)) (a .locks) (a .logs .now) (a .t1) _ (c .before .before .before .lengths-fit .ensures) (a .session) (not-false _ (c .before .before .if1 .left)) (c .before .if2 .left)
@@ -52,38 +22,11 @@ part-seal-end c = let a = c .before .before .before .before .before .before .bef
 seal-requires : tie.Need-seal-requires
 seal-requires c κs = let a = c .before .before .before .before .before .before .before .before .args in plain-decides (length (a .values .now)) (length (a .classes .now)) (a .locks) (a .logs .now) (a .t1) _ (c .before .before .before .before .lengths-fit .ensures) (a .session) (not-false _ (c .before .before .before .if1 .left)) (c .before .before .if2 .left)
 
-enum-known-p : tie.Need-enum-known-p
-enum-known-p c = search needs
-
-kept-requires-3 : tie.Need-kept-requires-3
-kept-requires-3 c κs = search needs
-
 returns-3 : tie.Need-returns-3
 returns-3 c = let a = c .before .before .before .before .before .before .before .before .before .before .before .before .before .args in seal-turned (a .values .now) (a .classes .now) (a .logs .now) (a .t1) (a .locks) (a .session) (sizes (c .before .before .before .before .before .before .before)) _ _ (c .before .before .before .before .seal .ensures) _ (c .before .before .p .given .1) _ (c .kept3 .ensures)
 
-enum-told : tie.Need-enum-told
-enum-told c = search needs
-
-rested-requires : tie.Need-rested-requires
-rested-requires c κs = search needs
-
-mul-t36 : tie.Need-mul-t36
-mul-t36 c = search needs
-
-element-set-from-sessions : tie.Need-element-set-from-sessions
-element-set-from-sessions c = search needs
-
 returns-4 : tie.Need-returns-4
 returns-4 c = let a = c .before .before .before .before .before .before .before .before .before .before .before .before .before .args in seal-commits (a .values .now) (a .classes .now) (a .logs .now) (a .t1) (a .locks) (a .session) (sizes (c .before .before .before .before .before .before .before)) _ _ (c .before .before .before .before .seal .ensures) (c .before .before .before .match .keys2) (c .before .enum-told .given .1) _ (c .rested .ensures)
-
-sealed-requires : tie.Need-sealed-requires
-sealed-requires c κs = search needs
-
-mul-t21 : tie.Need-mul-t21
-mul-t21 c = search needs
-
-element-set-from-sessions-2 : tie.Need-element-set-from-sessions-2
-element-set-from-sessions-2 c = search needs
 
 returns-5 : tie.Need-returns-5
 returns-5 c = let a = c .before .before .before .before .before .before .before .before .before .before .before .before .args in seal-promotes (a .values .now) (a .classes .now) (a .logs .now) (a .t1) (a .locks) (a .session) (sizes (c .before .before .before .before .before .before)) _ _ (c .before .before .before .seal .ensures) (c .before .before .match .keys2) (c .before .match2 .keys2) _ (c .sealed .ensures)
@@ -92,29 +35,7 @@ pub seal-turn-spec : {M : Type 1} → statement M
 seal-turn-spec =
     tie.close
     (tie.spec
-    lengths-fit-requires
-    kept-requires
-    returns
-    kept-requires-2
-    returns-2
-    mul-a
-    add-e
-    mul-x
-    element-copy-out-x
-    mul-seal
-    sub-seal
-    part-seal-start
-    part-seal-end
-    seal-requires
-    enum-known-p
-    kept-requires-3
-    returns-3
-    enum-told
-    rested-requires
-    mul-t36
-    element-set-from-sessions
-    returns-4
-    sealed-requires
-    mul-t21
-    element-set-from-sessions-2
-    returns-5)
+    (λ c κs. search needs) (λ c κs. search needs) returns (λ c κs. search needs) returns-2 (λ c. search needs) (λ c. search needs) (λ c. search needs)
+    (λ c. search needs) (λ c. search needs) (λ c. search needs) (λ c. search needs) part-seal-end seal-requires (λ c. search needs)
+    (λ c κs. search needs) returns-3 (λ c. search needs) (λ c κs. search needs) (λ c. search needs) (λ c. search needs) returns-4
+    (λ c κs. search needs) (λ c. search needs) (λ c. search needs) returns-5)

@@ -17,8 +17,8 @@ use ghost.Atoms.{Atoms}
 use contract.Monad.{Fun, fact}
 use contract.Running.{givenOf, tables, tablesOf}
 use types.Kit.{Given, Item, ‵, raw, some, given, later, _⊛_, mean, ⋆, _$_, _∵_, !, qed, by, move, keep, drop, use1, group, split, join, pick, learn, rewrite, fsplit, fjoin, feqL, suffices, frame, await, updating, now as at-once, show, check, done}
-use types.Part.{agg, whole, sub, look-in}
-use types.Run.{look, init, stop, hop, fld, from, load, addr, of-opd, and-then, no-more, land, returns, enter, alloc1, alloc0, params1, pass1, pass0}
+use types.Part.{whole, sub, look-in}
+use types.Run.{look, init, stop, fld, from, load, of-opd, and-then, no-more, land, returns, enter, alloc1, alloc0, params1, pass1, pass0}
 use sound.WpLaws.{FmC, fmOf, WpFn-mono}
 use denote.RattleType.{owns}
 use denote.Laws.{Is, shows}
@@ -44,7 +44,7 @@ use Rattle.lockrun.specs.Turns.{SetUp}
 use Rattle.lockrun.proofs.Turn.Laws as U′
 use Rattle.lockrun.proofs.Row.{R, RS, low-s, tells-s, makes-s, typed-s, RA, low-a, makes-a, typed-a, RU, typed-u, turn-is, reply-is, change-is}
 use Rattle.lockrun.proofs.Leave.{full, leave}
-use Rattle.lockrun.proofs.Short.{var, sets}
+use Rattle.lockrun.proofs.Short.{var, sets, relends}
 use Rattle.lockrun.proofs.Lent.{ref-at, lent, lent-both}
 use Rattle.lockrun.proofs.Calls.{Sweep, sw-to, sw-gives, sw-goes, sw-gets}
 use Rattle.lockrun.proofs.sweep.Symbol as sweep-def
@@ -94,11 +94,11 @@ module _ {M : Type 1} (𝓤 : URA M) (H : Heap 𝓤) (A : Atoms 𝓤) (W : Given
   Post = walkOf 𝓤 H A set-up.ended stayed (set-up.clauses 𝓤 H A mem run) .post (((κ₀, (κ₁, (κ₂, (κ₃, tt)))), (q₀, (q₁, (q₂, (q₃, tt)))), tt, a, at), tt)
 
   -- what each slice owns
-  abbrev Figs : Fml
-  Figs = ShrSlice (named 0) κ₀ u32 .own x₀ (slice-vals x₀)
+  abbrev Values : Fml
+  Values = ShrSlice (named 0) κ₀ u32 .own x₀ (slice-vals x₀)
 
-  abbrev Kinds : Fml
-  Kinds = ShrSlice (named 0) κ₁ u8 .own x₁ (slice-vals x₁)
+  abbrev Classes : Fml
+  Classes = ShrSlice (named 0) κ₁ u8 .own x₁ (slice-vals x₁)
 
   abbrev Locks : List Lock → Fml
   Locks zs = MutSlice (named 0) κ₂ R .own (ref-at b o γ zs) (s ∷ [])
@@ -117,7 +117,7 @@ module _ {M : Type 1} (𝓤 : URA M) (H : Heap 𝓤) (A : Atoms 𝓤) (W : Given
   gives v ws = some (λ (t : Turn). given (Says ws t) (‵ (RU .own t (v ∷ [])) ⊛ (‵ (flft κ₀ q₀) ⊛ ‵ (flft κ₁ q₁))))
 
   abbrev Asks : Item 𝓤
-  Asks = ‵ Figs ⊛ (‵ Kinds ⊛ (‵ (flft κ₀ q₀) ⊛ ‵ (flft κ₁ q₁)))
+  Asks = ‵ Values ⊛ (‵ Classes ⊛ (‵ (flft κ₀ q₀) ⊛ ‵ (flft κ₁ q₁)))
 
   goes : (ν : ℕ) (δ : GName) → ent 𝓤 (⋆ 𝓤 H A (‵ (flft (ν ∷ []) fullShare) ∷ ‵ (MutSlice (named 0) (ν ∷ []) u32 .own (ref-at b₃ o₃ δ logs) (s₃ ∷ [])) ∷ Asks ∷ [])) (SetUpTurn 𝓤 H A mem run .pre (to ν δ))
   goes ν δ =
@@ -140,9 +140,9 @@ module _ {M : Type 1} (𝓤 : URA M) (H : Heap 𝓤) (A : Atoms 𝓤) (W : Given
 
   -- ---- the end
   exits : (t : Turn) (v : Val) → Is RU t (v ∷ []) → (zs : List Lock) (ws : List ℕ) → Says ws t → length zs ≡ n → zs ≡ sweptBy ws (t .change) ys → length ws ≡ k
-      → ent 𝓤 (⋆ 𝓤 H A (‵ (Locks zs) ∷ ‵ (flft κ₂ q₂) ∷ ‵ (Logs ws) ∷ ‵ (flft κ₃ q₃) ∷ ‵ (flft κ₀ q₀) ∷ ‵ (flft κ₁ q₁) ∷ ‵ Kinds ∷ ‵ Figs ∷ [])) (Post (low-a (t .reply)))
+      → ent 𝓤 (⋆ 𝓤 H A (‵ (Locks zs) ∷ ‵ (flft κ₂ q₂) ∷ ‵ (Logs ws) ∷ ‵ (flft κ₃ q₃) ∷ ‵ (flft κ₀ q₀) ∷ ‵ (flft κ₁ q₁) ∷ ‵ Classes ∷ ‵ Values ∷ [])) (Post (low-a (t .reply)))
   exits t v p zs ws f len put len₃ =
-      qed W (‵ (Locks zs) ∷ ‵ (flft κ₂ q₂) ∷ ‵ (Logs ws) ∷ ‵ (flft κ₃ q₃) ∷ ‵ (flft κ₀ q₀) ∷ ‵ (flft κ₁ q₁) ∷ ‵ Kinds ∷ ‵ Figs ∷ []) ∵
+      qed W (‵ (Locks zs) ∷ ‵ (flft κ₂ q₂) ∷ ‵ (Logs ws) ∷ ‵ (flft κ₃ q₃) ∷ ‵ (flft κ₀ q₀) ∷ ‵ (flft κ₁ q₁) ∷ ‵ Classes ∷ ‵ Values ∷ []) ∵
       suffices ! _ (ends-at 𝓤 H A set-up.ended stayed (set-up.clauses 𝓤 H A mem run) W (((κ₀, (κ₁, (κ₂, (κ₃, tt)))), (q₀, (q₁, (q₂, (q₃, tt)))), tt, a, at), tt) (low-a (t .reply)) (t .reply) (tt, (tt, (tt, (zs, (ws, tt))))) (tt, (tt, (tt, (len, (len₃, tt)))))) $
       says ! (ap (λ (us : List Lock). outcome (t .reply .answer) (storeOn (now x₀) (now x₁) us ws (t .reply .sessions))) put ∙ f .1 ys refl) $
       nothing ! $ move ! (4 ∷ 0 ∷ []) $ join ! $ move ! (2 ∷ 0 ∷ []) $ join ! $ move ! (4 ∷ 0 ∷ []) $ join ! $ move ! (3 ∷ 0 ∷ []) $ join ! $ frame ! $
@@ -162,11 +162,10 @@ module _ {M : Type 1} (𝓤 : URA M) (H : Heap 𝓤) (A : Atoms 𝓤) (W : Given
         move ! (36 ∷ []) $ split ! $ move ! (1 ∷ []) $ split ! $ move ! (1 ∷ []) $ split ! $ move ! (1 ∷ []) $ split ! $
         -- [logs' token; true; locks'; classes'; values'; logs; true; locks; classes; values; sessions; _14 at 11; …; _0 at 39; …]
         sets ! (of-opd ! (load ! (from ! (fld ! refl (stop !))) (look-in ! 31 (sub ! 1 refl (whole !))))) 25 refl (tt, record { fits = room .0 }) $
-        sets ! (addr ! (from ! (fld ! refl (hop ! (look-in ! 29 (sub ! 0 refl (whole !))) (stop !))))) 23 refl (tt, tt) $
-        sets ! (agg ! (and-then ! (var ! 23 refl) (and-then ! (load ! (from ! (fld ! refl (stop !))) (look-in ! 29 (sub ! 1 refl (whole !)))) (no-more !)))) 21 refl (tt, (tt, (record { fits = room₃ .0 }, tt))) $
+        relends ! 29 refl refl 23 refl (tt, tt) refl refl 21 refl (tt, (tt, (record { fits = room₃ .0 }, tt))) $
         -- values and classes are Copy: one copy of each goes to `set_up_turn`
-        move ! (9 ∷ []) $ use1 W (‵ Figs ⊛ ‵ Figs) (shr-slice-copy 𝓤 H A W (named 0) κ₀ u32 .twice x₀ (slice-vals x₀)) $ split ! $
-        move ! (10 ∷ []) $ use1 W (‵ Kinds ⊛ ‵ Kinds) (shr-slice-copy 𝓤 H A W (named 0) κ₁ u8 .twice x₁ (slice-vals x₁)) $ split ! $
+        move ! (9 ∷ []) $ use1 W (‵ Values ⊛ ‵ Values) (shr-slice-copy 𝓤 H A W (named 0) κ₀ u32 .twice x₀ (slice-vals x₀)) $ split ! $
+        move ! (10 ∷ []) $ use1 W (‵ Classes ⊛ ‵ Classes) (shr-slice-copy 𝓤 H A W (named 0) κ₁ u8 .twice x₁ (slice-vals x₁)) $ split ! $
         move ! (2 ∷ 0 ∷ 8 ∷ 7 ∷ []) $ group ! 4 $ move ! (6 ∷ 3 ∷ 0 ∷ []) $
         -- [logs; its token; what else `set_up_turn` asks; classes; values; true; locks' token; true; locks; sessions; _14 at 10; …]
         lent ! fm (SetUpTurn 𝓤 H A mem run) known-turn u32 κ₃ q₃ b₃ o₃ k γ₃ logs refl room₃ gives to goes gets
@@ -174,10 +173,8 @@ module _ {M : Type 1} (𝓤 : URA M) (H : Heap 𝓤) (A : Atoms 𝓤) (W : Given
         peeks ! RU (Is RU) (shows 𝓤 H A RU) t (v ∷ []) (λ p. land ! (from ! (stop !)) (init ! 27 refl (typed-u 𝓤 H A W t v p)) $ drop ! $ split ! $
         rewrite ! 27 (λ (w : Val). ‵ (fat fullShare U′.mir l₆ 0 w)) (turn-is t v p) refl $ move ! (9 ∷ 7 ∷ 2 ∷ 3 ∷ 6 ∷ []) $
         -- [locks; its token; logs; its token; true; values' token; classes'; classes; values; true; sessions; _14 at 11; …]
-        sets ! (addr ! (from ! (fld ! refl (hop ! (look-in ! 31 (sub ! 0 refl (whole !))) (stop !))))) 17 refl (tt, tt) $
-        sets ! (agg ! (and-then ! (var ! 17 refl) (and-then ! (load ! (from ! (fld ! refl (stop !))) (look-in ! 31 (sub ! 1 refl (whole !)))) (no-more !)))) 15 refl (tt, (tt, (record { fits = room .0 }, tt))) $
-        sets ! (addr ! (from ! (fld ! refl (hop ! (look-in ! 29 (sub ! 0 refl (whole !))) (stop !))))) 13 refl (tt, tt) $
-        sets ! (agg ! (and-then ! (var ! 13 refl) (and-then ! (load ! (from ! (fld ! refl (stop !))) (look-in ! 29 (sub ! 1 refl (whole !)))) (no-more !)))) 11 refl (tt, (tt, (record { fits = room₃ .0 }, tt))) $
+        relends ! 31 refl refl 17 refl (tt, tt) refl refl 15 refl (tt, (tt, (record { fits = room .0 }, tt))) $
+        relends ! 29 refl refl 13 refl (tt, tt) refl refl 11 refl (tt, (tt, (record { fits = room₃ .0 }, tt))) $
         let gd = change-is t v p in
         lent-both ! fm (Sweep 𝓤 H A mem run) known-sweep R κ₂ q₂ b o n γ ys refl room u32 κ₃ q₃ b₃ o₃ k γ₃ ws len₃ room₃ (sw-gives 𝓤 H A mem run W b o n ys b₃ o₃ k ws (t .change) gd (f .0)) (sw-to 𝓤 H A mem run W b o n ys b₃ o₃ k ws (t .change) gd (f .0))
         (sw-goes 𝓤 H A mem run W b o n ys b₃ o₃ k ws (t .change) gd (f .0)) (sw-gets 𝓤 H A mem run W b o n ys b₃ o₃ k ws (t .change) gd (f .0) refl)

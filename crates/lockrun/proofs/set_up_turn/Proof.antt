@@ -6,35 +6,17 @@ use borrow.Author.Needs.{needs}
 use Rattle.lockrun.proofs.set_up_turn.Statement.{statement}
 use Rattle.lockrun.proofs.set_up_turn.Tie as tie
 
-lengths-fit-requires : tie.Need-lengths-fit-requires
-lengths-fit-requires c κs = search needs
-
-kept-requires : tie.Need-kept-requires
-kept-requires c κs = search needs
-
 returns : tie.Need-returns
 returns c = let a = c .before .before .before .before .before .before .args in set-up-7 (a .values .now) (a .classes .now) (a .logs .now) (a .sessions) (a .locks) _ (c .before .before .lengths-fit .ensures) _ (not-true _ (c .before .if1 .taken)) (c .kept .ensures)
 
 all-fit-requires : tie.Need-all-fit-requires
 all-fit-requires c κs = let a = c .before .before .before .before .before .args in classes-fit (a .values .now) (a .classes .now) (a .logs .now) (a .sessions) (a .locks) _ (c .before .lengths-fit .ensures) (not-false _ (c .if1 .left))
 
-kept-requires-2 : tie.Need-kept-requires-2
-kept-requires-2 c κs = search needs
-
 returns-2 : tie.Need-returns-2
 returns-2 c = let a = c .before .before .before .before .before .before .before .before .args in set-up-8 (a .values .now) (a .classes .now) (a .logs .now) (a .sessions) (a .locks) _ (c .before .before .before .before .lengths-fit .ensures) (not-false _ (c .before .before .before .if1 .left)) _ (c .before .before .all-fit .ensures) _ (not-true _ (c .before .if2 .taken)) (c .kept2 .ensures)
 
-clear-words-requires : tie.Need-clear-words-requires
-clear-words-requires c κs = search needs
-
-all-idle-requires : tie.Need-all-idle-requires
-all-idle-requires c κs = search needs
-
 cast-t19 : tie.Need-cast-t19
 cast-t19 c = let a = c .before .before .before .before .before .before .before .before .before .before .before .before .args in omega (arith, values-few (a .values .now) (a .classes .now) (a .logs .now) (a .sessions) (a .locks) _ (c .before .before .before .before .before .before .before .before .lengths-fit .ensures) (not-false _ (c .before .before .before .before .before .before .before .if1 .left)))
-
-same-length : tie.Need-same-length
-same-length c = search needs
 
 returns-3 : tie.Need-returns-3
 returns-3 c = let a = c .before .before .before .before .before .before .before .before .before .before .before .before .args in set-up-done (a .values .now) (a .classes .now) (a .logs .now) (a .sessions) (a .locks) _ (c .before .before .before .before .before .before .before .before .lengths-fit .ensures) (not-false _ (c .before .before .before .before .before .before .before .if1 .left)) _ (c .before .before .before .before .before .before .all-fit .ensures) (not-false _ (c .before .before .before .before .before .if2 .left)) _ _ (c .before .before .before .clear-words .ensures) (c .all-idle .ensures)
@@ -43,14 +25,5 @@ pub set-up-turn-spec : {M : Type 1} → statement M
 set-up-turn-spec =
     tie.close
     (tie.spec
-    lengths-fit-requires
-    kept-requires
-    returns
-    all-fit-requires
-    kept-requires-2
-    returns-2
-    clear-words-requires
-    all-idle-requires
-    cast-t19
-    same-length
-    returns-3)
+    (λ c κs. search needs) (λ c κs. search needs) returns all-fit-requires (λ c κs. search needs) returns-2 (λ c κs. search needs)
+    (λ c κs. search needs) cast-t19 (λ c. search needs) returns-3)

@@ -17,8 +17,8 @@ use ghost.Atoms.{Atoms, sem}
 use contract.Monad.{Fun, fact}
 use contract.Running.{givenOf, tables, tablesOf}
 use types.Kit.{Given, Item, ‵, raw, some, given, later, _⊛_, mean, ⋆, _$_, _∵_, !, qed, by, move, keep, drop, use1, group, split, join, pick, learn, rewrite, fsplit, fjoin, feqL, suffices, frame, await, updating, now as at-once, show, check, done}
-use types.Part.{agg, whole, sub, look-in}
-use types.Run.{look, init, store, stop, hop, fld, from, load, addr, of-opd, and-then, no-more, assigns, land, returns, enter, alloc1, alloc0, params1, pass1, pass0}
+use types.Part.{whole, sub, look-in}
+use types.Run.{look, init, store, stop, fld, from, load, of-opd, and-then, no-more, assigns, land, returns, enter, alloc1, alloc0, params1, pass1, pass0}
 use sound.WpLaws.{FmC, fmOf, WpFn-mono}
 use denote.RattleType.{owns}
 use denote.Laws.{Is, shows}
@@ -47,7 +47,7 @@ use Rattle.lockrun.proofs.Look.Laws as L′
 use Rattle.lockrun.proofs.Turn.Laws as U′
 use Rattle.lockrun.proofs.Row.{R, makes, typed-at, RS, low-s, tells-s, makes-s, typed-s, RA, low-a, makes-a, typed-a, RU, typed-u, turn-is, reply-is, change-is, RK, low-k, tells-k, makes-k, typed-k, RL, low-l, makes-l, typed-l, look-is, cell-fits}
 use Rattle.lockrun.proofs.Leave.{full, leave}
-use Rattle.lockrun.proofs.Short.{var, sets}
+use Rattle.lockrun.proofs.Short.{var, sets, relends}
 use Rattle.lockrun.proofs.Lent.{ref-at, lent, lent-shared, lent-both}
 use Rattle.lockrun.proofs.Calls.{LockAt, at-to, at-gives, at-goes, at-gets, Sweep, sw-to, sw-gives, sw-goes, sw-gets}
 use Rattle.lockrun.proofs.look_up as look-up
@@ -114,11 +114,11 @@ module _ {M : Type 1} (𝓤 : URA M) (H : Heap 𝓤) (A : Atoms 𝓤) (W : Given
   Post = walkOf 𝓤 H A step.ended stayed (step.clauses 𝓤 H A mem run) .post (((κ₀, (κ₁, (κ₂, (κ₃, tt)))), (q₀, (q₁, (q₂, (q₃, tt)))), tt, a, at), tt)
 
   -- what each slice owns
-  abbrev Figs : Fml
-  Figs = MutSlice (named 0) κ₀ u32 .own x₀ (slice-vals x₀)
+  abbrev Values : Fml
+  Values = MutSlice (named 0) κ₀ u32 .own x₀ (slice-vals x₀)
 
-  abbrev Kinds : Fml
-  Kinds = ShrSlice (named 0) κ₁ u8 .own x₁ (slice-vals x₁)
+  abbrev Classes : Fml
+  Classes = ShrSlice (named 0) κ₁ u8 .own x₁ (slice-vals x₁)
 
   abbrev Locks : List Lock → Fml
   Locks zs = MutSlice (named 0) κ₂ R .own (ref-at b o γ zs) (s ∷ [])
@@ -167,7 +167,7 @@ module _ {M : Type 1} (𝓤 : URA M) (H : Heap 𝓤) (A : Atoms 𝓤) (W : Given
     gives u ws = some (λ (p : Turn × List ℕ). given (Says (p .1) ws (p .0) × (length (p .1) ≡ n₀)) (‵ (RU .own (p .0) (u ∷ [])) ⊛ (‵ (finally u32 (x₀ .name) (p .1)) ⊛ (‵ (flft κ₀ q₀) ⊛ ‵ (flft κ₁ q₁)))))
 
     abbrev Asks : Item 𝓤
-    Asks = ‵ Figs ⊛ (‵ Kinds ⊛ (‵ (flft κ₀ q₀) ⊛ ‵ (flft κ₁ q₁)))
+    Asks = ‵ Values ⊛ (‵ Classes ⊛ (‵ (flft κ₀ q₀) ⊛ ‵ (flft κ₁ q₁)))
 
     goes : (ν : ℕ) (δ : GName) → ent 𝓤 (⋆ 𝓤 H A (‵ (flft (ν ∷ []) fullShare) ∷ ‵ (MutSlice (named 0) (ν ∷ []) u32 .own (ref-at b₃ o₃ δ logs) (s₃ ∷ [])) ∷ Asks ∷ [])) (TakeTurn 𝓤 H A mem run .pre (to ν δ))
     goes ν δ =
@@ -192,9 +192,9 @@ module _ {M : Type 1} (𝓤 : URA M) (H : Heap 𝓤) (A : Atoms 𝓤) (W : Given
   -- ---- the end
   exits : (g : Look) (r : Lock) → r ≡ lockIn ys (g .cell) → (t : Turn) (v : Val) → Is RU t (v ∷ []) → (vs : List ℕ) (zs : List Lock) (ws : List ℕ) → Turned call (now x₀) (now x₁) n (g .cell) r logs ss vs ws t
       → length vs ≡ n₀ → length zs ≡ n → zs ≡ sweptBy ws (t .change) ys → length ws ≡ k
-      → ent 𝓤 (⋆ 𝓤 H A (‵ (Locks zs) ∷ ‵ (flft κ₂ q₂) ∷ ‵ (Logs ws) ∷ ‵ (flft κ₃ q₃) ∷ ‵ (flft κ₀ q₀) ∷ ‵ (flft κ₁ q₁) ∷ ‵ (finally u32 (x₀ .name) vs) ∷ ‵ Kinds ∷ [])) (Post (low-a (t .reply)))
+      → ent 𝓤 (⋆ 𝓤 H A (‵ (Locks zs) ∷ ‵ (flft κ₂ q₂) ∷ ‵ (Logs ws) ∷ ‵ (flft κ₃ q₃) ∷ ‵ (flft κ₀ q₀) ∷ ‵ (flft κ₁ q₁) ∷ ‵ (finally u32 (x₀ .name) vs) ∷ ‵ Classes ∷ [])) (Post (low-a (t .reply)))
   exits g r r-is t v p vs zs ws f len₀ len put len₃ =
-      qed W (‵ (Locks zs) ∷ ‵ (flft κ₂ q₂) ∷ ‵ (Logs ws) ∷ ‵ (flft κ₃ q₃) ∷ ‵ (flft κ₀ q₀) ∷ ‵ (flft κ₁ q₁) ∷ ‵ (finally u32 (x₀ .name) vs) ∷ ‵ Kinds ∷ []) ∵
+      qed W (‵ (Locks zs) ∷ ‵ (flft κ₂ q₂) ∷ ‵ (Logs ws) ∷ ‵ (flft κ₃ q₃) ∷ ‵ (flft κ₀ q₀) ∷ ‵ (flft κ₁ q₁) ∷ ‵ (finally u32 (x₀ .name) vs) ∷ ‵ Classes ∷ []) ∵
       suffices ! _ (ends-at 𝓤 H A step.ended stayed (step.clauses 𝓤 H A mem run) W (((κ₀, (κ₁, (κ₂, (κ₃, tt)))), (q₀, (q₁, (q₂, (q₃, tt)))), tt, a, at), tt) (low-a (t .reply)) (t .reply) (tt, (tt, (vs, (tt, (zs, (ws, tt)))))) (tt, (tt, (len₀, (tt, (len, (len₃, tt))))))) $
       says ! (ap (λ (us : List Lock). outcome (t .reply .answer) (storeOn vs (now x₁) us ws (t .reply .sessions))) put ∙ f .1 ys refl (sym r-is)) $
       nothing ! $ move ! (4 ∷ 0 ∷ []) $ join ! $ move ! (2 ∷ 0 ∷ []) $ join ! $ move ! (4 ∷ 0 ∷ []) $ join ! $ move ! (3 ∷ 0 ∷ []) $ join ! $ frame ! $
@@ -218,29 +218,25 @@ module _ {M : Type 1} (𝓤 : URA M) (H : Heap 𝓤) (A : Atoms 𝓤) (W : Given
         sets ! (of-opd ! (load ! (from ! (fld ! refl (stop !))) (look-in ! 52 (sub ! 1 refl (whole !))))) 38 refl (tt, record { fits = room₀ .0 }) $
         sets ! (of-opd ! (load ! (from ! (fld ! refl (stop !))) (look-in ! 50 (sub ! 1 refl (whole !))))) 36 refl (tt, record { fits = room₁ .0 }) $
         sets ! (of-opd ! (load ! (from ! (fld ! refl (stop !))) (look-in ! 48 (sub ! 1 refl (whole !))))) 34 refl (tt, record { fits = room .0 }) $
-        sets ! (addr ! (from ! (fld ! refl (hop ! (look-in ! 46 (sub ! 0 refl (whole !))) (stop !))))) 32 refl (tt, tt) $
-        sets ! (agg ! (and-then ! (var ! 32 refl) (and-then ! (load ! (from ! (fld ! refl (stop !))) (look-in ! 46 (sub ! 1 refl (whole !)))) (no-more !)))) 30 refl (tt, (tt, (record { fits = room₃ .0 }, tt))) $
+        relends ! 46 refl refl 32 refl (tt, tt) refl refl 30 refl (tt, (tt, (record { fits = room₃ .0 }, tt))) $
         nothing ! $ move ! (5 ∷ 1 ∷ 0 ∷ []) $
         lent-shared ! fm (LookUp 𝓤 H A mem run) known-up u32 κ₃ q₃ b₃ o₃ k γ₃ logs refl room₃ up-gives up-to up-goes up-gets
         (λ ν δ i j. and-then ! (var ! 56 refl) (and-then ! (var ! 54 refl) (and-then ! (var ! 38 refl) (and-then ! (var ! 36 refl) (and-then ! (var ! 34 refl) (and-then ! (var ! 30 refl) (no-more !))))))) (λ w. move ! (2 ∷ []) $ pick ! (λ g. learn ! (λ g-is.
         peeks ! RL (Is RL) (shows 𝓤 H A RL) g (w ∷ []) (λ pg. land ! (from ! (stop !)) (init ! 45 refl (typed-l 𝓤 H A W g w pg)) $ drop ! $
         -- [logs; its token; locks' token; classes'; values'; locks; classes; values; _25 at 8; …]
         rewrite ! 44 (λ (u : Val). ‵ (fat fullShare L′.mir l₇ 0 u)) (look-is g w pg) refl $
-        sets ! (addr ! (from ! (fld ! refl (hop ! (look-in ! 48 (sub ! 0 refl (whole !))) (stop !))))) 28 refl (tt, tt) $
-        sets ! (agg ! (and-then ! (var ! 28 refl) (and-then ! (load ! (from ! (fld ! refl (stop !))) (look-in ! 48 (sub ! 1 refl (whole !)))) (no-more !)))) 26 refl (tt, (tt, (record { fits = room .0 }, tt))) $
+        relends ! 48 refl refl 28 refl (tt, tt) refl refl 26 refl (tt, (tt, (record { fits = room .0 }, tt))) $
         nothing ! $ move ! (6 ∷ 3 ∷ 0 ∷ []) $
         let gc = cell-fits g w pg in
         lent-shared ! fm (LockAt 𝓤 H A mem run) known-at R κ₂ q₂ b o n γ ys refl room (at-gives 𝓤 H A mem run W b o n ys (g .cell) gc) (at-to 𝓤 H A mem run W b o n ys (g .cell) gc) (at-goes 𝓤 H A mem run W b o n ys (g .cell) gc) (at-gets 𝓤 H A mem run W b o n ys (g .cell) gc)
         (λ ν δ i j. and-then ! (var ! 26 refl) (and-then ! (load ! (from ! (fld ! refl (stop !))) (look-in ! 44 (sub ! 0 refl (whole !)))) (no-more !))) (λ v. move ! (2 ∷ []) $ pick ! (λ r. learn ! (λ r-is.
         peeks ! R (Is R) (shows 𝓤 H A R) r (v ∷ []) (λ pr. land ! (from ! (stop !)) (init ! 43 refl (typed-at 𝓤 H A W r v pr)) $ drop ! $
         -- [locks; its token; logs; its token; classes' token; values'; classes; values; _25 at 8; …]
-        sets ! (addr ! (from ! (fld ! refl (hop ! (look-in ! 52 (sub ! 0 refl (whole !))) (stop !))))) 24 refl (tt, tt) $
-        sets ! (agg ! (and-then ! (var ! 24 refl) (and-then ! (load ! (from ! (fld ! refl (stop !))) (look-in ! 52 (sub ! 1 refl (whole !)))) (no-more !)))) 22 refl (tt, (tt, (record { fits = room₀ .0 }, tt))) $
+        relends ! 52 refl refl 24 refl (tt, tt) refl refl 22 refl (tt, (tt, (record { fits = room₀ .0 }, tt))) $
         assigns ! (of-opd ! (load ! (from ! (fld ! refl (stop !))) (look-in ! 48 (sub ! 1 refl (whole !))))) (from ! (stop !)) (store ! 38 refl (tt, record { fits = room .0 })) $
-        sets ! (addr ! (from ! (fld ! refl (hop ! (look-in ! 46 (sub ! 0 refl (whole !))) (stop !))))) 20 refl (tt, tt) $
-        sets ! (agg ! (and-then ! (var ! 20 refl) (and-then ! (load ! (from ! (fld ! refl (stop !))) (look-in ! 46 (sub ! 1 refl (whole !)))) (no-more !)))) 18 refl (tt, (tt, (record { fits = room₃ .0 }, tt))) $
+        relends ! 46 refl refl 20 refl (tt, tt) refl refl 18 refl (tt, (tt, (record { fits = room₃ .0 }, tt))) $
         -- classes is Copy: one copy goes to `take_turn`
-        move ! (6 ∷ []) $ use1 W (‵ Kinds ⊛ ‵ Kinds) (shr-slice-copy 𝓤 H A W (named 0) κ₁ u8 .twice x₁ (slice-vals x₁)) $ split ! $
+        move ! (6 ∷ []) $ use1 W (‵ Classes ⊛ ‵ Classes) (shr-slice-copy 𝓤 H A W (named 0) κ₁ u8 .twice x₁ (slice-vals x₁)) $ split ! $
         move ! (8 ∷ 0 ∷ 7 ∷ 6 ∷ []) $ group ! 4 $ move ! (4 ∷ 5 ∷ 0 ∷ []) $
         -- [logs; its token; what else `take_turn` asks; classes; locks; its token; _25 at 6; …]
         lent ! fm (TakeTurn 𝓤 H A mem run) known-turn u32 κ₃ q₃ b₃ o₃ k γ₃ logs refl room₃ (gives g w pg g-is r v pr) (to g w pg g-is r v pr) (goes g w pg g-is r v pr) (gets g w pg g-is r v pr)
@@ -249,10 +245,8 @@ module _ {M : Type 1} (𝓤 : URA M) (H : Heap 𝓤) (A : Atoms 𝓤) (W : Given
         -- [values' token; classes'; what says values' last list; logs; its token; classes; locks; its token; _25 at 8; …]
         rewrite ! 40 (λ (u′ : Val). ‵ (fat fullShare U′.mir l₉ 0 u′)) (turn-is (tv .0) u p) refl $ nothing ! $ move ! (7 ∷ 8 ∷ 4 ∷ 5 ∷ 0 ∷ []) $
         -- [locks; its token; logs; its token; true; values' token; classes'; what says values' last list; classes; _25 at 9; …]
-        sets ! (addr ! (from ! (fld ! refl (hop ! (look-in ! 49 (sub ! 0 refl (whole !))) (stop !))))) 15 refl (tt, tt) $
-        sets ! (agg ! (and-then ! (var ! 15 refl) (and-then ! (load ! (from ! (fld ! refl (stop !))) (look-in ! 49 (sub ! 1 refl (whole !)))) (no-more !)))) 13 refl (tt, (tt, (record { fits = room .0 }, tt))) $
-        sets ! (addr ! (from ! (fld ! refl (hop ! (look-in ! 47 (sub ! 0 refl (whole !))) (stop !))))) 11 refl (tt, tt) $
-        sets ! (agg ! (and-then ! (var ! 11 refl) (and-then ! (load ! (from ! (fld ! refl (stop !))) (look-in ! 47 (sub ! 1 refl (whole !)))) (no-more !)))) 9 refl (tt, (tt, (record { fits = room₃ .0 }, tt))) $
+        relends ! 49 refl refl 15 refl (tt, tt) refl refl 13 refl (tt, (tt, (record { fits = room .0 }, tt))) $
+        relends ! 47 refl refl 11 refl (tt, tt) refl refl 9 refl (tt, (tt, (record { fits = room₃ .0 }, tt))) $
         let gd = change-is (tv .0) u p in
         lent-both ! fm (Sweep 𝓤 H A mem run) known-sweep R κ₂ q₂ b o n γ ys refl room u32 κ₃ q₃ b₃ o₃ k γ₃ ws len₃ room₃ (sw-gives 𝓤 H A mem run W b o n ys b₃ o₃ k ws (tv .0 .change) gd (f .0 .0)) (sw-to 𝓤 H A mem run W b o n ys b₃ o₃ k ws (tv .0 .change) gd (f .0 .0))
         (sw-goes 𝓤 H A mem run W b o n ys b₃ o₃ k ws (tv .0 .change) gd (f .0 .0)) (sw-gets 𝓤 H A mem run W b o n ys b₃ o₃ k ws (tv .0 .change) gd (f .0 .0) refl)

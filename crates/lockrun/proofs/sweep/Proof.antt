@@ -23,8 +23,7 @@ use ghost.Atoms.{Atoms, sem}
 use contract.Monad.{Fun, fact}
 use contract.Running.{givenOf, tables, tablesOf}
 use types.Kit.{Given, Item, ‵, raw, some, later, pick, await, use0, use2, _⊛_, ⋆, runs, anyQ, atRet, Sq, _$_, _∵_, !, qed, by, move, keep, drop, use1, split, join, learn, rewrite, fsplit, fjoin, feqI, suffices, frame, done}
-use types.Part.{agg, whole, sub, look-in}
-use types.Run.{look, init, store, stop, hop, fld, from, load, lit, addr, unit-lit, of-opd, bin, and-then, no-more, assigns-last, first, skips, jumps, blocks, branches, land, returns, enter, alloc1, alloc0, params1, pass1, pass0, exec, forget, Below, again, loops}
+use types.Run.{look, init, store, stop, from, lit, unit-lit, of-opd, bin, and-then, no-more, assigns-last, first, skips, jumps, blocks, branches, land, returns, enter, alloc1, alloc0, params1, pass1, pass0, exec, forget, Below, again, loops}
 use sound.WpLaws.{fmOf, WpFn-mono}
 use denote.RattleType.{owns}
 use denote.Memory.{pointee}
@@ -48,7 +47,7 @@ use Rattle.lockrun.specs.declared.Change.{Change}
 use Rattle.lockrun.specs.Run.{turnsOf, cellOf, changedAt, swept, Fits}
 use Rattle.lockrun.proofs.Row.{R, RC, low-c, tells-c, makes-c, typed-c, known-of}
 use Rattle.lockrun.proofs.Leave.{full, bare, leave}
-use Rattle.lockrun.proofs.Short.{var, sets}
+use Rattle.lockrun.proofs.Short.{var, sets, relends}
 use Rattle.lockrun.proofs.Lent.{ref-at, lent}
 use Rattle.lockrun.proofs.Calls.{ChangeAt, ch-to, ch-gives, ch-goes, ch-gets}
 use Rattle.lockrun.proofs.turns as turns
@@ -245,8 +244,7 @@ module _ {M : Type 1} (𝓤 : URA M) (H : Heap 𝓤) (A : Atoms 𝓤) (W : Given
           peeks ! usize (Is usize) (shows 𝓤 H A usize) r (w ∷ []) (λ pr. land ! (from ! (stop !)) (init ! 12 refl (uint-lawful 𝓤 H A W w64 .typed r _ pr .0)) $ drop ! $ split ! $
           -- [the token; true; logs; locks; _10 at 4; …]
           rewrite ! 12 (λ (v : Val). ‵ (fat fullShare word l₆ 0 v)) (ap only (pr .0)) refl $ move ! (3 ∷ 0 ∷ 1 ∷ []) $
-          sets ! (addr ! (from ! (fld ! refl (hop ! (look-in ! 22 (sub ! 0 refl (whole !))) (stop !))))) 6 refl (tt, tt) $
-          sets ! (agg ! (and-then ! (var ! 6 refl) (and-then ! (load ! (from ! (fld ! refl (stop !))) (look-in ! 22 (sub ! 1 refl (whole !)))) (no-more !)))) 4 refl (tt, (tt, (record { fits = room .0 }, tt))) $
+          relends ! 22 refl refl 6 refl (tt, tt) refl refl 4 refl (tt, (tt, (record { fits = room .0 }, tt))) $
           lent ! (fmOf 𝓤 H (W .laws) 𝓣) (ChangeAt 𝓤 H A mem run) known R κ q b o n γ (u .zs) (u .len) room (ch-gives 𝓤 H A mem run W b o n (u .zs) r (pr .1) d gd (known-of logs d ok)) (ch-to 𝓤 H A mem run W b o n (u .zs) r (pr .1) d gd (known-of logs d ok))
           (ch-goes 𝓤 H A mem run W b o n (u .zs) r (pr .1) d gd (known-of logs d ok)) (ch-gets 𝓤 H A mem run W b o n (u .zs) r (pr .1) d gd (known-of logs d ok) (u .len))
           -- under the two entries that the step puts in front: [·; ·; logs; _10 at 3; …]

@@ -6,21 +6,6 @@ use borrow.Author.Needs.{needs}
 use Rattle.lockrun.proofs.unwritten_cell.Statement.{statement}
 use Rattle.lockrun.proofs.unwritten_cell.Tie as tie
 
-mul-a : tie.Need-mul-a
-mul-a c = search needs
-
-add-e : tie.Need-add-e
-add-e c = search needs
-
-mul-log : tie.Need-mul-log
-mul-log c = search needs
-
-sub-log : tie.Need-sub-log
-sub-log c = search needs
-
-part-log-start : tie.Need-part-log-start
-part-log-start c = search needs
-
 part-log-end : tie.Need-part-log-end
 part-log-end c = omega (arith, c .before .pre .0, c .before .pre .3)
 
@@ -36,9 +21,6 @@ publishes-requires c κs = first-there (c .before .before .before .before .args 
 returns : tie.Need-returns
 returns c = written-cell (c .before .before .before .before .before .before .args .logs .now) (c .before .before .before .before .before .before .args .session) (c .before .before .before .before .before .before .args .m) (c .before .before .before .before .before .before .args .i) (c .before .before .before .before .before .before .pre .3) (c .before .before .before .before .before .before .pre .0) (c .before .before .before .before .before .before .pre .1) (c .before .before .before .before .before .before .pre .2) _ (c .before .before .before .cell-at .ensures) _ (c .before .before .find .ensures) _ (c .before .publishes .ensures) (c .if1 .taken)
 
-cast-result : tie.Need-cast-result
-cast-result c = search needs
-
 returns-2 : tie.Need-returns-2
 returns-2 c = unwritten (c .before .before .before .before .before .before .args .logs .now) (c .before .before .before .before .before .before .args .session) (c .before .before .before .before .before .before .args .m) (c .before .before .before .before .before .before .args .i) (c .before .before .before .before .before .before .pre .3) (c .before .before .before .before .before .before .pre .0) (c .before .before .before .before .before .before .pre .1) (c .before .before .before .before .before .before .pre .2) _ (c .before .before .before .cell-at .ensures) _ (c .before .before .find .ensures) _ (c .before .publishes .ensures) (c .if1 .left)
 
@@ -46,15 +28,5 @@ pub unwritten-cell-spec : {M : Type 1} → statement M
 unwritten-cell-spec =
     tie.close
     (tie.spec
-    mul-a
-    add-e
-    mul-log
-    sub-log
-    part-log-start
-    part-log-end
-    cell-at-requires
-    find-requires
-    publishes-requires
-    returns
-    cast-result
-    returns-2)
+    (λ c. search needs) (λ c. search needs) (λ c. search needs) (λ c. search needs) (λ c. search needs) part-log-end cell-at-requires find-requires
+    publishes-requires returns (λ c. search needs) returns-2)
