@@ -2,7 +2,7 @@
 // Each call takes the records of all sixteen sessions and hands them back with its answer. It decides, then carries the plan out.
 ghost use mathlib.Core.Path.{_≡_};
 ghost use mathlib.Core.Bool.{Bool, true, false};
-ghost use Prim.Native.Nat.{ℕ, _+_, _*_, _<_, _≤_};
+ghost use Prim.Native.Nat.{ℕ, _+_, _*_, _%_, _<_, _≤_};
 ghost use lib.ListN.{length, replicate};
 ghost use Rattle.model.specs.Buffers.{idle, sessionAt, cellAt, lockAt, lockOn, join, appended, fits, allFit};
 ghost use Rattle.model.specs.Step.{outcome, taken, setUpTaken, planOf, shown};
@@ -10,7 +10,7 @@ ghost use Rattle.model.specs.declared.Call.the-variants.{Begin, Read, Write, Se
 ghost use Rattle.log.specs.Slots.{part};
 ghost use Rattle.locks.specs.Sweeps.{locksOf};
 ghost use Rattle.decide.specs.Own.{advanceOn};
-ghost use Rattle.store.specs.Lent.{storeOf, carried, Sized, Admitted, Handed};
+ghost use Rattle.store.specs.Lent.{storeOf, withRecord, carried, Sized, Admitted, Handed};
 use decide::Due;
 use model::Answer;
 use model::Call;
@@ -19,6 +19,12 @@ use model::Plan;
 use model::Reply;
 use model::Session;
 use model::Sessions;
+
+// A call's answer, and the record that it leaves its session.
+struct Kept {
+    answer: Answer,
+    session: Session,
+}
 
 // ---- set-up
 
@@ -215,7 +221,8 @@ fn enter(
 
 // Read, once the lengths and the session fit.
 fn read_as(
-    mut sessions: Sessions,
+    sessions: Sessions,
+    x: Session,
     values: &[u32],
     classes: &[u8],
     readers: &mut [u16],
@@ -224,27 +231,26 @@ fn read_as(
     logs: &mut [u32],
     session: u8,
     cell: u32,
-) -> Reply
-    requires { ⌜ Sized (storeOf (now values) (now classes) (now readers) (now claimants) (now exclusives) (now logs) sessions) session ⌝ }
-    ensures { λ r. ⌜ outcome (r .answer) (storeOf (now (values .entry)) (now (classes .entry)) (now (readers .exit)) (now (claimants .exit)) (now (exclusives .exit)) (now (logs .exit)) (r .sessions)) ≡ taken (Read session cell) (storeOf (now (values .entry)) (now (classes .entry)) (now (readers .entry)) (now (claimants .entry)) (now (exclusives .entry)) (now (logs .entry)) sessions) ⌝ }
+) -> Kept
+    requires { ⌜ (Sized (storeOf (now values) (now classes) (now readers) (now claimants) (now exclusives) (now logs) sessions) session) × (x ≡ sessionAt sessions session) ⌝ }
+    ensures { λ r. ⌜ outcome (r .answer) (storeOf (now (values .entry)) (now (classes .entry)) (now (readers .exit)) (now (claimants .exit)) (now (exclusives .exit)) (now (logs .exit)) (withRecord sessions session (r .session))) ≡ taken (Read session cell) (storeOf (now (values .entry)) (now (classes .entry)) (now (readers .entry)) (now (claimants .entry)) (now (exclusives .entry)) (now (logs .entry)) sessions) ⌝ }
 {
     let n = values.len();
     let i = session as usize;
     let a = 128 * i;
     let e = a + 128;
-    let x = sessions.records[i];
     let l = locks::at(&readers[..], &claimants[..], &exclusives[..], cell);
     let p = decide::read(&logs[a..e], n, x, l, cell);
     if let Plan::Tell(value) = p {
-        return Reply {
+        return Kept {
             answer: Answer::Value(value),
-            sessions,
+            session: x,
         };
     }
     if let Plan::Refuse(number) = p {
-        return Reply {
+        return Kept {
             answer: Answer::Refused(number),
-            sessions,
+            session: x,
         };
     }
     let count = x.count as usize;
@@ -261,23 +267,24 @@ fn read_as(
             cell,
             value,
         );
-        sessions.records[i] = x.with_entry();
-        return Reply {
+        let y = x.with_entry();
+        return Kept {
             answer: Answer::Value(value),
-            sessions,
+            session: y,
         };
     }
     locks::roll_back(&logs[a..e], count, readers, claimants, exclusives, session);
-    sessions.records[i] = x.rested();
-    Reply {
+    let y = x.rested();
+    Kept {
         answer: Answer::Refused(6),
-        sessions,
+        session: y,
     }
 }
 
-// Read: running only. 101 with a known cell's present value; a new cell is locked and entered, or the session is rolled back, 6.
-pub fn read(
+// Read, of the session whose record is x.
+fn read_own(
     sessions: Sessions,
+    x: Session,
     values: &[u32],
     classes: &[u8],
     readers: &mut [u16],
@@ -286,8 +293,9 @@ pub fn read(
     logs: &mut [u32],
     session: u8,
     cell: u32,
-) -> Reply
-    ensures { λ r. ⌜ outcome (r .answer) (storeOf (now (values .entry)) (now (classes .entry)) (now (readers .exit)) (now (claimants .exit)) (now (exclusives .exit)) (now (logs .exit)) (r .sessions)) ≡ taken (Read session cell) (storeOf (now (values .entry)) (now (classes .entry)) (now (readers .entry)) (now (claimants .entry)) (now (exclusives .entry)) (now (logs .entry)) sessions) ⌝ }
+) -> Kept
+    requires { ⌜ x ≡ sessionAt sessions (session % 16) ⌝ }
+    ensures { λ r. ⌜ outcome (r .answer) (storeOf (now (values .entry)) (now (classes .entry)) (now (readers .exit)) (now (claimants .exit)) (now (exclusives .exit)) (now (logs .exit)) (withRecord sessions (session % 16) (r .session))) ≡ taken (Read session cell) (storeOf (now (values .entry)) (now (classes .entry)) (now (readers .entry)) (now (claimants .entry)) (now (exclusives .entry)) (now (logs .entry)) sessions) ⌝ }
 {
     if !decide::lengths_fit(
         values.len(),
@@ -297,19 +305,20 @@ pub fn read(
         exclusives.len(),
         logs.len(),
     ) {
-        return Reply {
+        return Kept {
             answer: Answer::Refused(7),
-            sessions,
+            session: x,
         };
     }
     if 15 < session {
-        return Reply {
+        return Kept {
             answer: Answer::Refused(1),
-            sessions,
+            session: x,
         };
     }
     read_as(
         sessions,
+        x,
         values,
         classes,
         readers,
@@ -321,8 +330,8 @@ pub fn read(
     )
 }
 
-// Write, once the lengths and the session fit.
-fn write_as(
+// Read: running only. 101 with a known cell's present value; a new cell is locked and entered, or the session is rolled back, 6.
+pub fn read(
     mut sessions: Sessions,
     values: &[u32],
     classes: &[u8],
@@ -332,28 +341,62 @@ fn write_as(
     logs: &mut [u32],
     session: u8,
     cell: u32,
-    value: u32,
 ) -> Reply
-    requires { ⌜ Sized (storeOf (now values) (now classes) (now readers) (now claimants) (now exclusives) (now logs) sessions) session ⌝ }
-    ensures { λ r. ⌜ outcome (r .answer) (storeOf (now (values .entry)) (now (classes .entry)) (now (readers .exit)) (now (claimants .exit)) (now (exclusives .exit)) (now (logs .exit)) (r .sessions)) ≡ taken (Write session cell value) (storeOf (now (values .entry)) (now (classes .entry)) (now (readers .entry)) (now (claimants .entry)) (now (exclusives .entry)) (now (logs .entry)) sessions) ⌝ }
+    ensures { λ r. ⌜ outcome (r .answer) (storeOf (now (values .entry)) (now (classes .entry)) (now (readers .exit)) (now (claimants .exit)) (now (exclusives .exit)) (now (logs .exit)) (r .sessions)) ≡ taken (Read session cell) (storeOf (now (values .entry)) (now (classes .entry)) (now (readers .entry)) (now (claimants .entry)) (now (exclusives .entry)) (now (logs .entry)) sessions) ⌝ }
+{
+    let i = (session % 16) as usize;
+    let x = sessions.records[i];
+    let kept = read_own(
+        sessions,
+        x,
+        values,
+        classes,
+        readers,
+        claimants,
+        exclusives,
+        logs,
+        session,
+        cell,
+    );
+    let answer = kept.answer;
+    let y = kept.session;
+    sessions.records[i] = y;
+    Reply { answer, sessions }
+}
+
+// Write, once the lengths and the session fit.
+fn write_as(
+    sessions: Sessions,
+    x: Session,
+    values: &[u32],
+    classes: &[u8],
+    readers: &mut [u16],
+    claimants: &mut [u8],
+    exclusives: &mut [u8],
+    logs: &mut [u32],
+    session: u8,
+    cell: u32,
+    value: u32,
+) -> Kept
+    requires { ⌜ (Sized (storeOf (now values) (now classes) (now readers) (now claimants) (now exclusives) (now logs) sessions) session) × (x ≡ sessionAt sessions session) ⌝ }
+    ensures { λ r. ⌜ outcome (r .answer) (storeOf (now (values .entry)) (now (classes .entry)) (now (readers .exit)) (now (claimants .exit)) (now (exclusives .exit)) (now (logs .exit)) (withRecord sessions session (r .session))) ≡ taken (Write session cell value) (storeOf (now (values .entry)) (now (classes .entry)) (now (readers .entry)) (now (claimants .entry)) (now (exclusives .entry)) (now (logs .entry)) sessions) ⌝ }
 {
     let i = session as usize;
     let a = 128 * i;
     let e = a + 128;
-    let x = sessions.records[i];
     let l = locks::at(&readers[..], &claimants[..], &exclusives[..], cell);
     let p = decide::write(&logs[a..e], classes, x, l, cell, value);
     if let Plan::Update(k, v) = p {
         log::update(&mut logs[a..e], k as usize, v);
-        return Reply {
+        return Kept {
             answer: Answer::Done,
-            sessions,
+            session: x,
         };
     }
     if let Plan::Refuse(number) = p {
-        return Reply {
+        return Kept {
             answer: Answer::Refused(number),
-            sessions,
+            session: x,
         };
     }
     let count = x.count as usize;
@@ -371,23 +414,74 @@ fn write_as(
             found,
         );
         log::update(&mut logs[a..e], count, v);
-        sessions.records[i] = x.with_entry();
-        return Reply {
+        let y = x.with_entry();
+        return Kept {
             answer: Answer::Done,
-            sessions,
+            session: y,
         };
     }
     locks::roll_back(&logs[a..e], count, readers, claimants, exclusives, session);
-    sessions.records[i] = x.rested();
-    Reply {
+    let y = x.rested();
+    Kept {
         answer: Answer::Refused(6),
-        sessions,
+        session: y,
     }
+}
+
+// Write, of the session whose record is x.
+fn write_own(
+    sessions: Sessions,
+    x: Session,
+    values: &[u32],
+    classes: &[u8],
+    readers: &mut [u16],
+    claimants: &mut [u8],
+    exclusives: &mut [u8],
+    logs: &mut [u32],
+    session: u8,
+    cell: u32,
+    value: u32,
+) -> Kept
+    requires { ⌜ x ≡ sessionAt sessions (session % 16) ⌝ }
+    ensures { λ r. ⌜ outcome (r .answer) (storeOf (now (values .entry)) (now (classes .entry)) (now (readers .exit)) (now (claimants .exit)) (now (exclusives .exit)) (now (logs .exit)) (withRecord sessions (session % 16) (r .session))) ≡ taken (Write session cell value) (storeOf (now (values .entry)) (now (classes .entry)) (now (readers .entry)) (now (claimants .entry)) (now (exclusives .entry)) (now (logs .entry)) sessions) ⌝ }
+{
+    if !decide::lengths_fit(
+        values.len(),
+        classes.len(),
+        readers.len(),
+        claimants.len(),
+        exclusives.len(),
+        logs.len(),
+    ) {
+        return Kept {
+            answer: Answer::Refused(7),
+            session: x,
+        };
+    }
+    if 15 < session {
+        return Kept {
+            answer: Answer::Refused(1),
+            session: x,
+        };
+    }
+    write_as(
+        sessions,
+        x,
+        values,
+        classes,
+        readers,
+        claimants,
+        exclusives,
+        logs,
+        session,
+        cell,
+        value,
+    )
 }
 
 // Write: running only. A new cell is locked and entered as by read; then the entry is updated. 100.
 pub fn write(
-    sessions: Sessions,
+    mut sessions: Sessions,
     values: &[u32],
     classes: &[u8],
     readers: &mut [u16],
@@ -400,27 +494,11 @@ pub fn write(
 ) -> Reply
     ensures { λ r. ⌜ outcome (r .answer) (storeOf (now (values .entry)) (now (classes .entry)) (now (readers .exit)) (now (claimants .exit)) (now (exclusives .exit)) (now (logs .exit)) (r .sessions)) ≡ taken (Write session cell value) (storeOf (now (values .entry)) (now (classes .entry)) (now (readers .entry)) (now (claimants .entry)) (now (exclusives .entry)) (now (logs .entry)) sessions) ⌝ }
 {
-    if !decide::lengths_fit(
-        values.len(),
-        classes.len(),
-        readers.len(),
-        claimants.len(),
-        exclusives.len(),
-        logs.len(),
-    ) {
-        return Reply {
-            answer: Answer::Refused(7),
-            sessions,
-        };
-    }
-    if 15 < session {
-        return Reply {
-            answer: Answer::Refused(1),
-            sessions,
-        };
-    }
-    write_as(
+    let i = (session % 16) as usize;
+    let x = sessions.records[i];
+    let kept = write_own(
         sessions,
+        x,
         values,
         classes,
         readers,
@@ -430,7 +508,11 @@ pub fn write(
         session,
         cell,
         value,
-    )
+    );
+    let answer = kept.answer;
+    let y = kept.session;
+    sessions.records[i] = y;
+    Reply { answer, sessions }
 }
 
 // Seal: running only. The session leaves the readers of each cell entered but not written. 105 with nothing written, else 102.
