@@ -69,10 +69,9 @@ pub extern "C" fn rukkanei_set_up(
         logs,
     );
     let answer = reply.answer;
-    let left = reply.sessions;
     *number = number_of(answer);
     *value = value_of(answer);
-    left
+    reply.sessions
 }
 
 // Begin: 100, or a refusal.
@@ -102,10 +101,9 @@ pub extern "C" fn rukkanei_begin(
         session,
     );
     let answer = reply.answer;
-    let left = reply.sessions;
     *number = number_of(answer);
     *value = value_of(answer);
-    left
+    reply.sessions
 }
 
 // Read: 101 with the value, 6 with the session rolled back, or a refusal.
@@ -137,10 +135,9 @@ pub extern "C" fn rukkanei_read(
         cell,
     );
     let answer = reply.answer;
-    let left = reply.sessions;
     *number = number_of(answer);
     *value = value_of(answer);
-    left
+    reply.sessions
 }
 
 // Write: 100, 6 with the session rolled back, or a refusal.
@@ -174,10 +171,9 @@ pub extern "C" fn rukkanei_write(
         written,
     );
     let answer = reply.answer;
-    let left = reply.sessions;
     *number = number_of(answer);
     *value = value_of(answer);
-    left
+    reply.sessions
 }
 
 // Seal: 102, 105, or a refusal.
@@ -207,10 +203,9 @@ pub extern "C" fn rukkanei_seal(
         session,
     );
     let answer = reply.answer;
-    let left = reply.sessions;
     *number = number_of(answer);
     *value = value_of(answer);
-    left
+    reply.sessions
 }
 
 // Advance: 103, 104, 105, 6 with the session rolled back, or a refusal.
@@ -240,10 +235,9 @@ pub extern "C" fn rukkanei_advance(
         session,
     );
     let answer = reply.answer;
-    let left = reply.sessions;
     *number = number_of(answer);
     *value = value_of(answer);
-    left
+    reply.sessions
 }
 
 // Abandon: 100, or a refusal.
@@ -273,10 +267,9 @@ pub extern "C" fn rukkanei_abandon(
         session,
     );
     let answer = reply.answer;
-    let left = reply.sessions;
     *number = number_of(answer);
     *value = value_of(answer);
-    left
+    reply.sessions
 }
 
 // Peek's twin: 100, or a refusal.
@@ -308,10 +301,9 @@ pub extern "C" fn rukkanei_peek_number(
         cell,
     );
     let answer = reply.answer;
-    let left = reply.sessions;
     *number = number_of(answer);
     *value = value_of(answer);
-    left
+    reply.sessions
 }
 
 // Where a peek's word is: 1 and its index in the values, 2 and its index in the logs; 0, with the index as before, where the peek is refused.

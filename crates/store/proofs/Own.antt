@@ -1,5 +1,6 @@
 -- A call that is handed its session's own record x: the facts of proofs/Entering.antt at x, and the place of x among the sixteen records.
 use mathlib.Core.Path.{_≡_, ap, _∙_}
+use mathlib.Core.Bool.{Bool}
 use mathlib.Core.List.{List}
 use Prim.Native.Nat.{ℕ, _+_, _*_, _%_, _<_, _≤_}
 use native.Mathlib.Nat.{mod-eq-of-lt}
@@ -14,7 +15,7 @@ use Rattle.model.specs.declared.Answer.{Answer}
 use Rattle.model.specs.declared.Lock.{Lock}
 use Rattle.model.specs.declared.Plan.{Plan}
 use Rattle.locks.specs.Sweeps.{rolledBackIn}
-use Rattle.decide.specs.Own.{readOn, writeOn}
+use Rattle.decide.specs.Own.{recordOn, tested, readOn, writeOn}
 use Rattle.decide.proofs.Ways.{Entries}
 use Rattle.store.proofs.Carry.{leaves, keeps}
 
@@ -44,6 +45,9 @@ module _ (x y : Session) (e : x ≡ y) where
 
   pub write-at : (cs : List ℕ) (n : ℕ) (A : List ℕ) (l : Lock) (c v : ℕ) {p : Plan} → p ≡ writeOn cs n A x l c v → p ≡ writeOn cs n A y l c v
   write-at cs n A l c v h = h ∙ ap (λ z. writeOn cs n A z l c v) e
+
+  pub tested-at : (n : ℕ) (A : List ℕ) (fit : ℕ → Bool) {r : ℕ} → r ≡ tested (recordOn n A x) (fit (x .phase)) → r ≡ tested (recordOn n A y) (fit (y .phase))
+  tested-at n A fit h = h ∙ ap (λ z. tested (recordOn n A z) (fit (z .phase))) e
 
   pub room-at : y .count < 32 → x .count < 32
   room-at h = rw e h

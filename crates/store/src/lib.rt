@@ -20,7 +20,8 @@ use model::Reply;
 use model::Session;
 use model::Sessions;
 
-// A call's answer, and the record that it leaves its session.
+// A call's answer, and the record that it leaves its session. Begin, read, write and abandon hand on one record by value and put what is left of it
+// in its place at the end, so that the sixteen are copied in and out once. Their inner functions name the sixteen in their contracts alone.
 struct Kept {
     answer: Answer,
     session: Session,
@@ -142,6 +143,59 @@ pub fn set_up(
 
 // ---- the calls
 
+// Begin, of the session whose record is x.
+fn begin_own(
+    sessions: Sessions,
+    x: Session,
+    values: &[u32],
+    classes: &[u8],
+    readers: &[u16],
+    claimants: &[u8],
+    exclusives: &[u8],
+    logs: &[u32],
+    session: u8,
+) -> Kept
+    requires { ⌜ x ≡ sessionAt sessions (session % 16) ⌝ }
+    ensures { λ r. ⌜ outcome (r .answer) (storeOf (now (values .entry)) (now (classes .entry)) (now (readers .entry)) (now (claimants .entry)) (now (exclusives .entry)) (now (logs .entry)) (withRecord sessions (session % 16) (r .session))) ≡ taken (Begin session) (storeOf (now (values .entry)) (now (classes .entry)) (now (readers .entry)) (now (claimants .entry)) (now (exclusives .entry)) (now (logs .entry)) sessions) ⌝ }
+{
+    let n = values.len();
+    if !decide::lengths_fit(
+        n,
+        classes.len(),
+        readers.len(),
+        claimants.len(),
+        exclusives.len(),
+        logs.len(),
+    ) {
+        return Kept {
+            answer: Answer::Refused(7),
+            session: x,
+        };
+    }
+    if 15 < session {
+        return Kept {
+            answer: Answer::Refused(1),
+            session: x,
+        };
+    }
+    let i = session as usize;
+    let a = 128 * i;
+    let e = a + 128;
+    let phase = x.phase;
+    let turned = decide::tests(&logs[a..e], n, x, phase == 0);
+    if turned != 0 {
+        return Kept {
+            answer: Answer::Refused(turned),
+            session: x,
+        };
+    }
+    let y = x.begun();
+    Kept {
+        answer: Answer::Done,
+        session: y,
+    }
+}
+
 // Begin: idle only. The session runs with no entry. 100.
 pub fn begin(
     mut sessions: Sessions,
@@ -155,43 +209,23 @@ pub fn begin(
 ) -> Reply
     ensures { λ r. ⌜ outcome (r .answer) (storeOf (now (values .entry)) (now (classes .entry)) (now (readers .entry)) (now (claimants .entry)) (now (exclusives .entry)) (now (logs .entry)) (r .sessions)) ≡ taken (Begin session) (storeOf (now (values .entry)) (now (classes .entry)) (now (readers .entry)) (now (claimants .entry)) (now (exclusives .entry)) (now (logs .entry)) sessions) ⌝ }
 {
-    let n = values.len();
-    if !decide::lengths_fit(
-        n,
-        classes.len(),
-        readers.len(),
-        claimants.len(),
-        exclusives.len(),
-        logs.len(),
-    ) {
-        return Reply {
-            answer: Answer::Refused(7),
-            sessions,
-        };
-    }
-    if 15 < session {
-        return Reply {
-            answer: Answer::Refused(1),
-            sessions,
-        };
-    }
-    let i = session as usize;
-    let a = 128 * i;
-    let e = a + 128;
+    let i = (session % 16) as usize;
     let x = sessions.records[i];
-    let phase = x.phase;
-    let turned = decide::tests(&logs[a..e], n, x, phase == 0);
-    if turned != 0 {
-        return Reply {
-            answer: Answer::Refused(turned),
-            sessions,
-        };
-    }
-    sessions.records[i] = x.begun();
-    Reply {
-        answer: Answer::Done,
+    let kept = begin_own(
         sessions,
-    }
+        x,
+        values,
+        classes,
+        readers,
+        claimants,
+        exclusives,
+        logs,
+        session,
+    );
+    let answer = kept.answer;
+    let y = kept.session;
+    sessions.records[i] = y;
+    Reply { answer, sessions }
 }
 
 // A new cell is locked and entered: the session joins its readers, and entry count holds the value.
@@ -705,6 +739,61 @@ pub fn advance(
     }
 }
 
+// Abandon, of the session whose record is x.
+fn abandon_own(
+    sessions: Sessions,
+    x: Session,
+    values: &[u32],
+    classes: &[u8],
+    readers: &mut [u16],
+    claimants: &mut [u8],
+    exclusives: &mut [u8],
+    logs: &[u32],
+    session: u8,
+) -> Kept
+    requires { ⌜ x ≡ sessionAt sessions (session % 16) ⌝ }
+    ensures { λ r. ⌜ outcome (r .answer) (storeOf (now (values .entry)) (now (classes .entry)) (now (readers .exit)) (now (claimants .exit)) (now (exclusives .exit)) (now (logs .entry)) (withRecord sessions (session % 16) (r .session))) ≡ taken (Abandon session) (storeOf (now (values .entry)) (now (classes .entry)) (now (readers .entry)) (now (claimants .entry)) (now (exclusives .entry)) (now (logs .entry)) sessions) ⌝ }
+{
+    let n = values.len();
+    if !decide::lengths_fit(
+        n,
+        classes.len(),
+        readers.len(),
+        claimants.len(),
+        exclusives.len(),
+        logs.len(),
+    ) {
+        return Kept {
+            answer: Answer::Refused(7),
+            session: x,
+        };
+    }
+    if 15 < session {
+        return Kept {
+            answer: Answer::Refused(1),
+            session: x,
+        };
+    }
+    let i = session as usize;
+    let a = 128 * i;
+    let e = a + 128;
+    let phase = x.phase;
+    let turned = decide::tests(&logs[a..e], n, x, (phase == 1) | (phase == 2));
+    if turned != 0 {
+        return Kept {
+            answer: Answer::Refused(turned),
+            session: x,
+        };
+    }
+    let count = x.count as usize;
+    locks::roll_back(&logs[a..e], count, readers, claimants, exclusives, session);
+    let y = x.rested();
+    Kept {
+        answer: Answer::Done,
+        session: y,
+    }
+}
+
 // Abandon: phases 1 and 2. The session is rolled back. 100.
 pub fn abandon(
     mut sessions: Sessions,
@@ -718,45 +807,23 @@ pub fn abandon(
 ) -> Reply
     ensures { λ r. ⌜ outcome (r .answer) (storeOf (now (values .entry)) (now (classes .entry)) (now (readers .exit)) (now (claimants .exit)) (now (exclusives .exit)) (now (logs .entry)) (r .sessions)) ≡ taken (Abandon session) (storeOf (now (values .entry)) (now (classes .entry)) (now (readers .entry)) (now (claimants .entry)) (now (exclusives .entry)) (now (logs .entry)) sessions) ⌝ }
 {
-    let n = values.len();
-    if !decide::lengths_fit(
-        n,
-        classes.len(),
-        readers.len(),
-        claimants.len(),
-        exclusives.len(),
-        logs.len(),
-    ) {
-        return Reply {
-            answer: Answer::Refused(7),
-            sessions,
-        };
-    }
-    if 15 < session {
-        return Reply {
-            answer: Answer::Refused(1),
-            sessions,
-        };
-    }
-    let i = session as usize;
-    let a = 128 * i;
-    let e = a + 128;
+    let i = (session % 16) as usize;
     let x = sessions.records[i];
-    let phase = x.phase;
-    let turned = decide::tests(&logs[a..e], n, x, (phase == 1) | (phase == 2));
-    if turned != 0 {
-        return Reply {
-            answer: Answer::Refused(turned),
-            sessions,
-        };
-    }
-    let count = x.count as usize;
-    locks::roll_back(&logs[a..e], count, readers, claimants, exclusives, session);
-    sessions.records[i] = x.rested();
-    Reply {
-        answer: Answer::Done,
+    let kept = abandon_own(
         sessions,
-    }
+        x,
+        values,
+        classes,
+        readers,
+        claimants,
+        exclusives,
+        logs,
+        session,
+    );
+    let answer = kept.answer;
+    let y = kept.session;
+    sessions.records[i] = y;
+    Reply { answer, sessions }
 }
 
 // ---- peek
