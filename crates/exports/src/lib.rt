@@ -44,6 +44,14 @@ fn value_of(a: Answer) -> u32
     }
 }
 
+// The caller is told an answer: its number in n, its value in v.
+fn tell(a: Answer, n: &mut u32, v: &mut u32)
+    ensures { λ _. ⌜ (now (n .exit) ≡ number a) × (now (v .exit) ≡ valueOf a) ⌝ }
+{
+    *n = number_of(a);
+    *v = value_of(a);
+}
+
 // Set-up: 100, 7 or 8.
 #[no_mangle]
 pub extern "C" fn rukkanei_set_up(
@@ -69,8 +77,7 @@ pub extern "C" fn rukkanei_set_up(
         logs,
     );
     let answer = reply.answer;
-    *number = number_of(answer);
-    *value = value_of(answer);
+    tell(answer, number, value);
     reply.sessions
 }
 
@@ -101,8 +108,7 @@ pub extern "C" fn rukkanei_begin(
         session,
     );
     let answer = reply.answer;
-    *number = number_of(answer);
-    *value = value_of(answer);
+    tell(answer, number, value);
     reply.sessions
 }
 
@@ -135,8 +141,7 @@ pub extern "C" fn rukkanei_read(
         cell,
     );
     let answer = reply.answer;
-    *number = number_of(answer);
-    *value = value_of(answer);
+    tell(answer, number, value);
     reply.sessions
 }
 
@@ -171,8 +176,7 @@ pub extern "C" fn rukkanei_write(
         written,
     );
     let answer = reply.answer;
-    *number = number_of(answer);
-    *value = value_of(answer);
+    tell(answer, number, value);
     reply.sessions
 }
 
@@ -203,8 +207,7 @@ pub extern "C" fn rukkanei_seal(
         session,
     );
     let answer = reply.answer;
-    *number = number_of(answer);
-    *value = value_of(answer);
+    tell(answer, number, value);
     reply.sessions
 }
 
@@ -235,8 +238,7 @@ pub extern "C" fn rukkanei_advance(
         session,
     );
     let answer = reply.answer;
-    *number = number_of(answer);
-    *value = value_of(answer);
+    tell(answer, number, value);
     reply.sessions
 }
 
@@ -267,8 +269,7 @@ pub extern "C" fn rukkanei_abandon(
         session,
     );
     let answer = reply.answer;
-    *number = number_of(answer);
-    *value = value_of(answer);
+    tell(answer, number, value);
     reply.sessions
 }
 
@@ -301,8 +302,7 @@ pub extern "C" fn rukkanei_peek_number(
         cell,
     );
     let answer = reply.answer;
-    *number = number_of(answer);
-    *value = value_of(answer);
+    tell(answer, number, value);
     reply.sessions
 }
 
