@@ -35,7 +35,7 @@ use Rattle.store.proofs.Parts.{own, cut, cut-is, rolled-back, can-decid
 use Rattle.store.proofs.Tags.{Passed, passed, apart}
 
 -- the plan at entry k, as the contract of `advance_at` has it
-abbrev atEntry : Store → ℕ → ℕ → Plan
+abbrev pub atEntry : Store → ℕ → ℕ → Plan
 atEntry σ s k =
     advanceOn (part (σ .lent .logs) s) (recordOf σ s) (lockAt (σ .lent .locks) (cellAt (part (σ .lent .logs) s) 0 k)) s k
 
@@ -49,13 +49,16 @@ module _ (σ : Store) (s : ℕ) (z : Sized σ s) where
       carry-refuse s σ r ∙ carries (Advance s) σ (Refuse r) (advance-refused (σ .lent) s (own σ s) (z .lengths) (z .session) r (rw cut-is at e))
 
   module _ (k : ℕ) (e : dueOn (length (σ .lent .values)) (cut (σ .lent .logs) s) (own σ s) ≡ Slot k) where
-    pub due-carried : carried s (atEntry σ s k) σ ≡ taken (Advance s) σ
+    pub due-planned : atEntry σ s k ≡ planOf (Advance s) σ
     unfolding planOf size sessionAt
-    due-carried = carries (Advance s) σ (atEntry σ s k) (advance-agree (σ .lent) s (own σ s) (z .lengths) (z .session) k (rw cut-is at e))
+    due-planned = advance-agree (σ .lent) s (own σ s) (z .lengths) (z .session) k (rw cut-is at e)
 
-    pub can-advance : Admitted σ s × (k < recordOf σ s .count) × (2 ≤ recordOf σ s .phase) × (recordOf σ s .phase ≤ 4)
+    pub due-carried : carried s (atEntry σ s k) σ ≡ taken (Advance s) σ
+    due-carried = carries (Advance s) σ (atEntry σ s k) due-planned
+
+    pub due-admits : Admitted σ s × (k < recordOf σ s .count) × (2 ≤ recordOf σ s .phase) × (recordOf σ s .phase ≤ 4)
     unfolding size sessionAt
-    can-advance =
+    due-admits =
         let d = due-known (length (σ .lent .values)) (cut (σ .lent .logs) s) (own σ s) k e in
         let few = d .entries .count in
         let cells : below (length (σ .lent .values)) (cellAt (σ .lent .logs) s) (own σ s .count) ≡ true =

@@ -124,6 +124,10 @@ module _ (σ : Store) (s c : ℕ) (p : Plan) (e : p ≡ planOf (Peek s c) σ) wh
   pub peek-done : Passed 0 p → outcome Done σ ≡ taken (Peek s c) σ
   peek-done a = of-either way a ∙ carries (Peek s c) σ p e
 
+  -- past both words there is a refusal
+  pub peek-neither : Passed 14 p → Passed 15 p → (r : ℕ) × (p ≡ Refuse r)
+  peek-neither = of-neither way
+
   module _ (v logs : RefT (List ℕ)) where
     pub hands-store : (k : ℕ) → p ≡ ShowStore k → (γ : GName) → Handed v logs (shown s (planOf (Peek s c) σ)) (slPart v (bySize 4 c (v .ptr .1)) c (c + 1) γ)
     unfolding shown
@@ -136,4 +140,4 @@ module _ (σ : Store) (s c : ℕ) (p : Plan) (e : p ≡ planOf (Peek s c) σ) wh
 
     pub hands-nothing : Passed 14 p → Passed 15 p → (r : RefT (List ℕ)) → r .now ≡ [] → Handed v logs (shown s (planOf (Peek s c) σ)) r
     unfolding shown
-    hands-nothing a b r n = rw (← e, of-neither way a b .1) n
+    hands-nothing a b r n = rw (← e, peek-neither a b .1) n

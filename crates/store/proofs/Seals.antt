@@ -58,22 +58,33 @@ module _ {n : ℕ} {log : List ℕ} {x : Session} {p : Plan} where
   begins (commits w e) h i = absurd (passed 8 p CommitReads tt e i)
   begins (promotes w e) h i = e
 
+-- of the code's plan p, which is no refusal
+module _ (n : ℕ) (log : List ℕ) (x : Session) (p : Plan) (e : p ≡ sealOn n log x) (h : Passed 0 p) where
+  way : Sealing n log x p
+  way = rw e (sealing n log x)
+
+  pub seal-entries : Entries n log x
+  seal-entries = entries way h
+
+  pub seal-begins : Passed 8 p → p ≡ BeginPromotion
+  seal-begins = begins way h
+
 -- the code's plan p
 module _ (σ : Store) (s : ℕ) (z : Sized σ s) (p : Plan) (e : p ≡ sealOn (length (σ .lent .values)) (cut (σ .lent .logs) s) (own σ s)) where
-  planned : p ≡ planOf (Seal s) σ
+  pub seal-planned : p ≡ planOf (Seal s) σ
   unfolding planOf size sessionAt
-  planned = e ∙ rw cut-is (seal-agree (σ .lent) s (own σ s) (z .lengths) (z .session))
+  seal-planned = e ∙ rw cut-is (seal-agree (σ .lent) s (own σ s) (z .lengths) (z .session))
 
   pub seal-refused : (r : ℕ) → p ≡ Refuse r → outcome (Refused r) σ ≡ taken (Seal s) σ
-  seal-refused r f = carry-refuse s σ r ∙ carries (Seal s) σ (Refuse r) (sym f ∙ planned)
+  seal-refused r f = carry-refuse s σ r ∙ carries (Seal s) σ (Refuse r) (sym f ∙ seal-planned)
 
   -- no refusal
   module _ (h : Passed 0 p) where
-    way : Sealing (length (σ .lent .values)) (cut (σ .lent .logs) s) (own σ s) p
-    way = rw e (sealing (length (σ .lent .values)) (cut (σ .lent .logs) s) (own σ s))
+    fit : Entries (length (σ .lent .values)) (cut (σ .lent .logs) s) (own σ s)
+    fit = seal-entries _ _ _ p e h
 
     pub can-drop : (Swept s (cut (σ .lent .logs) s) (own σ s .count) (length (σ .lent .locks .readers))) × (length (σ .lent .locks .readers) ≤ 1024)
-    can-drop = let l = lengths-of (σ .lent) (z .lengths) in (can-sweep σ s z (own σ s) (entries way h), rw (l .readers) (l .few))
+    can-drop = let l = lengths-of (σ .lent) (z .lengths) in (can-sweep σ s z (own σ s) fit, rw (l .readers) (l .few))
 
     -- the reader sets R that the sweep leaves, and the record y
     module _ (R : List ℕ) (d : DropsReads (cut (σ .lent .logs) s) (own σ s .count) s (σ .lent .locks .readers) R) (y : Session) where
@@ -82,12 +93,12 @@ module _ (σ : Store) (s : ℕ) (z : Sized σ s) (p : Plan) (e : p ≡ sealOn (l
       unfolding sessionAt
       seal-commits f i =
           let l = locks-even σ s z in
-          carry-commit-reads s σ _ y (reads-dropped σ s (own σ s) (entries way h .count) R (l .0) (l .1) d) i ∙ carries (Seal s) σ CommitReads (sym f ∙ planned)
+          carry-commit-reads s σ _ y (reads-dropped σ s (own σ s) (fit .count) R (l .0) (l .1) d) i ∙ carries (Seal s) σ CommitReads (sym f ∙ seal-planned)
 
       pub seal-promotes : Passed 8 p → y ≡ moveTo 2 0 (own σ s)
           → outcome Sealed (leaves σ s (locksOf R (σ .lent .locks .claimants) (σ .lent .locks .exclusives)) (σ .lent .values) (σ .lent .logs) y) ≡ taken (Seal s) σ
       unfolding sessionAt
       seal-promotes f i =
           let l = locks-even σ s z in
-          carry-begin-promotion s σ _ y (reads-dropped σ s (own σ s) (entries way h .count) R (l .0) (l .1) d) i
-          ∙ carries (Seal s) σ BeginPromotion (sym (begins way h f) ∙ planned)
+          carry-begin-promotion s σ _ y (reads-dropped σ s (own σ s) (fit .count) R (l .0) (l .1) d) i
+          ∙ carries (Seal s) σ BeginPromotion (sym (seal-begins _ _ _ p e h f) ∙ seal-planned)

@@ -6,7 +6,7 @@ use Rattle.model.specs.Buffers.{Store}
 use Rattle.store.specs.Lent.{storeOf, Sized}
 use Rattle.store.proofs.Refusals.{refused-7, refused-1, sized}
 use Rattle.store.proofs.Parts.{part-fits, can-decide}
-use Rattle.store.proofs.Advances.{due-refused, due-carried, can-advance}
+use Rattle.store.proofs.Advances.{due-refused, due-carried, due-admits}
 use Rattle.store.proofs.advance.Statement.{statement}
 use Rattle.store.proofs.advance.Tie as tie
 
@@ -34,7 +34,7 @@ due-slot-requires : tie.Need-due-slot-requires
 due-slot-requires c κs = can-decide _ _ (fits (c .before .before))
 
 advance-at-requires : tie.Need-advance-at-requires
-advance-at-requires c κs = can-advance _ _ (fits (c .before .before .before .before .before .before .before .before .before .before)) _ (sym (c .before .before .before .before .before .before .before .due-slot .ensures) ∙ c .before .before .before .before .before .due2 .given .1)
+advance-at-requires c κs = due-admits _ _ (fits (c .before .before .before .before .before .before .before .before .before .before)) _ (sym (c .before .before .before .before .before .before .before .due-slot .ensures) ∙ c .before .before .before .before .before .due2 .given .1)
 
 returns-3 : tie.Need-returns-3
 returns-3 c = due-refused _ _ (fits (c .before .before .before .before .before .before)) _ (sym (c .before .before .before .due-slot .ensures) ∙ c .before .due .given .1)
