@@ -135,8 +135,11 @@ module _ (vs cs W : List ℕ) (ss : Sessions) (m s : ℕ) where
     can-advance = (sized .session, in-part)
 
     module _ (c : ℕ) (cell : c ≡ cellAt (cut W s) 0 k) where
-      -- with some plan, for what does not depend on the lock either
-      some : Decided (storeOn vs cs (replicate m free) W ss) s k c (lockAt (storeOn vs cs (replicate m free) W ss .lent .locks) c) _
+      -- with its lock and the plan there, for what does not depend on them
+      abbrev free-there : Lock
+      free-there = lockAt (apart (replicate m free)) c
+
+      some : Decided (storeOn vs cs (replicate m free) W ss) s k c free-there (advanceOn (cut W s) x free-there s k)
       unfolding sessionAt
       some = record { admitted = facts .0; slot = facts .1; from = facts .2; upto = facts .3; cell = cell; lock = refl; plan = refl }
 
