@@ -4,7 +4,7 @@ use borrow.Author.Tests.{not-true, not-false}
 use Rattle.model.specs.Buffers.{Store}
 use Rattle.store.specs.Lent.{storeOf, Sized}
 use Rattle.store.proofs.Refusals.{refused-7, refused-1, sized}
-use Rattle.store.proofs.Parts.{part-fits, can-decide, can-roll-back}
+use Rattle.store.proofs.Parts.{part-fits, can-decide, can-roll-back, part-start, part-stop, part-bytes, record-bytes, part-some}
 use Rattle.store.proofs.Tested.{abandon-refused, abandon-entries, abandon-cancels}
 use Rattle.store.proofs.abandon.Statement.{statement}
 use Rattle.store.proofs.abandon.Tie as tie
@@ -49,7 +49,12 @@ pub abandon-spec : {M : Type 1} → statement M
 abandon-spec =
     tie.close
     (tie.spec
-    (λ c κs. search needs) returns returns-2 (λ c. search needs) (λ c. search needs) (λ c. search needs) (λ c. search needs) (λ c. search needs)
-    (λ c. search needs) (λ c. search needs) part-tests-end tests-requires returns-3 (λ c. search needs) (λ c. search needs) (λ c. search needs)
-    (λ c. search needs) part-roll-back-end roll-back-requires (λ c κs. search needs) (λ c. search needs) (λ c. search needs) (λ c. search needs)
-    (λ c. search needs) (λ c. search needs) returns-4)
+    (λ c κs. tt) returns returns-2 (λ c. part-start _ _ (fits c)) (λ c. part-stop _ _ (fits c)) (λ c. record-bytes _ _ (fits c))
+    (λ c. (fits c) .session) (λ c. part-bytes _ _ (fits (c .before))) (λ c. part-some _) (λ c. part-some _) part-tests-end tests-requires
+    returns-3 (λ c. search needs) (λ c. part-bytes _ _ (fits (c .before .before .before .before .before))) (λ c. part-some _) (λ c. part-some _)
+    part-roll-back-end roll-back-requires (λ c κs. tt)
+    (λ c. record-bytes _ _ (fits (c .before .before .before .before .before .before .before .before .before .before .before .before .before .before .before .before .before)))
+    (λ c. (fits (c .before .before .before .before .before .before .before .before .before .before .before .before .before .before .before .before .before)) .session)
+    (λ c. c .before .before .before .before .before .before .before .roll-back .kept .1 .1 .0)
+    (λ c. c .before .before .before .before .before .before .before .roll-back .kept .1 .1 .1 .0)
+    (λ c. c .before .before .before .before .before .before .before .roll-back .kept .1 .1 .1 .1 .0) returns-4)

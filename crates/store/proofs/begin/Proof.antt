@@ -1,10 +1,9 @@
 -- `store::begin` meets its contract: refusals 7 and 1 are the model's, and past them the number that `decide::tests` answers is the plan's.
-use borrow.Author.Needs.{needs}
 use borrow.Author.Tests.{not-true, not-false}
 use Rattle.model.specs.Buffers.{Store}
 use Rattle.store.specs.Lent.{storeOf, Sized}
 use Rattle.store.proofs.Refusals.{refused-7, refused-1, sized}
-use Rattle.store.proofs.Parts.{part-fits, can-decide}
+use Rattle.store.proofs.Parts.{part-fits, can-decide, part-start, part-stop, part-bytes, record-bytes, part-some}
 use Rattle.store.proofs.Tested.{begin-refused, begin-starts}
 use Rattle.store.proofs.begin.Statement.{statement}
 use Rattle.store.proofs.begin.Tie as tie
@@ -42,6 +41,7 @@ pub begin-spec : {M : Type 1} → statement M
 begin-spec =
     tie.close
     (tie.spec
-    (λ c κs. search needs) returns returns-2 (λ c. search needs) (λ c. search needs) (λ c. search needs) (λ c. search needs) (λ c. search needs)
-    (λ c. search needs) (λ c. search needs) part-tests-end tests-requires returns-3 (λ c κs. search needs) (λ c. search needs)
-    (λ c. search needs) returns-4)
+    (λ c κs. tt) returns returns-2 (λ c. part-start _ _ (fits c)) (λ c. part-stop _ _ (fits c)) (λ c. record-bytes _ _ (fits c))
+    (λ c. (fits c) .session) (λ c. part-bytes _ _ (fits (c .before))) (λ c. part-some _) (λ c. part-some _) part-tests-end tests-requires
+    returns-3 (λ c κs. tt) (λ c. record-bytes _ _ (fits (c .before .before .before .before .before)))
+    (λ c. (fits (c .before .before .before .before .before)) .session) returns-4)

@@ -18,5 +18,8 @@ pub read-spec : {M : Type 1} → statement M
 read-spec =
     tie.close
     (tie.spec
-    (λ c κs. search needs) returns returns-2 read-as-requires (λ c. search needs) (λ c. search needs) (λ c. search needs) (λ c. search needs)
-    (λ c. search needs))
+    (λ c κs. tt) returns returns-2 read-as-requires
+    (λ c. c .before .before .before .before .before .before .before .before .read-as .kept .1 .1 .1 .0)
+    (λ c. c .before .before .before .before .before .before .before .before .read-as .kept .1 .1 .1 .1 .0)
+    (λ c. c .before .before .before .before .before .before .before .before .read-as .kept .1 .1 .1 .1 .1 .0)
+    (λ c. c .before .before .before .before .before .before .before .before .read-as .kept .1 .1 .1 .1 .1 .1 .0) (λ c. search needs))

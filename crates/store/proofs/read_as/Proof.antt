@@ -1,5 +1,5 @@
 -- `store::read_as` meets its contract: each way through it is one law of proofs/Entering.antt, at the plan that `decide::read` answers.
-use native.Mathlib.Omega.{arith}
+use mathlib.Core.Path.{refl}
 use borrow.Author.Needs.{needs}
 use Prim.Native.Nat.{ℕ}
 use Rattle.model.specs.Buffers.{Store}
@@ -8,7 +8,7 @@ use Rattle.model.specs.declared.Call.{Call}
 use Rattle.model.specs.declared.Plan.{Plan}
 use Rattle.model.specs.declared.Plan.the-variants.{Enter}
 use Rattle.store.specs.Lent.{storeOf}
-use Rattle.store.proofs.Parts.{part-fits, can-decide, locks-even, can-roll-back}
+use Rattle.store.proofs.Parts.{part-fits, can-decide, locks-even, can-roll-back, part-start, part-stop, part-bytes, record-bytes, part-some}
 use Rattle.store.proofs.Entering.{Decided, New, Left, OfRead, read-decided, refused, told-new, told-left, can-enter, rolled, read-told, read-entered}
 use Rattle.store.proofs.read_as.Statement.{statement}
 use Rattle.store.proofs.read_as.Tie as tie
@@ -61,12 +61,6 @@ enter-requires c κs = can-enter (is-new (c .before .before .before .before .bef
 with-entry-requires : tie.Need-with-entry-requires
 with-entry-requires c κs = is-new (c .before .before .before .before .before .before .before .before .before .before .before .before .before .before) .room
 
-mul-t40 : tie.Need-mul-t40
-mul-t40 c = omega (arith, is-new (c .before .before .before .before .before .before .before .before .before .before .before .before .before .before .before) .decided .sized .session)
-
-element-set-from-sessions : tie.Need-element-set-from-sessions
-element-set-from-sessions c = is-new (c .before .before .before .before .before .before .before .before .before .before .before .before .before .before .before) .decided .sized .session
-
 returns-3 : tie.Need-returns-3
 returns-3 c = let e = c .before .before .before .before .before .before .before .before .before in read-entered (is-new (e .before .before .before .before .before .before)) _ _ _ (e .enter .ensures .0) (e .enter .ensures .1) (c .with-entry .ensures)
 
@@ -76,12 +70,6 @@ part-roll-back-end c = part-fits _ _ (is-left (c .before) .decided .sized)
 roll-back-requires : tie.Need-roll-back-requires
 roll-back-requires c κs = let w = is-left (c .before .before .before .before .before) in can-roll-back _ _ (w .decided .sized) _ (w .entries)
 
-mul-t33 : tie.Need-mul-t33
-mul-t33 c = omega (arith, is-left (c .before .before .before .before .before .before .before .before .before .before .before .before .before) .decided .sized .session)
-
-element-set-from-sessions-2 : tie.Need-element-set-from-sessions-2
-element-set-from-sessions-2 c = is-left (c .before .before .before .before .before .before .before .before .before .before .before .before .before) .decided .sized .session
-
 returns-4 : tie.Need-returns-4
 returns-4 c = let r = c .before .before .before .before .before .before .before in rolled (is-left (r .before .before .before .before .before .before)) _ _ (r .roll-back .ensures) (c .rested .ensures)
 
@@ -89,11 +77,24 @@ pub read-as-spec : {M : Type 1} → statement M
 read-as-spec =
     tie.close
     (tie.spec
-    (λ c. search needs) (λ c. search needs) (λ c. search needs) (λ c. search needs) at-requires (λ c. search needs) (λ c. search needs)
-    (λ c. search needs) part-read-end read-requires (λ c. search needs) (λ c. search needs) (λ c. search needs) (λ c. search needs)
-    (λ c. search needs) returns (λ c. search needs) (λ c. search needs) (λ c. search needs) (λ c. search needs) (λ c. search needs) returns-2
-    (λ c. search needs) (λ c. search needs) (λ c. search needs) shared-slice-read-value (λ c. search needs) (λ c. search needs)
-    (λ c. search needs) part-enter-end enter-requires with-entry-requires mul-t40 element-set-from-sessions (λ c. search needs)
-    (λ c. search needs) (λ c. search needs) (λ c. search needs) returns-3 (λ c. search needs) (λ c. search needs) (λ c. search needs)
-    part-roll-back-end roll-back-requires (λ c κs. search needs) mul-t33 element-set-from-sessions-2 (λ c. search needs) (λ c. search needs)
-    (λ c. search needs) (λ c. search needs) returns-4)
+    (λ c. part-start _ _ (c .before .before .before .before .before .before .pre))
+    (λ c. part-stop _ _ (c .before .before .before .before .before .before .pre))
+    (λ c. record-bytes _ _ (c .before .before .before .before .before .before .pre))
+    (λ c. c .before .before .before .before .before .before .pre .session) at-requires
+    (λ c. part-bytes _ _ (c .before .before .before .before .before .before .before .before .before .before .before .pre)) (λ c. part-some _)
+    (λ c. part-some _) part-read-end read-requires (λ c. search needs) (λ c. refl) (λ c. refl) (λ c. refl) (λ c. refl) returns (λ c. search needs)
+    (λ c. refl) (λ c. refl) (λ c. refl) (λ c. refl) returns-2 (λ c. search needs) (λ c. search needs) (λ c. search needs) shared-slice-read-value
+    (λ c. part-bytes _ _ (c .before .before .before .before .before .before .before .before .before .before .before .before .before .before .before .before .before .before .before .before .before .before .before .pre))
+    (λ c. part-some _) (λ c. part-some _) part-enter-end enter-requires with-entry-requires
+    (λ c. record-bytes _ _ (c .before .before .before .before .before .before .before .before .before .before .before .before .before .before .before .before .before .before .before .before .before .before .before .before .before .before .before .before .before .before .before .before .before .before .pre))
+    (λ c. c .before .before .before .before .before .before .before .before .before .before .before .before .before .before .before .before .before .before .before .before .before .before .before .before .before .before .before .before .before .before .before .before .before .before .pre .session)
+    (λ c. c .before .before .before .before .before .before .before .before .before .enter .kept .0)
+    (λ c. c .before .before .before .before .before .before .before .before .before .enter .kept .1 .0)
+    (λ c. c .before .before .before .before .before .before .before .before .before .enter .kept .1 .1 .0) (λ c. search needs) returns-3
+    (λ c. part-bytes _ _ (c .before .before .before .before .before .before .before .before .before .before .before .before .before .before .before .before .before .before .pre))
+    (λ c. part-some _) (λ c. part-some _) part-roll-back-end roll-back-requires (λ c κs. tt)
+    (λ c. record-bytes _ _ (c .before .before .before .before .before .before .before .before .before .before .before .before .before .before .before .before .before .before .before .before .before .before .before .before .before .before .before .before .before .before .before .pre))
+    (λ c. c .before .before .before .before .before .before .before .before .before .before .before .before .before .before .before .before .before .before .before .before .before .before .before .before .before .before .before .before .before .before .before .pre .session)
+    (λ c. c .before .before .before .before .before .before .before .roll-back .kept .1 .1 .0)
+    (λ c. c .before .before .before .before .before .before .before .roll-back .kept .1 .1 .1 .0)
+    (λ c. c .before .before .before .before .before .before .before .roll-back .kept .1 .1 .1 .1 .0) (λ c. refl) returns-4)

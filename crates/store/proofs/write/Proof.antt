@@ -18,5 +18,8 @@ pub write-spec : {M : Type 1} → statement M
 write-spec =
     tie.close
     (tie.spec
-    (λ c κs. search needs) returns returns-2 write-as-requires (λ c. search needs) (λ c. search needs) (λ c. search needs) (λ c. search needs)
-    (λ c. search needs))
+    (λ c κs. tt) returns returns-2 write-as-requires
+    (λ c. c .before .before .before .before .before .before .before .before .write-as .kept .1 .1 .1 .0)
+    (λ c. c .before .before .before .before .before .before .before .before .write-as .kept .1 .1 .1 .1 .0)
+    (λ c. c .before .before .before .before .before .before .before .before .write-as .kept .1 .1 .1 .1 .1 .0)
+    (λ c. c .before .before .before .before .before .before .before .before .write-as .kept .1 .1 .1 .1 .1 .1 .0) (λ c. search needs))

@@ -1,5 +1,5 @@
 -- `store::write_as` meets its contract: each way through it is one law of proofs/Entering.antt, at the plan that `decide::write` answers.
-use native.Mathlib.Omega.{arith}
+use mathlib.Core.Path.{refl}
 use borrow.Author.Needs.{needs}
 use Prim.Native.Nat.{ℕ}
 use Rattle.model.specs.Buffers.{Store}
@@ -8,7 +8,7 @@ use Rattle.model.specs.declared.Call.{Call}
 use Rattle.model.specs.declared.Plan.{Plan}
 use Rattle.model.specs.declared.Plan.the-variants.{EnterUpdate}
 use Rattle.store.specs.Lent.{storeOf}
-use Rattle.store.proofs.Parts.{part-fits, can-decide-write, locks-even, can-roll-back}
+use Rattle.store.proofs.Parts.{part-fits, can-decide-write, locks-even, can-roll-back, part-start, part-stop, part-bytes, record-bytes, part-some}
 use Rattle.store.proofs.Entering.{Decided, New, Left, OfWrite, write-decided, refused, told-new, told-left, can-enter, rolled, can-update, write-updated, entered-fits, can-update-new, logs-still, write-entered}
 use Rattle.store.proofs.write_as.Statement.{statement}
 use Rattle.store.proofs.write_as.Tie as tie
@@ -64,9 +64,6 @@ part-enter-end c = part-fits _ _ (is-new (c .before .before .before .before .bef
 enter-requires : tie.Need-enter-requires
 enter-requires c κs = can-enter (is-new (c .before .before .before .before .before .before))
 
-mul-update-2 : tie.Need-mul-update-2
-mul-update-2 c = omega (arith, is-new (c .before .before .before .before .before .before .before .before .before .before .before .before .before .before .before) .decided .sized .session)
-
 part-update-end-2 : tie.Need-part-update-end-2
 part-update-end-2 c = let e = c .before .before .before .before .before .before .before .before in entered-fits (is-new (e .before .before .before .before .before .before .before)) _ (e .enter .ensures .1)
 
@@ -75,12 +72,6 @@ update-requires-2 c κs = let e = c .before .before .before .before .before .bef
 
 with-entry-requires : tie.Need-with-entry-requires
 with-entry-requires c κs = is-new (c .before .before .before .before .before .before .before .before .before .before .before .before .before .before .before .before .before .before .before) .room
-
-mul-t50 : tie.Need-mul-t50
-mul-t50 c = omega (arith, is-new (c .before .before .before .before .before .before .before .before .before .before .before .before .before .before .before .before .before .before .before .before) .decided .sized .session)
-
-element-set-from-sessions : tie.Need-element-set-from-sessions
-element-set-from-sessions c = is-new (c .before .before .before .before .before .before .before .before .before .before .before .before .before .before .before .before .before .before .before .before) .decided .sized .session
 
 same-length-12 : tie.Need-same-length-12
 same-length-12 c = let e = c .before .before .before .before .before .before .before .before .before .before .before .before .before in let p = e .before .before .before .before .before .before .before in
@@ -96,12 +87,6 @@ part-roll-back-end c = part-fits _ _ (is-left (c .before) .decided .sized)
 roll-back-requires : tie.Need-roll-back-requires
 roll-back-requires c κs = let w = is-left (c .before .before .before .before .before) in can-roll-back _ _ (w .decided .sized) _ (w .entries)
 
-mul-t35 : tie.Need-mul-t35
-mul-t35 c = omega (arith, is-left (c .before .before .before .before .before .before .before .before .before .before .before .before .before) .decided .sized .session)
-
-element-set-from-sessions-2 : tie.Need-element-set-from-sessions-2
-element-set-from-sessions-2 c = is-left (c .before .before .before .before .before .before .before .before .before .before .before .before .before) .decided .sized .session
-
 returns-4 : tie.Need-returns-4
 returns-4 c = let r = c .before .before .before .before .before .before .before in rolled (is-left (r .before .before .before .before .before .before)) _ _ (r .roll-back .ensures) (c .rested .ensures)
 
@@ -109,12 +94,30 @@ pub write-as-spec : {M : Type 1} → statement M
 write-as-spec =
     tie.close
     (tie.spec
-    (λ c. search needs) (λ c. search needs) (λ c. search needs) (λ c. search needs) at-requires (λ c. search needs) (λ c. search needs)
-    (λ c. search needs) part-write-end write-requires (λ c. search needs) (λ c. search needs) (λ c. search needs) (λ c. search needs)
-    part-update-end (λ c. search needs) update-requires (λ c. search needs) (λ c. search needs) (λ c. search needs) (λ c. search needs) returns
-    (λ c. search needs) (λ c. search needs) (λ c. search needs) (λ c. search needs) (λ c. search needs) returns-2 (λ c. search needs)
-    (λ c. search needs) (λ c. search needs) shared-slice-read-found (λ c. search needs) (λ c. search needs) (λ c. search needs) part-enter-end
-    enter-requires mul-update-2 (λ c. search needs) (λ c. search needs) part-update-end-2 update-requires-2 with-entry-requires mul-t50
-    element-set-from-sessions (λ c. search needs) (λ c. search needs) (λ c. search needs) same-length-12 returns-3 (λ c. search needs)
-    (λ c. search needs) (λ c. search needs) part-roll-back-end roll-back-requires (λ c κs. search needs) mul-t35 element-set-from-sessions-2
-    (λ c. search needs) (λ c. search needs) (λ c. search needs) (λ c. search needs) returns-4)
+    (λ c. part-start _ _ (c .before .before .before .before .before .before .pre))
+    (λ c. part-stop _ _ (c .before .before .before .before .before .before .pre))
+    (λ c. record-bytes _ _ (c .before .before .before .before .before .before .pre))
+    (λ c. c .before .before .before .before .before .before .pre .session) at-requires
+    (λ c. part-bytes _ _ (c .before .before .before .before .before .before .before .before .before .before .before .pre)) (λ c. part-some _)
+    (λ c. part-some _) part-write-end write-requires (λ c. search needs)
+    (λ c. part-bytes _ _ (c .before .before .before .before .before .before .before .before .before .before .before .before .before .before .before .before .before .pre))
+    (λ c. part-some _) (λ c. part-some _) part-update-end (λ c. search needs) update-requires (λ c. refl) (λ c. refl) (λ c. refl)
+    (λ c. search needs) returns (λ c. search needs) (λ c. refl) (λ c. refl) (λ c. refl) (λ c. refl) returns-2 (λ c. search needs)
+    (λ c. search needs) (λ c. search needs) shared-slice-read-found
+    (λ c. part-bytes _ _ (c .before .before .before .before .before .before .before .before .before .before .before .before .before .before .before .before .before .before .before .before .before .before .before .before .pre))
+    (λ c. part-some _) (λ c. part-some _) part-enter-end enter-requires
+    (λ c. part-bytes _ _ (c .before .before .before .before .before .before .before .before .before .before .before .before .before .before .before .before .before .before .before .before .before .before .before .before .before .before .before .before .before .before .before .before .before .before .pre))
+    (λ c. part-some _) (λ c. part-some _) part-update-end-2 update-requires-2 with-entry-requires
+    (λ c. record-bytes _ _ (c .before .before .before .before .before .before .before .before .before .before .before .before .before .before .before .before .before .before .before .before .before .before .before .before .before .before .before .before .before .before .before .before .before .before .before .before .before .before .before .pre))
+    (λ c. c .before .before .before .before .before .before .before .before .before .before .before .before .before .before .before .before .before .before .before .before .before .before .before .before .before .before .before .before .before .before .before .before .before .before .before .before .before .before .before .pre .session)
+    (λ c. c .before .before .before .before .before .before .before .before .before .before .before .before .before .enter .kept .0)
+    (λ c. c .before .before .before .before .before .before .before .before .before .before .before .before .before .enter .kept .1 .0)
+    (λ c. c .before .before .before .before .before .before .before .before .before .before .before .before .before .enter .kept .1 .1 .0)
+    same-length-12 returns-3
+    (λ c. part-bytes _ _ (c .before .before .before .before .before .before .before .before .before .before .before .before .before .before .before .before .before .before .pre))
+    (λ c. part-some _) (λ c. part-some _) part-roll-back-end roll-back-requires (λ c κs. tt)
+    (λ c. record-bytes _ _ (c .before .before .before .before .before .before .before .before .before .before .before .before .before .before .before .before .before .before .before .before .before .before .before .before .before .before .before .before .before .before .before .pre))
+    (λ c. c .before .before .before .before .before .before .before .before .before .before .before .before .before .before .before .before .before .before .before .before .before .before .before .before .before .before .before .before .before .before .before .pre .session)
+    (λ c. c .before .before .before .before .before .before .before .roll-back .kept .1 .1 .0)
+    (λ c. c .before .before .before .before .before .before .before .roll-back .kept .1 .1 .1 .0)
+    (λ c. c .before .before .before .before .before .before .before .roll-back .kept .1 .1 .1 .1 .0) (λ c. refl) returns-4)
