@@ -50,7 +50,7 @@ advance-spec =
     (tie.spec
     (λ c κs. tt) returns returns-2 (λ c. part-start _ _ (fits c)) (λ c. part-stop _ _ (fits c)) (λ c. record-bytes _ _ (fits c))
     (λ c. (fits c) .session) (λ c. part-bytes _ _ (fits (c .before))) (λ c. part-some _) (λ c. part-some _) part-due-slot-end due-slot-requires
-    (λ c. search needs) (λ c. search needs) (λ c. search needs) advance-at-requires returns-3
+    (λ c. c .match .keys1) (λ c. c .match .keys2) (λ c. search needs) advance-at-requires returns-3
     (λ c. c .before .before .before .before .before .before .before .before .advance-at .kept .1 .0)
     (λ c. c .before .before .before .before .before .before .before .before .advance-at .kept .1 .1 .1 .0)
     (λ c. c .before .before .before .before .before .before .before .before .advance-at .kept .1 .1 .1 .1 .0)

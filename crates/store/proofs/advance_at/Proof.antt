@@ -91,10 +91,10 @@ advance-at-spec =
     (λ c. record-bytes _ _ (c .before .before .before .before .before .before .pre .0 .sized))
     (λ c. c .before .before .before .before .before .before .pre .0 .sized .session)
     (λ c. part-bytes _ _ (c .before .before .before .before .before .before .before .pre .0 .sized)) (λ c. part-some _) (λ c. part-some _)
-    part-log-end (λ c κs. search needs) at-requires (λ c κs. search needs) (λ c. search needs) (λ c κs. tt) put-requires
+    part-log-end (λ c κs. search needs) at-requires (λ c κs. search needs) (λ c. c .match .keys1) (λ c κs. tt) put-requires
     (λ c. c .before .before .before .before .before .before .put .kept .0)
     (λ c. c .before .before .before .before .before .before .put .kept .1 .0)
-    (λ c. c .before .before .before .before .before .before .put .kept .1 .1 .0) returns (λ c. search needs) (λ c. search needs)
+    (λ c. c .before .before .before .before .before .before .put .kept .1 .1 .0) returns (λ c. c .match2 .keys1) (λ c. search needs)
     roll-back-requires (λ c κs. tt)
     (λ c. record-bytes _ _ (c .before .before .before .before .before .before .before .before .before .before .before .before .before .before .before .before .before .before .before .before .before .before .before .before .before .before .before .before .before .pre .0 .sized))
     (λ c. c .before .before .before .before .before .before .before .before .before .before .before .before .before .before .before .before .before .before .before .before .before .before .before .before .before .before .before .before .before .pre .0 .sized .session)
@@ -103,9 +103,9 @@ advance-at-spec =
     (λ c. c .before .before .before .before .before .before .before .roll-back .kept .1 .1 .1 .1 .0) returns-2 handle-requires
     (λ c. record-bytes _ _ (c .before .before .before .before .before .before .before .before .before .before .before .before .before .before .before .before .before .before .pre .0 .sized))
     (λ c. c .before .before .before .before .before .before .before .before .before .before .before .before .before .before .before .before .before .before .pre .0 .sized .session)
-    (λ c. search needs) (λ c κs. tt) put-requires-2 (λ c. c .before .before .before .before .before .before .put2 .kept .0)
+    (λ c. c .match3 .keys1) (λ c κs. tt) put-requires-2 (λ c. c .before .before .before .before .before .before .put2 .kept .0)
     (λ c. c .before .before .before .before .before .before .put2 .kept .1 .0)
-    (λ c. c .before .before .before .before .before .before .put2 .kept .1 .1 .0) returns-3 (λ c. search needs) (λ c. search needs)
+    (λ c. c .before .before .before .before .before .before .put2 .kept .1 .1 .0) returns-3 (λ c. c .match4 .keys1) (λ c. search needs)
     (λ c. search needs) slice-write-values (λ c. search needs) (λ c. refl) (λ c. refl) (λ c. refl) returns-4 vacated-requires put-requires-3
     (λ c. c .before .before .before .before .before .before .put3 .kept .0)
     (λ c. c .before .before .before .before .before .before .put3 .kept .1 .0)

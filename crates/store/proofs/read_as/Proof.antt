@@ -82,8 +82,9 @@ read-as-spec =
     (λ c. record-bytes _ _ (c .before .before .before .before .before .before .pre))
     (λ c. c .before .before .before .before .before .before .pre .session) at-requires
     (λ c. part-bytes _ _ (c .before .before .before .before .before .before .before .before .before .before .before .pre)) (λ c. part-some _)
-    (λ c. part-some _) part-read-end read-requires (λ c. search needs) (λ c. refl) (λ c. refl) (λ c. refl) (λ c. refl) returns (λ c. search needs)
-    (λ c. refl) (λ c. refl) (λ c. refl) (λ c. refl) returns-2 (λ c. search needs) (λ c. search needs) (λ c. search needs) shared-slice-read-value
+    (λ c. part-some _) part-read-end read-requires (λ c. c .match .keys1) (λ c. refl) (λ c. refl) (λ c. refl) (λ c. refl) returns
+    (λ c. c .match2 .keys1) (λ c. refl) (λ c. refl) (λ c. refl) (λ c. refl) returns-2 (λ c. search needs) (λ c. c .match3 .keys1)
+    (λ c. search needs) shared-slice-read-value
     (λ c. part-bytes _ _ (c .before .before .before .before .before .before .before .before .before .before .before .before .before .before .before .before .before .before .before .before .before .before .before .pre))
     (λ c. part-some _) (λ c. part-some _) part-enter-end enter-requires with-entry-requires
     (λ c. record-bytes _ _ (c .before .before .before .before .before .before .before .before .before .before .before .before .before .before .before .before .before .before .before .before .before .before .before .before .before .before .before .before .before .before .before .before .before .before .pre))

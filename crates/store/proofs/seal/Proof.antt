@@ -59,8 +59,8 @@ seal-spec =
     (tie.spec
     (λ c κs. tt) returns returns-2 (λ c. part-start _ _ (fits c)) (λ c. part-stop _ _ (fits c)) (λ c. record-bytes _ _ (fits c))
     (λ c. (fits c) .session) (λ c. part-bytes _ _ (fits (c .before))) (λ c. part-some _) (λ c. part-some _) part-seal-end seal-requires
-    (λ c. search needs) returns-3 (λ c. search needs) (λ c. part-bytes _ _ (fits (c .before .before .before .before .before))) (λ c. part-some _)
-    (λ c. part-some _) part-drop-reads-end drop-reads-requires (λ c. search needs) (λ c κs. tt)
+    (λ c. c .match .keys1) returns-3 (λ c. search needs) (λ c. part-bytes _ _ (fits (c .before .before .before .before .before)))
+    (λ c. part-some _) (λ c. part-some _) part-drop-reads-end drop-reads-requires (λ c. c .match2 .keys1) (λ c κs. tt)
     (λ c. record-bytes _ _ (fits (c .before .before .before .before .before .before .before .before .before .before .before .before .before)))
     (λ c. (fits (c .before .before .before .before .before .before .before .before .before .before .before .before .before)) .session)
     (λ c. c .before .before .before .before .before .drop-reads .kept .1 .1 .0) returns-4 (λ c κs. tt)

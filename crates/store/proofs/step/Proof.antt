@@ -1,6 +1,5 @@
 -- Each call's outcome is the callee's.
 use mathlib.Core.Path.{refl}
-use borrow.Author.Needs.{needs}
 use Rattle.store.proofs.step.Statement.{statement}
 use Rattle.store.proofs.step.Tie as tie
 
@@ -29,9 +28,10 @@ pub step-spec : {M : Type 1} → statement M
 step-spec =
     tie.close
     (tie.spec
-    (λ c. search needs) (λ c κs. tt) (λ c. search needs) (λ c κs. tt) (λ c. search needs) (λ c κs. tt) (λ c. search needs) (λ c κs. tt)
-    (λ c. search needs) (λ c κs. tt) (λ c. search needs) (λ c κs. tt) (λ c. search needs) (λ c κs. tt) (λ c. refl) (λ c. refl) (λ c. refl)
-    (λ c. refl) (λ c. refl) returns (λ c. refl) (λ c. c .before .before .before .before .before .before .before .before .read .kept .1 .1 .1 .0)
+    (λ c. c .match .keys1) (λ c κs. tt) (λ c. c .match .keys2) (λ c κs. tt) (λ c. c .match .keys3) (λ c κs. tt) (λ c. c .match .keys4)
+    (λ c κs. tt) (λ c. c .match .keys5) (λ c κs. tt) (λ c. c .match .keys6) (λ c κs. tt) (λ c. c .match .keys7) (λ c κs. tt) (λ c. refl)
+    (λ c. refl) (λ c. refl) (λ c. refl) (λ c. refl) returns (λ c. refl)
+    (λ c. c .before .before .before .before .before .before .before .before .read .kept .1 .1 .1 .0)
     (λ c. c .before .before .before .before .before .before .before .before .read .kept .1 .1 .1 .1 .0)
     (λ c. c .before .before .before .before .before .before .before .before .read .kept .1 .1 .1 .1 .1 .0)
     (λ c. c .before .before .before .before .before .before .before .before .read .kept .1 .1 .1 .1 .1 .1 .0) returns-2 (λ c. refl)

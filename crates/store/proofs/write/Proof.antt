@@ -1,5 +1,4 @@
 -- `store::write` meets its contract: refusals 7 and 1 are the model's, and past them `write_as` is the call.
-use borrow.Author.Needs.{needs}
 use borrow.Author.Tests.{not-true, not-false}
 use Rattle.store.proofs.Refusals.{refused-7, refused-1, sized}
 use Rattle.store.proofs.write.Statement.{statement}
@@ -22,4 +21,5 @@ write-spec =
     (λ c. c .before .before .before .before .before .before .before .before .write-as .kept .1 .1 .1 .0)
     (λ c. c .before .before .before .before .before .before .before .before .write-as .kept .1 .1 .1 .1 .0)
     (λ c. c .before .before .before .before .before .before .before .before .write-as .kept .1 .1 .1 .1 .1 .0)
-    (λ c. c .before .before .before .before .before .before .before .before .write-as .kept .1 .1 .1 .1 .1 .1 .0) (λ c. search needs))
+    (λ c. c .before .before .before .before .before .before .before .before .write-as .kept .1 .1 .1 .1 .1 .1 .0)
+    (λ c. c .before .before .before .before .before .before .before .before .write-as .ensures))

@@ -99,11 +99,11 @@ write-as-spec =
     (λ c. record-bytes _ _ (c .before .before .before .before .before .before .pre))
     (λ c. c .before .before .before .before .before .before .pre .session) at-requires
     (λ c. part-bytes _ _ (c .before .before .before .before .before .before .before .before .before .before .before .pre)) (λ c. part-some _)
-    (λ c. part-some _) part-write-end write-requires (λ c. search needs)
+    (λ c. part-some _) part-write-end write-requires (λ c. c .match .keys1)
     (λ c. part-bytes _ _ (c .before .before .before .before .before .before .before .before .before .before .before .before .before .before .before .before .before .pre))
     (λ c. part-some _) (λ c. part-some _) part-update-end (λ c. search needs) update-requires (λ c. refl) (λ c. refl) (λ c. refl)
-    (λ c. search needs) returns (λ c. search needs) (λ c. refl) (λ c. refl) (λ c. refl) (λ c. refl) returns-2 (λ c. search needs)
-    (λ c. search needs) (λ c. search needs) shared-slice-read-found
+    (λ c. search needs) returns (λ c. c .match2 .keys1) (λ c. refl) (λ c. refl) (λ c. refl) (λ c. refl) returns-2 (λ c. search needs)
+    (λ c. c .match3 .keys1) (λ c. search needs) shared-slice-read-found
     (λ c. part-bytes _ _ (c .before .before .before .before .before .before .before .before .before .before .before .before .before .before .before .before .before .before .before .before .before .before .before .before .pre))
     (λ c. part-some _) (λ c. part-some _) part-enter-end enter-requires
     (λ c. part-bytes _ _ (c .before .before .before .before .before .before .before .before .before .before .before .before .before .before .before .before .before .before .before .before .before .before .before .before .before .before .before .before .before .before .before .before .before .before .pre))
