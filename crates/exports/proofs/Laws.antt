@@ -6,8 +6,6 @@ use Rattle.model.specs.Buffers.{Store}
 use Rattle.model.specs.Step.{Outcome, outcome, number, valueOf, shown}
 use Rattle.model.specs.declared.Plan.{Plan}
 use Rattle.model.specs.declared.Plan.the-variants.{Refuse, ShowStore, ShowLog}
-use Rattle.store.proofs.Peeks.{Peeked, turned, plain, written}
-use Rattle.store.proofs.Tags.{Passed, passed}
 use Rattle.exports.specs.Said.{Said, said, inNumbers, Place, at, placeOf}
 
 pub in-numbers : (a : Answer) (σ : Store) (o : Outcome) (n v : ℕ) → outcome a σ ≡ o → n ≡ number a → v ≡ valueOf a → said n v σ ≡ inNumbers o
@@ -24,8 +22,6 @@ module _ (s j : ℕ) {p q : Plan} (e : p ≡ q) where
   unfolding shown
   place-log f = rw (sym e ∙ f)
 
-pub place-none : (s j : ℕ) {σ : Store} {c : ℕ} {p q : Plan} → Peeked σ s c q → p ≡ q → Passed 14 p → Passed 15 p → at 0 j ≡ placeOf (shown s q) j
-unfolding shown
-place-none s j {p = p} turned e a b = refl
-place-none s j {c = c} {p = p} (plain h) e a b = absurd (passed 14 p (ShowStore c) tt e a)
-place-none s j {p = p} (written {k} h l m) e a b = absurd (passed 15 p (ShowLog k) tt e b)
+  pub place-none : {r : ℕ} → p ≡ Refuse r → at 0 j ≡ placeOf (shown s q) j
+  unfolding shown
+  place-none f = rw (sym e ∙ f)

@@ -27,11 +27,11 @@ use Rattle.decide.specs.declared.Due.the-variants.{Refused, Slot}
 use Rattle.decide.specs.declared.Handled.{Handled}
 use Rattle.decide.proofs.Agree.{part-cell, due-known}
 use Rattle.store.specs.Lent.{carried, Sized, Admitted}
-use Rattle.store.proofs.Carry.{carries, carry-refuse, carry-roll-back}
+use Rattle.store.proofs.Carry.{carries, carry-roll-back}
 use Rattle.store.proofs.Refusals.{refused-7, refused-1, lengths-of}
 use Rattle.store.proofs.Parts.{cut, cut-is, part-fits, can-decide}
 use Rattle.store.proofs.Tags.{Passed}
-use Rattle.store.proofs.Advances.{atEntry, due-refused, due-planned, due-admits, inside, can-handle, leaves-waiting, leaves-owned, leaves-published, leaves-released}
+use Rattle.store.proofs.Advances.{atEntry, due-refused, due-planned, due-carried, due-admits, Decided, cell-inside, can-handle, leaves-waiting, leaves-owned, leaves-published, leaves-released}
 use Rattle.lockrun.specs.declared.Change.{Change}
 use Rattle.lockrun.specs.declared.Change.the-variants.{Keep, Claim, Own, Vacate, Withdraw}
 use Rattle.lockrun.specs.declared.Turn.{Turn}
@@ -96,7 +96,7 @@ module _ (vs cs W : List ℕ) (ss : Sessions) (m s : ℕ) where
         (λ i.
         let z = all-sized vs cs W ss m fit refl s h (let k = ltb-true s 16 i in omega arith) L q in
         let d : dueOn (length vs) (cut W s) x ≡ Refused r = rw cut-is (sym (rw (h, i) at e)) in
-        carry-refuse s (storeOn vs cs L W ss) r ∙ carries (Advance s) (storeOn vs cs L W ss) (Refuse r) (due-refused (storeOn vs cs L W ss) s z r d))
+        due-refused (storeOn vs cs L W ss) s z r d)
         (λ i. let n : r ≡ 1 = let d = rw (h, i) at e in cc in rw n (refused-1 (storeOn vs cs L W ss) fit (runs-fit (length vs) (length cs) m (length W) fit refl L q) (Advance s) h (let k = ltb-false s 16 i in omega arith))))
         (λ h. let n : r ≡ 7 = let d = rw h at e in cc in rw n (refused-7 (storeOn vs cs L W ss) fit (runs-fit (length vs) (length cs) m (length W) fit refl L q) (Advance s) h)),
   )
@@ -135,13 +135,19 @@ module _ (vs cs W : List ℕ) (ss : Sessions) (m s : ℕ) where
     can-advance = (sized .session, in-part)
 
     module _ (c : ℕ) (cell : c ≡ cellAt (cut W s) 0 k) where
-      pub in-values : c < length vs
+      -- with its lock and the plan there, for what does not depend on them
+      abbrev free-there : Lock
+      free-there = lockAt (apart (replicate m free)) c
+
+      some : Decided (storeOn vs cs (replicate m free) W ss) s k c free-there (advanceOn (cut W s) x free-there s k)
       unfolding sessionAt
-      in-values = inside (storeOn vs cs (replicate m free) W ss) s k (facts .0) (facts .1) c cell
+      some = record { admitted = facts .0; slot = facts .1; from = facts .2; upto = facts .3; cell = cell; lock = refl; plan = refl }
+
+      pub in-values : c < length vs
+      in-values = cell-inside some
 
       pub handles : (length (cut W s) ≡ 128) × (length vs ≤ 1024) × (x .count ≤ 32) × (x .phase ≤ 4) × (c < length vs) × (below (length vs) (cellAt (cut W s) 0) (x .count) ≡ true)
-      unfolding sessionAt
-      handles = can-handle (storeOn vs cs (replicate m free) W ss) s k (facts .0) (facts .1) c cell (facts .3)
+      handles = can-handle some
 
       -- l is the lock of the cell, and p the plan that the code decides
       module _ (l : Lock) (p : Plan) (e : p ≡ advanceOn (cut W s) x l s k) where
@@ -159,9 +165,12 @@ module _ (vs cs W : List ℕ) (ss : Sessions) (m s : ℕ) where
           lock : l ≡ lockAt (σ .lent .locks) c
           lock = sym (apart-at L c ∙ held)
 
-          finish : carried s (atEntry σ s k) σ ≡ taken (Advance s) σ
+          decided : Decided σ s k c l p
           unfolding sessionAt
-          finish = carries (Advance s) σ (atEntry σ s k) (due-planned σ s (sizes L q) k (known .1 .1))
+          decided = let a = admits L q in record { admitted = a .0; slot = a .1; from = a .2; upto = a .3; cell = cell; lock = lock; plan = e }
+
+          finish : carried s (atEntry σ s k) σ ≡ taken (Advance s) σ
+          finish = due-carried σ s (sizes L q) k (known .1 .1)
 
           planned : p ≡ planOf (Advance s) σ
           unfolding sessionAt
@@ -170,9 +179,9 @@ module _ (vs cs W : List ℕ) (ss : Sessions) (m s : ℕ) where
           put : (f : Lock → Lock) → apart (set L c (f (lockIn L c))) ≡ setLock c (f l) (apart L)
           put f = apart-set L c (f (lockIn L c)) ∙ ap (λ (h : Lock). setLock c (f h) (apart L)) held
 
-          waited : {i : ℕ} → p ≡ Wait i → outcome the-variants.Waiting (storeOn vs cs (sweptBy W (Claim s c) L) W ss) ≡ taken (Advance s) σ
+          waited : (i : ℕ) → p ≡ Wait i → outcome the-variants.Waiting (storeOn vs cs (sweptBy W (Claim s c) L) W ss) ≡ taken (Advance s) σ
           unfolding turnsOf swept cellOf changeOf sessionAt
-          waited h = leaves-waiting σ s k (admits L q .0) (admits L q .1) c cell l lock p e h (claim s l) (apart (sweptBy W (Claim s c) L)) refl (put (claim s)) ∙ finish
+          waited i h = leaves-waiting decided i h (claim s l) (apart (sweptBy W (Claim s c) L)) refl (put (claim s)) ∙ finish
 
           rolled : p ≡ RollBack → (y : Session) → y ≡ idle
               → outcome (the-variants.Refused 6) (storeOn vs cs (sweptBy W (Withdraw s (x .count)) L) W (record { records = set (ss .records) s y })) ≡ taken (Advance s) σ
@@ -180,35 +189,35 @@ module _ (vs cs W : List ℕ) (ss : Sessions) (m s : ℕ) where
 
           -- h is what handling the cell answers
           module _ (h : Handled) (d : h ≡ handledOn (cut W s) x c) where
-            owned : {i : ℕ} → p ≡ plans.Own i → outcome (h .answer) (storeOn vs cs (sweptBy W (Own s c) L) W (record { records = set (ss .records) s (h .session) })) ≡ taken (Advance s) σ
+            owned : (i : ℕ) → p ≡ plans.Own i → outcome (h .answer) (storeOn vs cs (sweptBy W (Own s c) L) W (record { records = set (ss .records) s (h .session) })) ≡ taken (Advance s) σ
             unfolding turnsOf swept cellOf changeOf sessionAt
-            owned f = leaves-owned σ s k (admits L q .0) (admits L q .1) c cell l lock p e h d f (own s l) (apart (sweptBy W (Own s c) L)) refl (put (own s)) ∙ finish
+            owned i f = leaves-owned decided h d i f (own s l) (apart (sweptBy W (Own s c) L)) refl (put (own s)) ∙ finish
 
-            published : {i v : ℕ} → p ≡ Publish i v → outcome (h .answer) (storeOn (set vs c v) cs (sweptBy W Keep L) W (record { records = set (ss .records) s (h .session) })) ≡ taken (Advance s) σ
+            published : (i v : ℕ) → p ≡ Publish i v → outcome (h .answer) (storeOn (set vs c v) cs (sweptBy W Keep L) W (record { records = set (ss .records) s (h .session) })) ≡ taken (Advance s) σ
             unfolding turnsOf swept sessionAt
-            published f = leaves-published σ s k (admits L q .0) (admits L q .1) c cell l lock p e h d f ∙ finish
+            published i v f = leaves-published decided h d i v f ∙ finish
 
             released : Passed 10 p → Passed 6 p → Passed 11 p → Passed 12 p
                 → outcome (h .answer) (storeOn vs cs (sweptBy W (Vacate s c) L) W (record { records = set (ss .records) s (h .session) })) ≡ taken (Advance s) σ
             unfolding turnsOf swept cellOf changeOf sessionAt
             released a b f i =
-                leaves-released σ s k (admits L q .0) (admits L q .1) c cell l lock p e h d (facts .2) (facts .3) a b f i (vacate s l) (apart (sweptBy W (Vacate s c) L)) refl (put (vacate s)) ∙ finish
+                leaves-released decided h d a b f i (vacate s l) (apart (sweptBy W (Vacate s c) L)) refl (put (vacate s)) ∙ finish
 
         abbrev Left : List ℕ → Turn → Type 0
         Left vs′ t = Turned (Advance s) vs cs m (cellAt W s k) l W ss vs′ W t
 
         pub advance-waits : {i : ℕ} → p ≡ Wait i → Left vs (record { reply = record { answer = the-variants.Waiting; sessions = ss }; change = Claim s c })
-        advance-waits h = (sized .session, λ L q g. waited L q g h)
+        advance-waits {i} h = (sized .session, λ L q g. waited L q g i h)
 
         pub advance-rolls : p ≡ RollBack → (y : Session) → y ≡ idle → Left vs (ends vs cs W ss m s sizes (the-variants.Refused 6) y (Withdraw s (x .count)))
         advance-rolls h y f = ((sized .session, few, words vs cs W ss m s sizes), λ L q g. rolled L q g h y f)
 
         module _ (h : Handled) (d : h ≡ handledOn (cut W s) x c) where
           pub advance-owns : {i : ℕ} → p ≡ plans.Own i → Left vs (ends vs cs W ss m s sizes (h .answer) (h .session) (Own s c))
-          advance-owns f = (sized .session, λ L q g. owned L q g h d f)
+          advance-owns {i} f = (sized .session, λ L q g. owned L q g h d i f)
 
           pub advance-publishes : {i v : ℕ} → p ≡ Publish i v → Left (set vs c v) (ends vs cs W ss m s sizes (h .answer) (h .session) Keep)
-          advance-publishes f = (tt, λ L q g. published L q g h d f)
+          advance-publishes {i} {v} f = (tt, λ L q g. published L q g h d i v f)
 
           pub advance-releases : Passed 10 p → Passed 6 p → Passed 11 p → Passed 12 p → Left vs (ends vs cs W ss m s sizes (h .answer) (h .session) (Vacate s c))
           advance-releases a b f i = (sized .session, λ L q g. released L q g h d a b f i)

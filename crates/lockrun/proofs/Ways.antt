@@ -30,7 +30,7 @@ use Rattle.store.specs.Lent.{Sized}
 use Rattle.store.proofs.Carry.{carries, carry-refuse, carry-roll-back, carry-cancel, carry-commit-reads, carry-begin-promotion}
 use Rattle.store.proofs.Refusals.{refused-7, refused-1, fit-is, plan-7, plan-1, sized, lengths-of}
 use Rattle.store.proofs.Parts.{cut, cut-is, puts, part-long, part-fits, can-decide, put-appended, put-updated}
-use Rattle.store.proofs.Peeks.{peek-planned, peeked, inside, in-logs, hands-store, hands-log, hands-nothing, peek-done}
+use Rattle.store.proofs.Peeks.{peek-planned, peek-inside, peek-logged, peek-refused, peek-done, hands-store, hands-log, hands-nothing}
 use Rattle.store.proofs.Tags.{Passed}
 use Rattle.store.proofs.Choices.{Choice, read-choice, write-choice, when-new, when-left, when-known}
 use Rattle.store.proofs.Entering.{Decided, New, OfRead, OfWrite, read-decided, write-decided, refused, read-told, read-entered, write-updated, write-entered}
@@ -287,15 +287,15 @@ module _ (n k m : ℕ) (W : List ℕ) (ss : Sessions) (b : Bool) (e : b ≡ leng
 
     pub peeks-on : b ≡ true → s ≤ 15 → (p : Plan) → p ≡ peekOn n (cut W s) (getD (ss .records) s idle) c → Peeks n k m W ss s c p
     unfolding sessionAt
-    peeks-on h l p f vs cs L i j q = peek-planned (storeOn vs cs L W ss) s c (any-sized s h l vs cs L i j q) p (rw i f)
+    peeks-on h l p f vs cs L i j q = peek-planned (storeOn vs cs L W ss) s (any-sized s h l vs cs L i j q) c p (rw i f)
 
 -- a peek's plan p, of every store with these lengths: its answer, and its part
 module _ (n k m : ℕ) (W : List ℕ) (ss : Sessions) (s c : ℕ) (p : Plan) (f : Peeks n k m W ss s c p) where
   pub peek-turns : (r : ℕ) → p ≡ Refuse r → Answered (Peek s c) n k m W ss (record { answer = Refused r; sessions = ss })
-  peek-turns r h vs cs L i j q = carry-refuse s (storeOn vs cs L W ss) r ∙ carries (Peek s c) (storeOn vs cs L W ss) (Refuse r) (sym h ∙ f vs cs L i j q)
+  peek-turns r h vs cs L i j q = peek-refused (storeOn vs cs L W ss) s c p (f vs cs L i j q) r h
 
   pub peek-shows : Passed 0 p → Answered (Peek s c) n k m W ss (record { answer = Done; sessions = ss })
-  peek-shows h vs cs L i j q = peek-done (peeked (storeOn vs cs L W ss) s c) p (f vs cs L i j q) h ∙ carries (Peek s c) (storeOn vs cs L W ss) _ refl
+  peek-shows h vs cs L i j q = peek-done (storeOn vs cs L W ss) s c p (f vs cs L i j q) h
 
 module _ (v w : RefT (List ℕ)) (k m : ℕ) (ss : Sessions) (s c : ℕ) (p : Plan) (f : Peeks (length (v .now)) k m (w .now) ss s c p) where
   abbrev σ : List ℕ → List Lock → Store
@@ -304,18 +304,18 @@ module _ (v w : RefT (List ℕ)) (k m : ℕ) (ss : Sessions) (s c : ℕ) (p : Pl
   at-one : p ≡ planOf (Peek s c) (σ (replicate k 0) (replicate m free))
   at-one = f (v .now) (replicate k 0) (replicate m free) refl (length-replicate k 0) (length-replicate m free)
 
-  pub store-there : {i : ℕ} → p ≡ ShowStore i → c < length (v .now)
-  store-there h = inside (peeked (σ (replicate k 0) (replicate m free)) s c) (sym at-one ∙ h)
+  pub store-there : {i : ℕ} → p ≡ ShowStore i → c + 1 ≤ length (v .now)
+  store-there {i} h = peek-inside (σ (replicate k 0) (replicate m free)) s c p at-one (ShowStore i) tt h
 
-  pub log-there : {i : ℕ} → p ≡ ShowLog i → (s < 16) × (i < 32) × (length (w .now) ≡ 2048)
-  log-there h = in-logs (peeked (σ (replicate k 0) (replicate m free)) s c) (sym at-one ∙ h)
+  pub log-there : {i : ℕ} → p ≡ ShowLog i → 128 * s + (4 * i + 2) + 1 ≤ length (w .now)
+  log-there {i} h = peek-logged (σ (replicate k 0) (replicate m free)) s c p at-one i h
 
   pub gives-store : {i : ℕ} (γ : GName) → p ≡ ShowStore i → HandsBack v k m w ss s c (slPart v (bySize 4 c (v .ptr .1)) c (c + 1) γ)
-  gives-store γ h cs L j q = hands-store v w γ (peeked (σ cs L) s c) (sym (f (v .now) cs L refl j q) ∙ h)
+  gives-store {i} γ h cs L j q = hands-store (σ cs L) s c p (f (v .now) cs L refl j q) v w i h γ
 
   pub gives-log : {i : ℕ} (γ : GName) → p ≡ ShowLog i
       → HandsBack v k m w ss s c (slPart w (bySize 4 (128 * s + (4 * i + 2)) (w .ptr .1)) (128 * s + (4 * i + 2)) (128 * s + (4 * i + 2) + 1) γ)
-  gives-log γ h cs L j q = hands-log v w γ (peeked (σ cs L) s c) (sym (f (v .now) cs L refl j q) ∙ h)
+  gives-log {i} γ h cs L j q = hands-log (σ cs L) s c p (f (v .now) cs L refl j q) v w i h γ
 
   pub gives-nothing : Passed 14 p → Passed 15 p → (r : RefT (List ℕ)) → r .now ≡ [] → HandsBack v k m w ss s c r
-  gives-nothing a b r n cs L j q = hands-nothing (peeked (σ cs L) s c) p (f (v .now) cs L refl j q) a b v w r n
+  gives-nothing a b r n cs L j q = hands-nothing (σ cs L) s c p (f (v .now) cs L refl j q) v w a b r n

@@ -1,6 +1,6 @@
--- What an advance decides at the entry that is due, what carrying it out asks, and what each plan leaves.
+-- Advance past refusals 7 and 1: the entry that is due, what is decided there, what carrying it out asks, and what each plan leaves.
 use mathlib.Core.Path.{_≡_, refl, sym, ap, _∙_}
-use mathlib.Core.Bool.{Bool, true, not, _&&_}
+use mathlib.Core.Bool.{true, not, _&&_}
 use mathlib.Core.List.{List}
 use Prim.Native.Nat.{ℕ, _<_, _≤_}
 use native.Mathlib.Omega.{arith}
@@ -9,30 +9,32 @@ use lib.Dec.{eqb}
 use lib.ListN.{length, set}
 use Rattle.model.specs.Readers.{otherReaders}
 use Rattle.model.specs.Search.{below}
-use Rattle.model.specs.Buffers.{Locks, Store, size, cellAt, lockAt, setLock, lockOn, claim, own, vacate, idle}
-use Rattle.model.specs.Step.{outcome, planOf, recordOf, rolledBack, handled, releasing, claimed, promotePlan}
+use Rattle.model.specs.Buffers
+use Rattle.model.specs.Buffers.{Locks, Store, size, idle, sessionAt, cellAt, entryAt, lockAt, setLock, claim, vacate}
+use Rattle.model.specs.Step.{outcome, taken, planOf, recordOf, handled, releasing, claimed, promotePlan}
 use Rattle.model.specs.declared.Session.{Session}
 use Rattle.model.specs.declared.Lock.{Lock}
 use Rattle.model.specs.declared.Call.the-variants.{Advance}
-use Rattle.model.specs.declared.Answer.the-variants.{Moved, Waiting, Refused}
+use Rattle.model.specs.declared.Answer.the-variants
+use Rattle.model.specs.declared.Answer.the-variants.{Moved, Waiting}
 use Rattle.model.specs.declared.Plan.{Plan}
-use Rattle.model.specs.declared.Plan.the-variants.{Refuse, RollBack, Wait, Own, Publish, Release}
+use Rattle.model.specs.declared.Plan.the-variants.{RollBack, Wait, Own, Publish, Release}
 use Rattle.model.proofs.Tools.{split}
 use Rattle.model.proofs.Laws.{below-is}
 use Rattle.log.specs.Slots.{part}
 use Rattle.locks.specs.Sweeps.{Swept, rolledBackIn}
 use Rattle.decide.specs.Own.{dueOn, advanceOn, handledOn}
-use Rattle.decide.specs.declared.Due.the-variants
+use Rattle.decide.specs.declared.Due.the-variants.{Refused, Slot}
 use Rattle.decide.specs.declared.Handled.{Handled}
 use Rattle.decide.proofs.Agree.{part-below, advance-refused, advance-agree, due-known, handled-agree, handled-moves, handled-releases}
 use Rattle.decide.proofs.Ways.{Entries}
 use Rattle.store.specs.Lent.{carried, Sized, Admitted}
-use Rattle.store.proofs.Carry.{leaves, keeps, carry-roll-back, carry-wait, carry-own, carry-publish, carry-release}
+use Rattle.store.proofs.Carry.{carries, refuses, put-on, leaves, keeps, carry-roll-back, carry-wait, carry-own, carry-publish, carry-release}
 use Rattle.store.proofs.Refusals.{lengths-of}
-use Rattle.store.proofs.Parts.{cut, cut-is, rolled-back, can-decide, locks-even, can-sweep}
-use Rattle.store.proofs.Tags.{Passed, passed}
+use Rattle.store.proofs.Parts.{own, cut, cut-is, rolled-back, can-decide, can-roll-back}
+use Rattle.store.proofs.Tags.{Passed, passed, apart}
 
--- the plan at entry k, as `advance_at` states it
+-- the plan at entry k, as the contract of `advance_at` has it
 abbrev pub atEntry : Store → ℕ → ℕ → Plan
 atEntry σ s k =
     advanceOn (part (σ .lent .logs) s) (recordOf σ s) (lockAt (σ .lent .locks) (cellAt (part (σ .lent .logs) s) 0 k)) s k
@@ -40,32 +42,36 @@ atEntry σ s k =
 -- ---- the entry that is due
 
 module _ (σ : Store) (s : ℕ) (z : Sized σ s) where
-  pub due-refused : (r : ℕ) → dueOn (length (σ .lent .values)) (cut (σ .lent .logs) s) (recordOf σ s) ≡ the-variants.Refused r → Refuse r ≡ planOf (Advance s) σ
-  unfolding planOf size
-  due-refused r e = advance-refused (σ .lent) s (recordOf σ s) (z .lengths) (z .session) r (rw cut-is at e)
+  pub due-refused : (r : ℕ) → dueOn (length (σ .lent .values)) (cut (σ .lent .logs) s) (own σ s) ≡ Refused r
+      → outcome (the-variants.Refused r) σ ≡ taken (Advance s) σ
+  unfolding planOf size sessionAt
+  due-refused r e = refuses (Advance s) σ r (advance-refused (σ .lent) s (own σ s) (z .lengths) (z .session) r (rw cut-is at e))
 
-  module _ (k : ℕ) (e : dueOn (length (σ .lent .values)) (cut (σ .lent .logs) s) (recordOf σ s) ≡ the-variants.Slot k) where
+  module _ (k : ℕ) (e : dueOn (length (σ .lent .values)) (cut (σ .lent .logs) s) (own σ s) ≡ Slot k) where
     pub due-planned : atEntry σ s k ≡ planOf (Advance s) σ
-    unfolding planOf size
-    due-planned = advance-agree (σ .lent) s (recordOf σ s) (z .lengths) (z .session) k (rw cut-is at e)
+    unfolding planOf size sessionAt
+    due-planned = advance-agree (σ .lent) s (own σ s) (z .lengths) (z .session) k (rw cut-is at e)
+
+    pub due-carried : carried s (atEntry σ s k) σ ≡ taken (Advance s) σ
+    due-carried = carries (Advance s) σ (atEntry σ s k) due-planned
 
     pub due-admits : Admitted σ s × (k < recordOf σ s .count) × (2 ≤ recordOf σ s .phase) × (recordOf σ s .phase ≤ 4)
-    unfolding size
+    unfolding size sessionAt
     due-admits =
-        let d = due-known (length (σ .lent .values)) (cut (σ .lent .logs) s) (recordOf σ s) k e in
+        let d = due-known (length (σ .lent .values)) (cut (σ .lent .logs) s) (own σ s) k e in
         let few = d .entries .count in
-        let cells : below (length (σ .lent .values)) (cellAt (σ .lent .logs) s) (recordOf σ s .count) ≡ true =
-        sym (part-below (σ .lent .logs) s (recordOf σ s .count) few (length (σ .lent .values))) ∙ rw cut-is at (d .entries .cells) in
+        let cells : below (length (σ .lent .values)) (cellAt (σ .lent .logs) s) (own σ s .count) ≡ true =
+        sym (part-below (σ .lent .logs) s (own σ s .count) few (length (σ .lent .values))) ∙ rw cut-is at (d .entries .cells) in
         (record { sized = z; count = few; cells = cells }, d .slot, d .from, d .upto)
 
--- ---- the five plans at an entry of cell c
+-- ---- what a plan p at an entry of cell c can be
 
-data Advanced (x : Session) (c : ℕ) : Plan → Type 0 where
-  rolls : Advanced x c RollBack
-  waits : Advanced x c (Wait c)
-  owns : x .phase ≡ 2 → Advanced x c (Own c)
-  publishes : {v : ℕ} → x .phase ≡ 3 → Advanced x c (Publish c v)
-  releases : (x .phase ≡ 2 → ⊥) → (x .phase ≡ 3 → ⊥) → Advanced x c (Release c)
+data Advanced (x : Session) (c : ℕ) (p : Plan) : Type 0 where
+  rolls : p ≡ RollBack → Advanced x c p
+  waits : p ≡ Wait c → Advanced x c p
+  owns : x .phase ≡ 2 → p ≡ Own c → Advanced x c p
+  publishes : (v : ℕ) → x .phase ≡ 3 → p ≡ Publish c v → Advanced x c p
+  releases : (x .phase ≡ 2 → ⊥) → (x .phase ≡ 3 → ⊥) → p ≡ Release c → Advanced x c p
 
 advanced : (log : List ℕ) (x : Session) (l : Lock) (s k : ℕ) → Advanced x (cellAt log 0 k) (advanceOn log x l s k)
 unfolding advanceOn promotePlan
@@ -73,123 +79,128 @@ advanced log x l s k =
     let c = cellAt log 0 k in
     split (Advanced x c) (eqb (x .phase) 2)
     (λ e.
-    split (Advanced x c) (claimed l && not (eqb (l .claimant) s)) (λ r. rolls)
-    (λ r. split (Advanced x c) (eqb (otherReaders s (l .readers)) 0) (λ a. owns (eqb-true (x .phase) 2 e)) (λ a. waits)))
+    split (Advanced x c) (claimed l && not (eqb (l .claimant) s)) (λ r. rolls refl)
+    (λ r. split (Advanced x c) (eqb (otherReaders s (l .readers)) 0) (λ a. owns (eqb-true (x .phase) 2 e) refl) (λ a. waits refl)))
     (λ e.
-    split (Advanced x c) (eqb (x .phase) 3) (λ f. publishes (eqb-true (x .phase) 3 f)) (λ f. releases (eqb-false (x .phase) 2 e) (eqb-false (x .phase) 3 f)))
+    split (Advanced x c) (eqb (x .phase) 3) (λ f. publishes (entryAt log 0 k .current) (eqb-true (x .phase) 3 f) refl)
+    (λ f. releases (eqb-false (x .phase) 2 e) (eqb-false (x .phase) 3 f) refl))
 
--- two plans that differ
-other : {P : Type 0} → _≡_ {A = ℕ} 0 1 → P
-other e = absurd (omega arith)
+module _ {x : Session} {c : ℕ} {p : Plan} where
+  of-wait : Advanced x c p → (d : ℕ) → p ≡ Wait d → Wait c ≡ p
+  of-wait (rolls f) d e = absurd (apart p RollBack (Wait d) tt f e)
+  of-wait (waits f) d e = sym f
+  of-wait (owns h f) d e = absurd (apart p (Own c) (Wait d) tt f e)
+  of-wait (publishes v h f) d e = absurd (apart p (Publish c v) (Wait d) tt f e)
+  of-wait (releases h i f) d e = absurd (apart p (Release c) (Wait d) tt f e)
 
-module _ {x : Session} {c : ℕ} where
-  is-wait : {p : Plan} {d : ℕ} → Advanced x c p → p ≡ Wait d → Wait c ≡ p
-  is-wait rolls e = other (cc)
-  is-wait waits e = refl
-  is-wait (owns f) e = other (cc)
-  is-wait (publishes f) e = other (cc)
-  is-wait (releases f g) e = other (cc)
+  of-own : Advanced x c p → (d : ℕ) → p ≡ Own d → (Own c ≡ p) × (x .phase ≡ 2)
+  of-own (rolls f) d e = absurd (apart p RollBack (Own d) tt f e)
+  of-own (waits f) d e = absurd (apart p (Wait c) (Own d) tt f e)
+  of-own (owns h f) d e = (sym f, h)
+  of-own (publishes v h f) d e = absurd (apart p (Publish c v) (Own d) tt f e)
+  of-own (releases h i f) d e = absurd (apart p (Release c) (Own d) tt f e)
 
-  is-own : {p : Plan} {d : ℕ} → Advanced x c p → p ≡ Own d → (Own c ≡ p) × (x .phase ≡ 2)
-  is-own rolls e = other (cc)
-  is-own waits e = other (cc)
-  is-own (owns f) e = (refl, f)
-  is-own (publishes f) e = other (cc)
-  is-own (releases f g) e = other (cc)
+  of-publish : Advanced x c p → (d v : ℕ) → p ≡ Publish d v → (Publish c v ≡ p) × (x .phase ≡ 3)
+  of-publish (rolls f) d v e = absurd (apart p RollBack (Publish d v) tt f e)
+  of-publish (waits f) d v e = absurd (apart p (Wait c) (Publish d v) tt f e)
+  of-publish (owns h f) d v e = absurd (apart p (Own c) (Publish d v) tt f e)
+  of-publish (publishes u h f) d v e = (cc, h)
+  of-publish (releases h i f) d v e = absurd (apart p (Release c) (Publish d v) tt f e)
 
-  is-publish : {p : Plan} {d v : ℕ} → Advanced x c p → p ≡ Publish d v → (Publish c v ≡ p) × (x .phase ≡ 3)
-  is-publish rolls e = other (cc)
-  is-publish waits e = other (cc)
-  is-publish (owns f) e = other (cc)
-  is-publish (publishes f) e = (cc, f)
-  is-publish (releases f g) e = other (cc)
-
-  is-release : {p : Plan} → Advanced x c p → Passed 10 p → Passed 6 p → Passed 11 p → Passed 12 p → (Release c ≡ p) × (x .phase ≡ 2 → ⊥) × (x .phase ≡ 3 → ⊥)
-  is-release rolls a b d e = absurd (passed 6 _ RollBack tt refl b)
-  is-release waits a b d e = absurd (passed 10 _ (Wait c) tt refl a)
-  is-release (owns f) a b d e = absurd (passed 11 _ (Own c) tt refl d)
-  is-release (publishes {v = v} f) a b d e = absurd (passed 12 _ (Publish c v) tt refl e)
-  is-release (releases f g) a b d e = (refl, f, g)
+  of-release : Advanced x c p → Passed 10 p → Passed 6 p → Passed 11 p → Passed 12 p → (Release c ≡ p) × (x .phase ≡ 2 → ⊥) × (x .phase ≡ 3 → ⊥)
+  of-release (rolls f) a b d e = absurd (passed 6 p RollBack tt f b)
+  of-release (waits f) a b d e = absurd (passed 10 p (Wait c) tt f a)
+  of-release (owns h f) a b d e = absurd (passed 11 p (Own c) tt f d)
+  of-release (publishes v h f) a b d e = absurd (passed 12 p (Publish c v) tt f e)
+  of-release (releases h i f) a b d e = (sym f, h, i)
 
 -- ---- carrying them out
 
-module _ (σ : Store) (s k : ℕ) (w : Admitted σ s) (slot : k < recordOf σ s .count) where
-  entries : Entries (length (σ .lent .values)) (cut (σ .lent .logs) s) (recordOf σ s)
-  unfolding size
-  entries = record { count = w .count; cells = rw cut-is (part-below (σ .lent .logs) s (recordOf σ s .count) (w .count) (length (σ .lent .values)) ∙ w .cells) }
+-- what the code knows once it has decided: c is the cell of entry k, l its lock, p the plan
+pub record Decided (σ : Store) (s k c : ℕ) (l : Lock) (p : Plan) : Type 0 where
+  pub admitted : Admitted σ s
+  pub slot : k < recordOf σ s .count
+  pub from : 2 ≤ recordOf σ s .phase
+  pub upto : recordOf σ s .phase ≤ 4
+  pub cell : c ≡ cellAt (cut (σ .lent .logs) s) 0 k
+  pub lock : l ≡ lockAt (σ .lent .locks) c
+  pub plan : p ≡ advanceOn (cut (σ .lent .logs) s) (own σ s) l s k
 
-  pub can-roll : (Swept s (cut (σ .lent .logs) s) (recordOf σ s .count) (length (σ .lent .locks .readers)))
+module _ {σ : Store} {s k c : ℕ} {l : Lock} {p : Plan} (w : Decided σ s k c l p) where
+  entries : Entries (length (σ .lent .values)) (cut (σ .lent .logs) s) (own σ s)
+  unfolding size sessionAt
+  entries =
+      let few = w .admitted .count in
+      record { count = few; cells = rw cut-is (part-below (σ .lent .logs) s (own σ s .count) few (length (σ .lent .values)) ∙ w .admitted .cells) }
+
+  pub cell-inside : c < length (σ .lent .values)
+  unfolding sessionAt
+  cell-inside = rw (w .cell) (below-is (length (σ .lent .values)) (cellAt (cut (σ .lent .logs) s) 0) (own σ s .count) (entries .cells) k (w .slot))
+
+  pub can-put : (c < length (σ .lent .locks .readers)) × (c < length (σ .lent .locks .claimants)) × (c < length (σ .lent .locks .exclusives))
+  can-put = let n = lengths-of (σ .lent) (w .admitted .sized .lengths) in let i = cell-inside in (omega arith, omega arith, omega arith)
+
+  pub can-roll : (Swept s (cut (σ .lent .logs) s) (own σ s .count) (length (σ .lent .locks .readers)))
       × (length (σ .lent .locks .claimants) ≡ length (σ .lent .locks .readers)) × (length (σ .lent .locks .exclusives) ≡ length (σ .lent .locks .readers))
-  can-roll = let l = locks-even σ s (w .sized) in (can-sweep σ s (w .sized) (recordOf σ s) entries, l .0, l .1)
+  can-roll = can-roll-back σ s (w .admitted .sized) (own σ s) entries
 
-  -- c is the cell of entry k, as the code reads it
-  module _ (c : ℕ) (cell : c ≡ cellAt (cut (σ .lent .logs) s) 0 k) where
-    pub inside : c < length (σ .lent .values)
-    inside = rw cell (below-is (length (σ .lent .values)) (cellAt (cut (σ .lent .logs) s) 0) (recordOf σ s .count) (entries .cells) k slot)
+  pub can-handle : (length (cut (σ .lent .logs) s) ≡ 128) × (length (σ .lent .values) ≤ 1024) × (own σ s .count ≤ 32) × (own σ s .phase ≤ 4)
+      × (c < length (σ .lent .values)) × (below (length (σ .lent .values)) (cellAt (cut (σ .lent .logs) s) 0) (own σ s .count) ≡ true)
+  unfolding sessionAt
+  can-handle = let d = can-decide σ s (w .admitted .sized) in (d .0, d .1, entries .count, w .upto, cell-inside, entries .cells)
 
-    pub can-put : (c < length (σ .lent .locks .readers)) × (c < length (σ .lent .locks .claimants)) × (c < length (σ .lent .locks .exclusives))
-    can-put = let l = lengths-of (σ .lent) (w .sized .lengths) in let i = inside in (omega arith, omega arith, omega arith)
+  way : Advanced (own σ s) c p
+  way = rw (w .plan, w .cell) (advanced (cut (σ .lent .logs) s) (own σ s) l s k)
 
-    pub can-handle : recordOf σ s .phase ≤ 4
-        → (length (cut (σ .lent .logs) s) ≡ 128) × (length (σ .lent .values) ≤ 1024) × (recordOf σ s .count ≤ 32) × (recordOf σ s .phase ≤ 4)
-        × (c < length (σ .lent .values)) × (below (length (σ .lent .values)) (cellAt (cut (σ .lent .logs) s) 0) (recordOf σ s .count) ≡ true)
-    can-handle h = let d = can-decide σ s (w .sized) in (d .0, d .1, entries .count, h, inside, entries .cells)
+  -- a plan that is p is the contract's
+  carried-at : (q : Plan) → q ≡ p → carried s q σ ≡ carried s (atEntry σ s k) σ
+  unfolding sessionAt
+  carried-at q e = ap (λ (r : Plan). carried s r σ) (e ∙ w .plan ∙ rw (w .lock, w .cell, cut-is))
 
-    -- l is its lock, and p the plan that the code decides
-    module _ (l : Lock) (lock : l ≡ lockAt (σ .lent .locks) c) (p : Plan) (e : p ≡ advanceOn (cut (σ .lent .logs) s) (recordOf σ s) l s k) where
-      plan-is : p ≡ atEntry σ s k
-      plan-is = e ∙ rw (lock, cell, cut-is)
+  pub leaves-rolled : p ≡ RollBack → (L : Locks) (y : Session) → L ≡ rolledBackIn (cut (σ .lent .logs) s) (own σ s .count) s (σ .lent .locks) → y ≡ idle
+      → outcome (the-variants.Refused 6) (leaves σ s L (σ .lent .values) (σ .lent .logs) y) ≡ carried s (atEntry σ s k) σ
+  unfolding sessionAt
+  leaves-rolled e L y a b = carry-roll-back s σ L y (rolled-back σ s (own σ s) (entries .count) L a) b ∙ carried-at RollBack (sym e)
 
-      way : Advanced (recordOf σ s) c p
-      way = rw (e, cell) (advanced (cut (σ .lent .logs) s) (recordOf σ s) l s k)
+  pub leaves-waiting : (d : ℕ) → p ≡ Wait d → (m : Lock) (L : Locks) → m ≡ claim s l → L ≡ setLock c m (σ .lent .locks)
+      → outcome Waiting (keeps σ L (σ .lent .logs)) ≡ carried s (atEntry σ s k) σ
+  leaves-waiting d e m L a b = carry-wait s σ c L (put-on (claim s) c _ L l m b a (w .lock)) ∙ carried-at (Wait c) (of-wait way d e)
 
-      -- a plan q that is p is the contract's
-      at-last : {q : Plan} → q ≡ p → carried s q σ ≡ carried s (atEntry σ s k) σ
-      at-last f = ap (λ (r : Plan). carried s r σ) (f ∙ plan-is)
+  -- h is what handling the cell leaves and answers
+  module _ (h : Handled) (g : h ≡ handledOn (cut (σ .lent .logs) s) (own σ s) c) where
+    record-is : h .session ≡ handled (σ .lent) s c (own σ s)
+    record-is = rw (g, cut-is) (handled-agree (σ .lent) s (own σ s) c (entries .count))
 
-      -- the lock m put in place of l
-      locked : (f : Lock → Lock) (m : Lock) (L : Locks) → m ≡ f l → L ≡ setLock c m (σ .lent .locks) → L ≡ lockOn c f (σ .lent .locks)
-      unfolding lockOn
-      locked f m L a b = b ∙ rw (a, lock)
+    moves : (own σ s .phase ≡ 4 → ⊥) → h .answer ≡ Moved
+    moves n = rw (g, cut-is) (handled-moves (σ .lent) s (own σ s) c n)
 
-      pub leaves-rolled : p ≡ RollBack → (L : Locks) (y : Session) → L ≡ rolledBackIn (cut (σ .lent .logs) s) (recordOf σ s .count) s (σ .lent .locks) → y ≡ idle
-          → outcome (Refused 6) (leaves σ s L (σ .lent .values) (σ .lent .logs) y) ≡ carried s (atEntry σ s k) σ
-      leaves-rolled t L y a b = carry-roll-back s σ L y (rolled-back σ s (recordOf σ s) (w .count) L a) b ∙ at-last (sym t)
+    ends : own σ s .phase ≡ 4 → h .answer ≡ releasing (σ .lent) s c (own σ s)
+    ends n = rw (g, cut-is) (handled-releases (σ .lent) s (own σ s) c (entries .count) n)
 
-      pub leaves-waiting : {d : ℕ} → p ≡ Wait d → (m : Lock) (L : Locks) → m ≡ claim s l → L ≡ setLock c m (σ .lent .locks)
-          → outcome Waiting (keeps σ L (σ .lent .logs)) ≡ carried s (atEntry σ s k) σ
-      leaves-waiting t m L a b = carry-wait s σ c L (locked (claim s) m L a b) ∙ at-last (is-wait way t)
+    pub leaves-owned : (d : ℕ) → p ≡ Own d → (m : Lock) (L : Locks) → m ≡ Buffers.own s l → L ≡ setLock c m (σ .lent .locks)
+        → outcome (h .answer) (leaves σ s L (σ .lent .values) (σ .lent .logs) (h .session)) ≡ carried s (atEntry σ s k) σ
+    unfolding sessionAt
+    leaves-owned d e m L a b =
+        let q = of-own way d e in
+        let two = q .1 in
+        carry-own s σ c (h .session) (h .answer) record-is L (moves (λ n. omega arith)) (put-on (Buffers.own s) c _ L l m b a (w .lock)) ∙ carried-at (Own c) (q .0)
 
-      -- h is what handling the cell answers
-      module _ (h : Handled) (g : h ≡ handledOn (cut (σ .lent .logs) s) (recordOf σ s) c) where
-        record-is : h .session ≡ handled (σ .lent) s c (recordOf σ s)
-        record-is = rw (g, cut-is) (handled-agree (σ .lent) s (recordOf σ s) c (w .count))
+    pub leaves-published : (d v : ℕ) → p ≡ Publish d v
+        → outcome (h .answer) (leaves σ s (σ .lent .locks) (set (σ .lent .values) c v) (σ .lent .logs) (h .session)) ≡ carried s (atEntry σ s k) σ
+    unfolding sessionAt
+    leaves-published d v e =
+        let q = of-publish way d v e in
+        let three = q .1 in
+        carry-publish s σ c (h .session) (h .answer) record-is v _ (moves (λ n. omega arith)) refl ∙ carried-at (Publish c v) (q .0)
 
-        moves : (recordOf σ s .phase ≡ 4 → ⊥) → h .answer ≡ Moved
-        moves n = rw (g, cut-is) (handled-moves (σ .lent) s (recordOf σ s) c n)
-
-        pub leaves-owned : {d : ℕ} → p ≡ Own d → (m : Lock) (L : Locks) → m ≡ own s l → L ≡ setLock c m (σ .lent .locks)
-            → outcome (h .answer) (leaves σ s L (σ .lent .values) (σ .lent .logs) (h .session)) ≡ carried s (atEntry σ s k) σ
-        leaves-owned t m L a b =
-            let q = is-own way t in
-            let f = q .1 in
-            carry-own s σ c (h .session) (h .answer) record-is L (moves (λ n. omega arith)) (locked (own s) m L a b) ∙ at-last (q .0)
-
-        pub leaves-published : {d v : ℕ} → p ≡ Publish d v
-            → outcome (h .answer) (leaves σ s (σ .lent .locks) (set (σ .lent .values) c v) (σ .lent .logs) (h .session)) ≡ carried s (atEntry σ s k) σ
-        leaves-published {v = v} t =
-            let q = is-publish way t in
-            let f = q .1 in
-            carry-publish s σ c (h .session) (h .answer) record-is v (set (σ .lent .values) c v) (moves (λ n. omega arith)) refl ∙ at-last (q .0)
-
-        pub leaves-released : 2 ≤ recordOf σ s .phase → recordOf σ s .phase ≤ 4 → Passed 10 p → Passed 6 p → Passed 11 p → Passed 12 p
-            → (m : Lock) (L : Locks) → m ≡ vacate s l → L ≡ setLock c m (σ .lent .locks)
-            → outcome (h .answer) (leaves σ s L (σ .lent .values) (σ .lent .logs) (h .session)) ≡ carried s (atEntry σ s k) σ
-        leaves-released two four i j f g′ m L a b =
-            let q = is-release way i j f g′ in
-            let last : recordOf σ s .phase ≡ 4 = four-of (recordOf σ s .phase) two four (q .1) (q .2) in
-            let answer : h .answer ≡ releasing (σ .lent) s c (recordOf σ s) = rw (g, cut-is) (handled-releases (σ .lent) s (recordOf σ s) c (w .count) last) in
-            carry-release s σ c (h .session) (h .answer) record-is L answer (locked (vacate s) m L a b) ∙ at-last (q .0)
-          where
-            four-of : (x : ℕ) → 2 ≤ x → x ≤ 4 → (x ≡ 2 → ⊥) → (x ≡ 3 → ⊥) → x ≡ 4
-            four-of x a b c d = omega arith
+    -- out of phases 2 and 3 there is phase 4 alone
+    pub leaves-released : Passed 10 p → Passed 6 p → Passed 11 p → Passed 12 p → (m : Lock) (L : Locks) → m ≡ vacate s l → L ≡ setLock c m (σ .lent .locks)
+        → outcome (h .answer) (leaves σ s L (σ .lent .values) (σ .lent .logs) (h .session)) ≡ carried s (atEntry σ s k) σ
+    unfolding sessionAt
+    leaves-released i j o u m L a b =
+        let q = of-release way i j o u in
+        let four = last (own σ s .phase) (w .from) (w .upto) (q .1) (q .2) in
+        carry-release s σ c (h .session) (h .answer) record-is L (ends four) (put-on (vacate s) c _ L l m b a (w .lock)) ∙ carried-at (Release c) (q .0)
+      where
+        last : (x : ℕ) → 2 ≤ x → x ≤ 4 → (x ≡ 2 → ⊥) → (x ≡ 3 → ⊥) → x ≡ 4
+        last x a b c d = omega arith

@@ -1,4 +1,4 @@
--- What a seal decides, what its sweep asks, and what each plan leaves.
+-- Seal past refusals 7 and 1: it is refused, or the session leaves the readers of what it did not write, and rests or begins promotion.
 use mathlib.Core.Path.{_≡_, refl, sym, _∙_}
 use mathlib.Core.Option.{Option, none, some}
 use mathlib.Core.List.{List}
@@ -7,39 +7,35 @@ use native.Mathlib.Omega.{arith}
 use borrow.Author.Tests.{eqb-true}
 use lib.Dec.{eqb}
 use lib.ListN.{length}
-use Rattle.model.specs.Buffers.{Store, size, targetIn}
-use Rattle.model.specs.Step.{planOf, recordOf, sealPlan}
+use Rattle.model.specs.Buffers.{Store, size, idle, sessionAt, moveTo, targetIn}
+use Rattle.model.specs.Step.{outcome, taken, planOf, sealPlan}
 use Rattle.model.specs.declared.Session.{Session}
 use Rattle.model.specs.declared.Call.the-variants.{Seal}
+use Rattle.model.specs.declared.Answer.the-variants.{Sealed, Committed, Refused}
 use Rattle.model.specs.declared.Plan.{Plan}
 use Rattle.model.specs.declared.Plan.the-variants.{Refuse, CommitReads, BeginPromotion}
 use Rattle.model.proofs.Tools.{split}
-use Rattle.locks.specs.Sweeps.{Swept}
+use Rattle.locks.specs.Sweeps.{locksOf, Swept, DropsReads}
 use Rattle.decide.specs.Own.{recordOn, guardOn, sealOn}
 use Rattle.decide.proofs.Agree.{seal-agree}
 use Rattle.decide.proofs.Ways.{Entries, record-entries}
 use Rattle.store.specs.Lent.{Sized}
+use Rattle.store.proofs.Carry.{carries, refuses, leaves, carry-commit-reads, carry-begin-promotion}
 use Rattle.store.proofs.Refusals.{lengths-of}
-use Rattle.store.proofs.Parts.{cut, cut-is, can-sweep}
+use Rattle.store.proofs.Parts.{own, cut, cut-is, reads-dropped, locks-even, can-sweep}
 use Rattle.store.proofs.Tags.{Passed, passed}
 
--- what the code decides from the part is the model's plan
-pub seal-planned : (σ : Store) (s : ℕ) → Sized σ s → (p : Plan) → p ≡ sealOn (length (σ .lent .values)) (cut (σ .lent .logs) s) (recordOf σ s) → p ≡ planOf (Seal s) σ
-unfolding planOf size
-seal-planned σ s z p e = e ∙ rw cut-is (seal-agree (σ .lent) s (recordOf σ s) (z .lengths) (z .session))
-
--- ---- the three plans of a seal; past the refusals the entries fit
-
-data Sealing (n : ℕ) (log : List ℕ) (x : Session) : Plan → Type 0 where
-  turned : {r : ℕ} → Sealing n log x (Refuse r)
-  commits : Entries n log x → Sealing n log x CommitReads
-  promotes : Entries n log x → Sealing n log x BeginPromotion
+-- what a plan p of a seal can be; the entries fit where it is no refusal
+data Sealing (n : ℕ) (log : List ℕ) (x : Session) (p : Plan) : Type 0 where
+  turned : (r : ℕ) → p ≡ Refuse r → Sealing n log x p
+  commits : Entries n log x → p ≡ CommitReads → Sealing n log x p
+  promotes : Entries n log x → p ≡ BeginPromotion → Sealing n log x p
 
 module _ (n : ℕ) (log : List ℕ) (x : Session) where
   by-target : Entries n log x → (o : Option ℕ) → Sealing n log x (sealPlan o)
   unfolding sealPlan
-  by-target w none = commits w
-  by-target w (some c) = promotes w
+  by-target w none = commits w refl
+  by-target w (some c) = promotes w refl
 
   sealing : Sealing n log x (sealOn n log x)
   unfolding sealOn guardOn
@@ -47,28 +43,62 @@ module _ (n : ℕ) (log : List ℕ) (x : Session) where
       split (Sealing n log x) (recordOn n log x)
       (λ w.
       split (Sealing n log x) (eqb (x .phase) 1)
-      (λ f. let one = eqb-true (x .phase) 1 f in by-target (record-entries n log x w (omega arith)) (targetIn log 0 (x .count) 0))
-      (λ f. turned))
-      (λ w. turned)
+      (λ f. let h = eqb-true (x .phase) 1 f in by-target (record-entries n log x w (omega arith)) (targetIn log 0 (x .count) 0))
+      (λ f. turned 2 refl))
+      (λ w. turned 9 refl)
 
-  entries : {q : Plan} → Sealing n log x q → (p : Plan) → p ≡ q → Passed 0 p → Entries n log x
-  entries turned p e h = absurd (passed 0 p _ tt e h)
-  entries (commits w) p e h = w
-  entries (promotes w) p e h = w
+module _ {n : ℕ} {log : List ℕ} {x : Session} {p : Plan} where
+  entries : Sealing n log x p → Passed 0 p → Entries n log x
+  entries (turned r e) h = absurd (passed 0 p (Refuse r) tt e h)
+  entries (commits w e) h = w
+  entries (promotes w e) h = w
 
-  begins : {q : Plan} → Sealing n log x q → (p : Plan) → p ≡ q → Passed 0 p → Passed 8 p → p ≡ BeginPromotion
-  begins turned p e h i = absurd (passed 0 p _ tt e h)
-  begins (commits w) p e h i = absurd (passed 8 p _ tt e i)
-  begins (promotes w) p e h i = e
+  begins : Sealing n log x p → Passed 0 p → Passed 8 p → p ≡ BeginPromotion
+  begins (turned r e) h i = absurd (passed 0 p (Refuse r) tt e h)
+  begins (commits w e) h i = absurd (passed 8 p CommitReads tt e i)
+  begins (promotes w e) h i = e
 
-  -- of the code's plan p, which is no refusal
-  module _ (p : Plan) (e : p ≡ sealOn n log x) (h : Passed 0 p) where
-    pub seal-entries : Entries n log x
-    seal-entries = entries sealing p e h
+-- of the code's plan p, which is no refusal
+module _ (n : ℕ) (log : List ℕ) (x : Session) (p : Plan) (e : p ≡ sealOn n log x) (h : Passed 0 p) where
+  way : Sealing n log x p
+  way = rw e (sealing n log x)
 
-    pub seal-begins : Passed 8 p → p ≡ BeginPromotion
-    seal-begins i = begins sealing p e h i
+  pub seal-entries : Entries n log x
+  seal-entries = entries way h
 
-pub can-drop : (σ : Store) (s : ℕ) → Sized σ s → (x : Session) → Entries (length (σ .lent .values)) (cut (σ .lent .logs) s) x
-    → (Swept s (cut (σ .lent .logs) s) (x .count) (length (σ .lent .locks .readers))) × (length (σ .lent .locks .readers) ≤ 1024)
-can-drop σ s z x w = let l = lengths-of (σ .lent) (z .lengths) in (can-sweep σ s z x w, rw (l .readers) (l .few))
+  pub seal-begins : Passed 8 p → p ≡ BeginPromotion
+  seal-begins = begins way h
+
+-- the code's plan p
+module _ (σ : Store) (s : ℕ) (z : Sized σ s) (p : Plan) (e : p ≡ sealOn (length (σ .lent .values)) (cut (σ .lent .logs) s) (own σ s)) where
+  pub seal-planned : p ≡ planOf (Seal s) σ
+  unfolding planOf size sessionAt
+  seal-planned = e ∙ rw cut-is (seal-agree (σ .lent) s (own σ s) (z .lengths) (z .session))
+
+  pub seal-refused : (r : ℕ) → p ≡ Refuse r → outcome (Refused r) σ ≡ taken (Seal s) σ
+  seal-refused r f = refuses (Seal s) σ r (sym f ∙ seal-planned)
+
+  -- no refusal
+  module _ (h : Passed 0 p) where
+    fit : Entries (length (σ .lent .values)) (cut (σ .lent .logs) s) (own σ s)
+    fit = seal-entries _ _ _ p e h
+
+    pub can-drop : (Swept s (cut (σ .lent .logs) s) (own σ s .count) (length (σ .lent .locks .readers))) × (length (σ .lent .locks .readers) ≤ 1024)
+    can-drop = let l = lengths-of (σ .lent) (z .lengths) in (can-sweep σ s z (own σ s) fit, rw (l .readers) (l .few))
+
+    -- the reader sets R that the sweep leaves, and the record y
+    module _ (R : List ℕ) (d : DropsReads (cut (σ .lent .logs) s) (own σ s .count) s (σ .lent .locks .readers) R) (y : Session) where
+      pub seal-commits : p ≡ CommitReads → y ≡ idle
+          → outcome Committed (leaves σ s (locksOf R (σ .lent .locks .claimants) (σ .lent .locks .exclusives)) (σ .lent .values) (σ .lent .logs) y) ≡ taken (Seal s) σ
+      unfolding sessionAt
+      seal-commits f i =
+          let l = locks-even σ s z in
+          carry-commit-reads s σ _ y (reads-dropped σ s (own σ s) (fit .count) R (l .0) (l .1) d) i ∙ carries (Seal s) σ CommitReads (sym f ∙ seal-planned)
+
+      pub seal-promotes : Passed 8 p → y ≡ moveTo 2 0 (own σ s)
+          → outcome Sealed (leaves σ s (locksOf R (σ .lent .locks .claimants) (σ .lent .locks .exclusives)) (σ .lent .values) (σ .lent .logs) y) ≡ taken (Seal s) σ
+      unfolding sessionAt
+      seal-promotes f i =
+          let l = locks-even σ s z in
+          carry-begin-promotion s σ _ y (reads-dropped σ s (own σ s) (fit .count) R (l .0) (l .1) d) i
+          ∙ carries (Seal s) σ BeginPromotion (sym (seal-begins _ _ _ p e h f) ∙ seal-planned)

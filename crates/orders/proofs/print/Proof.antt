@@ -21,35 +21,11 @@ two c =
     let h = one (c .before) in
     ⊎-elim (λ w. (omega arith, ap length (w .2) ∙ simp length-set (h .1))) (λ w. (omega arith, ap length (w .1) ∙ h .1)) (c .if2 .came)
 
-cast-text : tie.Need-cast-text
-cast-text c = search needs
-
-add-text : tie.Need-add-text
-add-text c = search needs
-
-array-write-text : tie.Need-array-write-text
-array-write-text c = search needs
-
-add-n : tie.Need-add-n
-add-n c = search needs
-
-cast-text-2 : tie.Need-cast-text-2
-cast-text-2 c = search needs
-
-add-text-2 : tie.Need-add-text-2
-add-text-2 c = search needs
-
 array-write-text-2 : tie.Need-array-write-text-2
 array-write-text-2 c = omega (arith, one (c .before))
 
 add-n-2 : tie.Need-add-n-2
 add-n-2 c = let h = one (c .before .before) in search needs
-
-cast-text-3 : tie.Need-cast-text-3
-cast-text-3 c = search needs
-
-add-text-3 : tie.Need-add-text-3
-add-text-3 c = search needs
 
 array-write-text-3 : tie.Need-array-write-text-3
 array-write-text-3 c = omega (arith, two c)
@@ -69,31 +45,10 @@ array-share-prefix-text c = let h = two (c .before) in simp length-set (omega ar
 slice-aggregate-write-all : tie.Need-slice-aggregate-write-all
 slice-aggregate-write-all c = let h = two (c .before .before) in sym (length-take-le _ _ (simp length-set (omega arith)))
 
-write-all-requires : tie.Need-write-all-requires
-write-all-requires c κs = search needs
-
-returns : tie.Need-returns
-returns c = search needs
-
 pub print-spec : {M : Type 1} → statement M
 print-spec =
     tie.close
     (tie.spec
-    cast-text
-    add-text
-    array-write-text
-    add-n
-    cast-text-2
-    add-text-2
-    array-write-text-2
-    add-n-2
-    cast-text-3
-    add-text-3
-    array-write-text-3
-    add-text-4
-    array-write-text-4
-    add-text-5
-    array-share-prefix-text
-    slice-aggregate-write-all
-    write-all-requires
-    returns)
+    (λ c. search needs) (λ c. search needs) (λ c. search needs) (λ c. search needs) (λ c. search needs) (λ c. search needs) array-write-text-2
+    add-n-2 (λ c. search needs) (λ c. search needs) array-write-text-3 add-text-4 array-write-text-4 add-text-5 array-share-prefix-text
+    slice-aggregate-write-all (λ c κs. search needs) (λ c. search needs))

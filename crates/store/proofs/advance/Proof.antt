@@ -1,121 +1,57 @@
--- Refused, or carried out at the entry that is due, which admits what `advance_at` asks for.
+-- `store::advance` meets its contract: refused by the lengths or the session, or as `decide::due_slot` answers; else `advance_at` at the entry that is due.
 use mathlib.Core.Path.{sym, _∙_}
-use native.Mathlib.Omega.{arith}
-use borrow.Author.Tests.{not-true, not-false}
 use borrow.Author.Needs.{needs}
-use Rattle.model.specs.Buffers.{sessionAt}
-use Rattle.store.specs.Lent.{storeOf}
-use Rattle.store.proofs.Carry.{carries, carry-refuse}
+use borrow.Author.Tests.{not-true, not-false}
+use Rattle.model.specs.Buffers.{Store}
+use Rattle.store.specs.Lent.{storeOf, Sized}
 use Rattle.store.proofs.Refusals.{refused-7, refused-1, sized}
-use Rattle.store.proofs.Parts.{part-fits, can-decide}
-use Rattle.store.proofs.Advances.{due-refused, due-planned, due-admits}
+use Rattle.store.proofs.Parts.{part-fits, can-decide, part-start, part-stop, part-bytes, record-bytes, part-some}
+use Rattle.store.proofs.Advances.{due-refused, due-carried, due-admits}
 use Rattle.store.proofs.advance.Statement.{statement}
 use Rattle.store.proofs.advance.Tie as tie
 
-lengths-fit-requires : tie.Need-lengths-fit-requires
-lengths-fit-requires c κs = search needs
+-- the store at the entry, and what is known past refusals 7 and 1
+abbrev given : tie.Start → Store
+given c =
+    storeOf (c .args .values .now) (c .args .classes .now) (c .args .readers .now) (c .args .claimants .now) (c .args .exclusives .now) (c .args .logs .now) (c .args .t1)
+
+abbrev start : tie.Else2 → tie.Start
+start c = c .before .before .before .before .before .before .before .before .before
+
+fits : (c : tie.Else2) → Sized (given (start c)) (start c .args .session)
+fits c = sized (given (start c)) _ (c .before .before .lengths-fit .ensures) _ (not-false _ (c .before .if1 .left)) (c .if2 .left)
 
 returns : tie.Need-returns
-returns c = let a = c .before .before .before .before .before .before .before .before .args in let σ = storeOf (a .values .now) (a .classes .now) (a .readers .now) (a .claimants .now) (a .exclusives .now) (a .logs .now) (a .t1) in
-    refused-7 σ _ (c .before .lengths-fit .ensures) _ (not-true _ (c .if1 .taken))
+returns c = refused-7 _ _ (c .before .lengths-fit .ensures) _ (not-true _ (c .if1 .taken))
 
 returns-2 : tie.Need-returns-2
-returns-2 c = let a = c .before .before .before .before .before .before .before .before .before .args in let σ = storeOf (a .values .now) (a .classes .now) (a .readers .now) (a .claimants .now) (a .exclusives .now) (a .logs .now) (a .t1) in
-    refused-1 σ _ (c .before .before .lengths-fit .ensures) _ (not-false _ (c .before .if1 .left)) (c .if2 .taken)
-
-mul-a : tie.Need-mul-a
-mul-a c = search needs
-
-add-e : tie.Need-add-e
-add-e c = search needs
-
-mul-x : tie.Need-mul-x
-mul-x c = search needs
-
-element-copy-out-x : tie.Need-element-copy-out-x
-element-copy-out-x c = search needs
-
-mul-due-slot : tie.Need-mul-due-slot
-mul-due-slot c = search needs
-
-sub-due-slot : tie.Need-sub-due-slot
-sub-due-slot c = search needs
-
-part-due-slot-start : tie.Need-part-due-slot-start
-part-due-slot-start c = search needs
+returns-2 c = refused-1 _ _ (c .before .before .lengths-fit .ensures) _ (not-false _ (c .before .if1 .left)) (c .if2 .taken)
 
 part-due-slot-end : tie.Need-part-due-slot-end
-part-due-slot-end c = let a = c .before .before .before .before .before .before .before .before .before .before .args in let σ = storeOf (a .values .now) (a .classes .now) (a .readers .now) (a .claimants .now) (a .exclusives .now) (a .logs .now) (a .t1) in
-    let z = sized σ _ (c .before .before .before .lengths-fit .ensures) (a .session) (not-false _ (c .before .before .if1 .left)) (c .before .if2 .left) in
-    omega (arith, part-fits σ (a .session) z)
+part-due-slot-end c = part-fits _ _ (fits (c .before))
 
 due-slot-requires : tie.Need-due-slot-requires
-due-slot-requires c κs = let a = c .before .before .before .before .before .before .before .before .before .before .before .args in let σ = storeOf (a .values .now) (a .classes .now) (a .readers .now) (a .claimants .now) (a .exclusives .now) (a .logs .now) (a .t1) in
-    let z = sized σ _ (c .before .before .before .before .lengths-fit .ensures) (a .session) (not-false _ (c .before .before .before .if1 .left)) (c .before .before .if2 .left) in
-    can-decide σ (a .session) z
-
-enum-known-due : tie.Need-enum-known-due
-enum-known-due c = search needs
-
-enum-known-due-2 : tie.Need-enum-known-due-2
-enum-known-due-2 c = search needs
-
-cast-advance-at : tie.Need-cast-advance-at
-cast-advance-at c = search needs
+due-slot-requires c κs = can-decide _ _ (fits (c .before .before))
 
 advance-at-requires : tie.Need-advance-at-requires
-unfolding sessionAt
-advance-at-requires c κs = let a = c .before .before .before .before .before .before .before .before .before .before .before .before .before .before .before .before .before .before .before .args in let σ = storeOf (a .values .now) (a .classes .now) (a .readers .now) (a .claimants .now) (a .exclusives .now) (a .logs .now) (a .t1) in
-    let z = sized σ _ (c .before .before .before .before .before .before .before .before .before .before .before .before .lengths-fit .ensures) (a .session) (not-false _ (c .before .before .before .before .before .before .before .before .before .before .before .if1 .left)) (c .before .before .before .before .before .before .before .before .before .before .if2 .left) in
-    due-admits σ (a .session) z _ (sym (c .before .before .before .before .before .before .before .due-slot .ensures) ∙ c .before .before .before .before .before .due2 .given .1)
+advance-at-requires c κs = due-admits _ _ (fits (c .before .before .before .before .before .before .before .before .before .before)) _ (sym (c .before .before .before .before .before .before .before .due-slot .ensures) ∙ c .before .before .before .before .before .due2 .given .1)
 
 returns-3 : tie.Need-returns-3
-unfolding sessionAt
-returns-3 c = let a = c .before .before .before .before .before .before .before .before .before .before .before .before .before .before .before .args in let σ = storeOf (a .values .now) (a .classes .now) (a .readers .now) (a .claimants .now) (a .exclusives .now) (a .logs .now) (a .t1) in
-    let z = sized σ _ (c .before .before .before .before .before .before .before .before .lengths-fit .ensures) (a .session) (not-false _ (c .before .before .before .before .before .before .before .if1 .left)) (c .before .before .before .before .before .before .if2 .left) in
-    carry-refuse (a .session) σ _ ∙ carries _ σ _ (due-refused σ (a .session) z _ (sym (c .before .before .before .due-slot .ensures) ∙ c .before .due .given .1))
-
-same-length : tie.Need-same-length
-same-length c = search needs
-
-same-length-2 : tie.Need-same-length-2
-same-length-2 c = search needs
-
-same-length-3 : tie.Need-same-length-3
-same-length-3 c = search needs
-
-same-length-4 : tie.Need-same-length-4
-same-length-4 c = search needs
+returns-3 c = due-refused _ _ (fits (c .before .before .before .before .before .before)) _ (sym (c .before .before .before .due-slot .ensures) ∙ c .before .due .given .1)
 
 returns-4 : tie.Need-returns-4
-unfolding sessionAt
-returns-4 c = let a = c .before .before .before .before .before .before .before .before .before .before .before .before .before .before .before .before .before .before .before .before .before .before .before .before .before .before .before .before .args in let σ = storeOf (a .values .now) (a .classes .now) (a .readers .now) (a .claimants .now) (a .exclusives .now) (a .logs .now) (a .t1) in
-    let z = sized σ _ (c .before .before .before .before .before .before .before .before .before .before .before .before .before .before .before .before .before .before .before .before .before .lengths-fit .ensures) (a .session) (not-false _ (c .before .before .before .before .before .before .before .before .before .before .before .before .before .before .before .before .before .before .before .before .if1 .left)) (c .before .before .before .before .before .before .before .before .before .before .before .before .before .before .before .before .before .before .before .if2 .left) in
-    c .before .before .before .before .before .before .before .before .advance-at .ensures ∙ carries _ σ _ (due-planned σ (a .session) z _ (sym (c .before .before .before .before .before .before .before .before .before .before .before .before .before .before .before .before .due-slot .ensures) ∙ c .before .before .before .before .before .before .before .before .before .before .before .before .before .before .due2 .given .1))
+returns-4 c =
+    let t = c .before .before .before .before .before .before .before .before .before .before .before .before .before .before in
+    c .before .before .before .before .before .before .before .before .advance-at .ensures ∙ due-carried _ _ (fits (t .before .before .before .before .before)) _ (sym (t .before .before .due-slot .ensures) ∙ t .due2 .given .1)
 
 pub advance-spec : {M : Type 1} → statement M
 advance-spec =
     tie.close
     (tie.spec
-    lengths-fit-requires
-    returns
-    returns-2
-    mul-a
-    add-e
-    mul-x
-    element-copy-out-x
-    mul-due-slot
-    sub-due-slot
-    part-due-slot-start
-    part-due-slot-end
-    due-slot-requires
-    enum-known-due
-    enum-known-due-2
-    cast-advance-at
-    advance-at-requires
-    returns-3
-    same-length
-    same-length-2
-    same-length-3
-    same-length-4
-    returns-4)
+    (λ c κs. tt) returns returns-2 (λ c. part-start _ _ (fits c)) (λ c. part-stop _ _ (fits c)) (λ c. record-bytes _ _ (fits c))
+    (λ c. (fits c) .session) (λ c. part-bytes _ _ (fits (c .before))) (λ c. part-some _) (λ c. part-some _) part-due-slot-end due-slot-requires
+    (λ c. c .match .keys1) (λ c. c .match .keys2) (λ c. search needs) advance-at-requires returns-3
+    (λ c. c .before .before .before .before .before .before .before .before .advance-at .kept .1 .0)
+    (λ c. c .before .before .before .before .before .before .before .before .advance-at .kept .1 .1 .1 .0)
+    (λ c. c .before .before .before .before .before .before .before .before .advance-at .kept .1 .1 .1 .1 .0)
+    (λ c. c .before .before .before .before .before .before .before .before .advance-at .kept .1 .1 .1 .1 .1 .0) returns-4)

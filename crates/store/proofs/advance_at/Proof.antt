@@ -1,252 +1,112 @@
--- The five plans of `Advances`, each carried out.
-use native.Mathlib.Omega.{arith}
+-- `store::advance_at` meets its contract: each of the five plans is one law of proofs/Advances.antt, at the plan that `decide::advance` answers.
+use mathlib.Core.Path.{refl}
 use borrow.Author.Needs.{needs}
-use Rattle.model.specs.Buffers.{sessionAt}
+use Rattle.model.specs.Buffers.{Store}
 use Rattle.store.specs.Lent.{storeOf}
-use Rattle.store.proofs.Parts.{part-fits, locks-even}
-use Rattle.store.proofs.Advances.{can-roll, inside, can-put, can-handle, leaves-rolled, leaves-waiting, leaves-owned, leaves-published, leaves-released}
+use Rattle.store.proofs.Parts.{part-fits, locks-even, part-start, part-stop, part-bytes, record-bytes, part-some}
+use Rattle.store.proofs.Advances.{Decided, cell-inside, can-put, can-roll, can-handle, leaves-rolled, leaves-waiting, leaves-owned, leaves-published, leaves-released}
 use Rattle.store.proofs.advance_at.Statement.{statement}
 use Rattle.store.proofs.advance_at.Tie as tie
 
-mul-a : tie.Need-mul-a
-mul-a c = search needs
+-- the store at the entry, and what is known once the plan is there
+abbrev given : tie.Start → Store
+given c =
+    storeOf (c .args .values .now) (c .args .classes .now) (c .args .readers .now) (c .args .claimants .now) (c .args .exclusives .now) (c .args .logs .now) (c .args .t1)
 
-add-e : tie.Need-add-e
-add-e c = search needs
+abbrev start : tie.After-advance → tie.Start
+start c = c .before .before .before .before .before .before .before .before .before .before .before .before .before .before
 
-mul-x : tie.Need-mul-x
-mul-x c = search needs
-
-element-copy-out-x : tie.Need-element-copy-out-x
-element-copy-out-x c = search needs
-
-mul-log : tie.Need-mul-log
-mul-log c = search needs
-
-sub-log : tie.Need-sub-log
-sub-log c = search needs
-
-part-log-start : tie.Need-part-log-start
-part-log-start c = search needs
+decided : (c : tie.After-advance) → Decided (given (start c)) (start c .args .session) (start c .args .k) (c .before .before .before .before .before .cell-at .result) (c .before .at .result) (c .advance .result)
+decided c =
+    let t = start c .pre in
+    record {
+      admitted = t .0;
+      slot = t .1;
+      from = t .2;
+      upto = t .3;
+      cell = c .before .before .before .before .before .cell-at .ensures;
+      lock = c .before .at .ensures;
+      plan = c .advance .ensures;
+    }
 
 part-log-end : tie.Need-part-log-end
-part-log-end c = let t = c .before .before .before .before .before .before .before in let a = t .args in let σ = storeOf (a .values .now) (a .classes .now) (a .readers .now) (a .claimants .now) (a .exclusives .now) (a .logs .now) (a .t1) in
-    omega (arith, part-fits σ (a .session) (t .pre .0 .sized))
-
-cell-at-requires : tie.Need-cell-at-requires
-cell-at-requires c κs = search needs
+part-log-end c = part-fits _ _ (c .before .before .before .before .before .before .before .pre .0 .sized)
 
 at-requires : tie.Need-at-requires
-at-requires c κs = let t = c .before .before .before .before .before .before .before .before .before .before .before .before in let a = t .args in let σ = storeOf (a .values .now) (a .classes .now) (a .readers .now) (a .claimants .now) (a .exclusives .now) (a .logs .now) (a .t1) in
-    locks-even σ (a .session) (t .pre .0 .sized)
-
-advance-requires : tie.Need-advance-requires
-advance-requires c κs = search needs
-
-enum-told : tie.Need-enum-told
-enum-told c = search needs
-
-claimed-requires : tie.Need-claimed-requires
-claimed-requires c κs = search needs
+at-requires c κs = locks-even _ _ (c .before .before .before .before .before .before .before .before .before .before .before .before .pre .0 .sized)
 
 put-requires : tie.Need-put-requires
-put-requires c κs = let t = c .before .before .before .before .before .before .before .before .before .before .before .before .before .before .before .before .before .before .before .before in let a = t .args in let σ = storeOf (a .values .now) (a .classes .now) (a .readers .now) (a .claimants .now) (a .exclusives .now) (a .logs .now) (a .t1) in
-    can-put σ (a .session) (a .k) (t .pre .0) (t .pre .1) _ (c .before .before .before .before .before .before .before .before .before .before .before .cell-at .ensures)
-
-same-length : tie.Need-same-length
-same-length c = search needs
-
-same-length-2 : tie.Need-same-length-2
-same-length-2 c = search needs
-
-same-length-3 : tie.Need-same-length-3
-same-length-3 c = search needs
+put-requires c κs = can-put (decided (c .before .before .before .before .before .before))
 
 returns : tie.Need-returns
-unfolding sessionAt
-returns c = let t = c .before .before .before .before .before .before .before .before .before .before .before .before .before .before .before .before .before .before .before .before .before .before .before .before .before .before .before in let a = t .args in let σ = storeOf (a .values .now) (a .classes .now) (a .readers .now) (a .claimants .now) (a .exclusives .now) (a .logs .now) (a .t1) in
-    leaves-waiting σ (a .session) (a .k) (t .pre .0) (t .pre .1) _ (c .before .before .before .before .before .before .before .before .before .before .before .before .before .before .before .before .before .before .cell-at .ensures) _ (c .before .before .before .before .before .before .before .before .before .before .before .before .before .before .at .ensures) _ (c .before .before .before .before .before .before .before .before .before .before .before .before .before .advance .ensures)
-    (c .before .before .before .before .before .before .before .before .before .before .before .enum-told .given .1) _ _ (c .before .before .before .before .before .before .before .claimed .ensures) (c .before .before .before .before .before .before .put .ensures)
-
-enum-told-2 : tie.Need-enum-told-2
-enum-told-2 c = search needs
-
-cast-count : tie.Need-cast-count
-cast-count c = search needs
+returns c =
+    let q = c .before .before .before .before .before .before in
+    leaves-waiting (decided (q .before .before .before .before .before .before .before)) _ (q .before .before .before .before .before .enum-told .given .1) _ _ (q .before .claimed .ensures) (q .put .ensures)
 
 roll-back-requires : tie.Need-roll-back-requires
-unfolding sessionAt
-roll-back-requires c κs = let t = c .before .before .before .before .before .before .before .before .before .before .before .before .before .before .before .before .before .before .before .before .before in let a = t .args in let σ = storeOf (a .values .now) (a .classes .now) (a .readers .now) (a .claimants .now) (a .exclusives .now) (a .logs .now) (a .t1) in
-    can-roll σ (a .session) (a .k) (t .pre .0) (t .pre .1)
-
-rested-requires : tie.Need-rested-requires
-rested-requires c κs = search needs
-
-mul-t55 : tie.Need-mul-t55
-mul-t55 c = omega (arith, c .before .before .before .before .before .before .before .before .before .before .before .before .before .before .before .before .before .before .before .before .before .before .before .before .before .before .before .before .before .pre .0 .sized .session)
-
-element-set-from-sessions : tie.Need-element-set-from-sessions
-element-set-from-sessions c = c .before .before .before .before .before .before .before .before .before .before .before .before .before .before .before .before .before .before .before .before .before .before .before .before .before .before .before .before .before .pre .0 .sized .session
-
-same-length-4 : tie.Need-same-length-4
-same-length-4 c = search needs
-
-same-length-5 : tie.Need-same-length-5
-same-length-5 c = search needs
-
-same-length-6 : tie.Need-same-length-6
-same-length-6 c = search needs
+roll-back-requires c κs = can-roll (decided (c .before .before .before .before .before .before .before))
 
 returns-2 : tie.Need-returns-2
-unfolding sessionAt
-returns-2 c = let t = c .before .before .before .before .before .before .before .before .before .before .before .before .before .before .before .before .before .before .before .before .before .before .before .before .before .before .before .before .before in let a = t .args in let σ = storeOf (a .values .now) (a .classes .now) (a .readers .now) (a .claimants .now) (a .exclusives .now) (a .logs .now) (a .t1) in
-    leaves-rolled σ (a .session) (a .k) (t .pre .0) (t .pre .1) _ (c .before .before .before .before .before .before .before .before .before .before .before .before .before .before .before .before .before .before .before .before .cell-at .ensures) _ (c .before .before .before .before .before .before .before .before .before .before .before .before .before .before .before .before .at .ensures) _ (c .before .before .before .before .before .before .before .before .before .before .before .before .before .before .before .advance .ensures)
-    (c .before .before .before .before .before .before .before .before .before .before .before .before .enum-told2 .given .1) _ _ (c .before .before .before .before .before .before .before .roll-back .ensures) (c .rested .ensures)
+returns-2 c =
+    let q = c .before .before .before .before .before .before .before in
+    leaves-rolled (decided (q .before .before .before .before .before .before .before .before)) (q .before .before .before .before .before .enum-told2 .given .1) _ _ (q .roll-back .ensures) (c .rested .ensures)
 
 handle-requires : tie.Need-handle-requires
-unfolding sessionAt
-handle-requires c κs = let t = c .before .before .before .before .before .before .before .before .before .before .before .before .before .before .before .before in let a = t .args in let σ = storeOf (a .values .now) (a .classes .now) (a .readers .now) (a .claimants .now) (a .exclusives .now) (a .logs .now) (a .t1) in
-    can-handle σ (a .session) (a .k) (t .pre .0) (t .pre .1) _ (c .before .before .before .before .before .before .before .cell-at .ensures) (t .pre .3)
-
-mul-y : tie.Need-mul-y
-mul-y c = search needs
-
-element-set-from-y : tie.Need-element-set-from-y
-element-set-from-y c = c .before .before .before .before .before .before .before .before .before .before .before .before .before .before .before .before .before .before .pre .0 .sized .session
-
-enum-told-3 : tie.Need-enum-told-3
-enum-told-3 c = search needs
-
-owned-requires : tie.Need-owned-requires
-owned-requires c κs = search needs
+handle-requires c κs = can-handle (decided (c .before .before))
 
 put-requires-2 : tie.Need-put-requires-2
-put-requires-2 c κs = let t = c .before .before .before .before .before .before .before .before .before .before .before .before .before .before .before .before .before .before .before .before .before .before .before .before in let a = t .args in let σ = storeOf (a .values .now) (a .classes .now) (a .readers .now) (a .claimants .now) (a .exclusives .now) (a .logs .now) (a .t1) in
-    can-put σ (a .session) (a .k) (t .pre .0) (t .pre .1) _ (c .before .before .before .before .before .before .before .before .before .before .before .before .before .before .before .cell-at .ensures)
-
-same-length-7 : tie.Need-same-length-7
-same-length-7 c = search needs
-
-same-length-8 : tie.Need-same-length-8
-same-length-8 c = search needs
-
-same-length-9 : tie.Need-same-length-9
-same-length-9 c = search needs
+put-requires-2 c κs = can-put (decided (c .before .before .before .before .before .before .before .before .before .before))
 
 returns-3 : tie.Need-returns-3
-unfolding sessionAt
-returns-3 c = let t = c .before .before .before .before .before .before .before .before .before .before .before .before .before .before .before .before .before .before .before .before .before .before .before .before .before .before .before .before .before .before .before in let a = t .args in let σ = storeOf (a .values .now) (a .classes .now) (a .readers .now) (a .claimants .now) (a .exclusives .now) (a .logs .now) (a .t1) in
-    leaves-owned σ (a .session) (a .k) (t .pre .0) (t .pre .1) _ (c .before .before .before .before .before .before .before .before .before .before .before .before .before .before .before .before .before .before .before .before .before .before .cell-at .ensures) _ (c .before .before .before .before .before .before .before .before .before .before .before .before .before .before .before .before .before .before .at .ensures) _ (c .before .before .before .before .before .before .before .before .before .before .before .before .before .before .before .before .before .advance .ensures)
-    _ (c .before .before .before .before .before .before .before .before .before .before .before .before .before .before .handle .ensures) (c .before .before .before .before .before .before .before .before .before .before .before .enum-told3 .given .1) _ _ (c .before .before .before .before .before .before .before .owned .ensures) (c .before .before .before .before .before .before .put2 .ensures)
-
-enum-known-p : tie.Need-enum-known-p
-enum-known-p c = search needs
-
-cast-values : tie.Need-cast-values
-cast-values c = search needs
-
-mul-values : tie.Need-mul-values
-mul-values c = search needs
+returns-3 c =
+    let q = c .before .before .before .before .before .before in
+    let h = q .before .before .before .before .before in
+    leaves-owned (decided (h .before .before .before .before .before .before)) _ (h .before .before .before .handle .ensures) _ (h .enum-told3 .given .1) _ _ (q .before .owned .ensures) (q .put2 .ensures)
 
 slice-write-values : tie.Need-slice-write-values
-slice-write-values c = let t = c .before .before .before .before .before .before .before .before .before .before .before .before .before .before .before .before .before .before .before .before .before .before in let a = t .args in let σ = storeOf (a .values .now) (a .classes .now) (a .readers .now) (a .claimants .now) (a .exclusives .now) (a .logs .now) (a .t1) in
-    inside σ (a .session) (a .k) (t .pre .0) (t .pre .1) _ (c .before .before .before .before .before .before .before .before .before .before .before .before .before .cell-at .ensures)
-
-same-length-10 : tie.Need-same-length-10
-same-length-10 c = search needs
-
-same-length-11 : tie.Need-same-length-11
-same-length-11 c = search needs
-
-same-length-12 : tie.Need-same-length-12
-same-length-12 c = search needs
-
-same-length-13 : tie.Need-same-length-13
-same-length-13 c = search needs
+slice-write-values c = cell-inside (decided (c .before .before .before .before .before .before .before .before))
 
 returns-4 : tie.Need-returns-4
-unfolding sessionAt
-returns-4 c = let t = c .before .before .before .before .before .before .before .before .before .before .before .before .before .before .before .before .before .before .before .before .before .before in let a = t .args in let σ = storeOf (a .values .now) (a .classes .now) (a .readers .now) (a .claimants .now) (a .exclusives .now) (a .logs .now) (a .t1) in
-    leaves-published σ (a .session) (a .k) (t .pre .0) (t .pre .1) _ (c .before .before .before .before .before .before .before .before .before .before .before .before .before .cell-at .ensures) _ (c .before .before .before .before .before .before .before .before .before .at .ensures) _ (c .before .before .before .before .before .before .before .before .advance .ensures)
-    _ (c .before .before .before .before .before .handle .ensures) (c .before .p .given .1)
+returns-4 c = leaves-published (decided (c .before .before .before .before .before .before .before .before)) _ (c .before .before .before .before .before .handle .ensures) _ _ (c .before .p .given .1)
 
 vacated-requires : tie.Need-vacated-requires
-vacated-requires c κs = c .before .before .before .before .before .before .before .before .before .before .before .before .before .before .before .before .before .before .before .before .before .before .before .pre .0 .sized .session
+vacated-requires c κs = decided (c .before .before .before .before .before .before .before .before .before) .admitted .sized .session
 
 put-requires-3 : tie.Need-put-requires-3
-put-requires-3 c κs = let t = c .before .before .before .before .before .before .before .before .before .before .before .before .before .before .before .before .before .before .before .before .before .before .before .before in let a = t .args in let σ = storeOf (a .values .now) (a .classes .now) (a .readers .now) (a .claimants .now) (a .exclusives .now) (a .logs .now) (a .t1) in
-    can-put σ (a .session) (a .k) (t .pre .0) (t .pre .1) _ (c .before .before .before .before .before .before .before .before .before .before .before .before .before .before .before .cell-at .ensures)
-
-same-length-14 : tie.Need-same-length-14
-same-length-14 c = search needs
-
-same-length-15 : tie.Need-same-length-15
-same-length-15 c = search needs
-
-same-length-16 : tie.Need-same-length-16
-same-length-16 c = search needs
+put-requires-3 c κs = can-put (decided (c .before .before .before .before .before .before .before .before .before .before))
 
 returns-5 : tie.Need-returns-5
-unfolding sessionAt
-returns-5 c = let t = c .before .before .before .before .before .before .before .before .before .before .before .before .before .before .before .before .before .before .before .before .before .before .before .before .before .before .before .before .before .before .before in let a = t .args in let σ = storeOf (a .values .now) (a .classes .now) (a .readers .now) (a .claimants .now) (a .exclusives .now) (a .logs .now) (a .t1) in
-    leaves-released σ (a .session) (a .k) (t .pre .0) (t .pre .1) _ (c .before .before .before .before .before .before .before .before .before .before .before .before .before .before .before .before .before .before .before .before .before .before .cell-at .ensures) _ (c .before .before .before .before .before .before .before .before .before .before .before .before .before .before .before .before .before .before .at .ensures) _ (c .before .before .before .before .before .before .before .before .before .before .before .before .before .before .before .before .before .advance .ensures)
-    _ (c .before .before .before .before .before .before .before .before .before .before .before .before .before .before .handle .ensures) (t .pre .2) (t .pre .3) (c .before .before .before .before .before .before .before .before .before .before .before .before .before .before .before .before .match .keys2) (c .before .before .before .before .before .before .before .before .before .before .before .before .before .before .before .match2 .keys2) (c .before .before .before .before .before .before .before .before .before .before .before .before .match3 .keys2) (c .before .before .before .before .before .before .before .before .before .before .before .match4 .keys2)
-    _ _ (c .before .before .before .before .before .before .before .vacated .ensures) (c .before .before .before .before .before .before .put3 .ensures)
+returns-5 c =
+    let q = c .before .before .before .before .before .before in
+    let h = q .before .before .before .before .before in
+    leaves-released (decided (h .before .before .before .before .before .before)) _ (h .before .before .before .handle .ensures) (h .before .before .before .before .before .match .keys2) (h .before .before .before .before .match2 .keys2) (h .before .match3 .keys2) (h .match4 .keys2) _ _
+    (q .before .vacated .ensures) (q .put3 .ensures)
 
 pub advance-at-spec : {M : Type 1} → statement M
 advance-at-spec =
     tie.close
     (tie.spec
-    mul-a
-    add-e
-    mul-x
-    element-copy-out-x
-    mul-log
-    sub-log
-    part-log-start
-    part-log-end
-    cell-at-requires
-    at-requires
-    advance-requires
-    enum-told
-    claimed-requires
-    put-requires
-    same-length
-    same-length-2
-    same-length-3
-    returns
-    enum-told-2
-    cast-count
-    roll-back-requires
-    rested-requires
-    mul-t55
-    element-set-from-sessions
-    same-length-4
-    same-length-5
-    same-length-6
-    returns-2
-    handle-requires
-    mul-y
-    element-set-from-y
-    enum-told-3
-    owned-requires
-    put-requires-2
-    same-length-7
-    same-length-8
-    same-length-9
-    returns-3
-    enum-known-p
-    cast-values
-    mul-values
-    slice-write-values
-    same-length-10
-    same-length-11
-    same-length-12
-    same-length-13
-    returns-4
-    vacated-requires
-    put-requires-3
-    same-length-14
-    same-length-15
-    same-length-16
-    returns-5)
+    (λ c. part-start _ _ (c .before .before .before .before .before .before .pre .0 .sized))
+    (λ c. part-stop _ _ (c .before .before .before .before .before .before .pre .0 .sized))
+    (λ c. record-bytes _ _ (c .before .before .before .before .before .before .pre .0 .sized))
+    (λ c. c .before .before .before .before .before .before .pre .0 .sized .session)
+    (λ c. part-bytes _ _ (c .before .before .before .before .before .before .before .pre .0 .sized)) (λ c. part-some _) (λ c. part-some _)
+    part-log-end (λ c κs. search needs) at-requires (λ c κs. search needs) (λ c. c .match .keys1) (λ c κs. tt) put-requires
+    (λ c. c .before .before .before .before .before .before .put .kept .0)
+    (λ c. c .before .before .before .before .before .before .put .kept .1 .0)
+    (λ c. c .before .before .before .before .before .before .put .kept .1 .1 .0) returns (λ c. c .match2 .keys1) (λ c. search needs)
+    roll-back-requires (λ c κs. tt)
+    (λ c. record-bytes _ _ (c .before .before .before .before .before .before .before .before .before .before .before .before .before .before .before .before .before .before .before .before .before .before .before .before .before .before .before .before .before .pre .0 .sized))
+    (λ c. c .before .before .before .before .before .before .before .before .before .before .before .before .before .before .before .before .before .before .before .before .before .before .before .before .before .before .before .before .before .pre .0 .sized .session)
+    (λ c. c .before .before .before .before .before .before .before .roll-back .kept .1 .1 .0)
+    (λ c. c .before .before .before .before .before .before .before .roll-back .kept .1 .1 .1 .0)
+    (λ c. c .before .before .before .before .before .before .before .roll-back .kept .1 .1 .1 .1 .0) returns-2 handle-requires
+    (λ c. record-bytes _ _ (c .before .before .before .before .before .before .before .before .before .before .before .before .before .before .before .before .before .before .pre .0 .sized))
+    (λ c. c .before .before .before .before .before .before .before .before .before .before .before .before .before .before .before .before .before .before .pre .0 .sized .session)
+    (λ c. c .match3 .keys1) (λ c κs. tt) put-requires-2 (λ c. c .before .before .before .before .before .before .put2 .kept .0)
+    (λ c. c .before .before .before .before .before .before .put2 .kept .1 .0)
+    (λ c. c .before .before .before .before .before .before .put2 .kept .1 .1 .0) returns-3 (λ c. c .match4 .keys1) (λ c. search needs)
+    (λ c. search needs) slice-write-values (λ c. search needs) (λ c. refl) (λ c. refl) (λ c. refl) returns-4 vacated-requires put-requires-3
+    (λ c. c .before .before .before .before .before .before .put3 .kept .0)
+    (λ c. c .before .before .before .before .before .before .put3 .kept .1 .0)
+    (λ c. c .before .before .before .before .before .before .put3 .kept .1 .1 .0) returns-5)

@@ -18,38 +18,21 @@ abbrev μ-loop : tie.MeasureT-loop
 loop-holds : tie.Need-loop-holds Inv-loop μ-loop
 loop-holds c = (search needs, search needs, refl)
 
-mul-s : tie.Need-mul-s Inv-loop μ-loop
-mul-s c = search needs
-
-slice-write-s : tie.Need-slice-write-s Inv-loop μ-loop
-slice-write-s c = search needs
-
-add-i : tie.Need-add-i Inv-loop μ-loop
-add-i c = search needs
-
-loop-less : tie.Need-loop-less Inv-loop μ-loop
-loop-less c = search needs
-
 loop-again : tie.Need-loop-again Inv-loop μ-loop
-loop-again c = let k = c .before .loop .inv .1 in let h = c .loop-test .taken in (omega arith, simp length-set (c .before .loop .inv .1), fill-again _ _ _ _ (c .before .loop .inv .2) (omega arith))
-
-same-length : tie.Need-same-length Inv-loop μ-loop
-same-length c = search needs
+loop-again c =
+    let v = c .before .loop .inv in
+    let h = c .loop-test .taken in
+    (omega arith, simp length-set (v .1), fill-again _ _ _ _ (v .2) (omega arith))
 
 returns : tie.Need-returns Inv-loop μ-loop
-returns c = let k = c .before .loop .inv .1 in let h = c .loop-test .left in fill-end _ _ _ _ (c .before .loop .inv .2) (omega arith) (c .before .loop .inv .0)
+returns c =
+    let v = c .before .loop .inv in
+    let h = c .loop-test .left in
+    fill-end _ _ _ _ (v .2) (omega arith) (v .0)
 
 pub clear-sets-spec : {M : Type 1} → statement M
 clear-sets-spec =
     tie.close
     (tie.spec
-    Inv-loop
-    μ-loop
-    loop-holds
-    mul-s
-    slice-write-s
-    add-i
-    loop-less
-    loop-again
-    same-length
+    Inv-loop μ-loop loop-holds (λ c. search needs) (λ c. search needs) (λ c. search needs) (λ c. search needs) loop-again (λ c. search needs)
     returns)

@@ -7,11 +7,11 @@ use Rattle.store.proofs.fits_cap.Tie as tie
 returns : tie.Need-returns
 returns c = fits-not _ _ (c .if1 .taken)
 
-cap-requires : tie.Need-cap-requires
-cap-requires c κs = search needs
-
 returns-2 : tie.Need-returns-2
 returns-2 c = fits-cap _ _ _ (c .before .if1 .left) (c .cap .ensures)
 
 pub fits-cap-spec : {M : Type 1} → statement M
-fits-cap-spec = tie.close (tie.spec returns cap-requires returns-2)
+fits-cap-spec =
+    tie.close
+    (tie.spec
+    returns (λ c κs. search needs) returns-2)

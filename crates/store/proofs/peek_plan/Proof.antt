@@ -1,78 +1,43 @@
--- Refused by the lengths or the session, or what `decide` plans on the session's part.
+-- `store::peek_plan` meets its contract: refused by the lengths or the session, or what `decide::peek` plans on the session's part.
 use mathlib.Core.Path.{sym, _∙_}
-use native.Mathlib.Omega.{arith}
 use borrow.Author.Tests.{not-true, not-false}
-use borrow.Author.Needs.{needs}
-use Rattle.model.specs.Buffers.{sessionAt}
-use Rattle.store.specs.Lent.{storeOf}
+use Rattle.model.specs.Buffers.{Store}
+use Rattle.store.specs.Lent.{storeOf, Sized}
 use Rattle.store.proofs.Refusals.{fit-is, plan-7, plan-1, sized}
-use Rattle.store.proofs.Parts.{part-fits, can-decide}
+use Rattle.store.proofs.Parts.{part-fits, can-decide, part-start, part-stop, part-bytes, record-bytes, part-some}
 use Rattle.store.proofs.Peeks.{peek-planned}
 use Rattle.store.proofs.peek_plan.Statement.{statement}
 use Rattle.store.proofs.peek_plan.Tie as tie
 
-lengths-fit-requires : tie.Need-lengths-fit-requires
-lengths-fit-requires c κs = search needs
+-- the store at the entry, and what is known past refusals 7 and 1
+abbrev given : tie.Start → Store
+given c =
+    storeOf (c .args .values .now) (c .args .classes .now) (c .args .readers .now) (c .args .claimants .now) (c .args .exclusives .now) (c .args .logs .now) (c .args .t1)
+
+abbrev start : tie.Else2 → tie.Start
+start c = c .before .before .before .before .before .before .before .before .before
+
+fits : (c : tie.Else2) → Sized (given (start c)) (start c .args .session)
+fits c = sized (given (start c)) _ (c .before .before .lengths-fit .ensures) _ (not-false _ (c .before .if1 .left)) (c .if2 .left)
 
 returns : tie.Need-returns
-returns c = let a = c .before .before .before .before .before .before .before .before .args in let σ = storeOf (a .values .now) (a .classes .now) (a .readers .now) (a .claimants .now) (a .exclusives .now) (a .logs .now) (a .t1) in
-    sym (plan-7 _ σ (sym (fit-is σ _ (c .before .lengths-fit .ensures)) ∙ not-true _ (c .if1 .taken)))
+returns c = sym (plan-7 _ _ (sym (fit-is (given (c .before .before .before .before .before .before .before .before)) _ (c .before .lengths-fit .ensures)) ∙ not-true _ (c .if1 .taken)))
 
 returns-2 : tie.Need-returns-2
-returns-2 c = let a = c .before .before .before .before .before .before .before .before .before .args in let σ = storeOf (a .values .now) (a .classes .now) (a .readers .now) (a .claimants .now) (a .exclusives .now) (a .logs .now) (a .t1) in
-    sym (plan-1 _ σ (sym (fit-is σ _ (c .before .before .lengths-fit .ensures)) ∙ not-false _ (c .before .if1 .left)) (c .if2 .taken))
-
-mul-a : tie.Need-mul-a
-mul-a c = search needs
-
-add-e : tie.Need-add-e
-add-e c = search needs
-
-mul-x : tie.Need-mul-x
-mul-x c = search needs
-
-element-copy-out-x : tie.Need-element-copy-out-x
-element-copy-out-x c = search needs
-
-mul-peek : tie.Need-mul-peek
-mul-peek c = search needs
-
-sub-peek : tie.Need-sub-peek
-sub-peek c = search needs
-
-part-peek-start : tie.Need-part-peek-start
-part-peek-start c = search needs
+returns-2 c = sym (plan-1 _ _ (sym (fit-is (given (c .before .before .before .before .before .before .before .before .before)) _ (c .before .before .lengths-fit .ensures)) ∙ not-false _ (c .before .if1 .left)) (c .if2 .taken))
 
 part-peek-end : tie.Need-part-peek-end
-part-peek-end c = let a = c .before .before .before .before .before .before .before .before .before .before .args in let σ = storeOf (a .values .now) (a .classes .now) (a .readers .now) (a .claimants .now) (a .exclusives .now) (a .logs .now) (a .t1) in
-    let z = sized σ _ (c .before .before .before .lengths-fit .ensures) (a .session) (not-false _ (c .before .before .if1 .left)) (c .before .if2 .left) in
-    omega (arith, part-fits σ (a .session) z)
+part-peek-end c = part-fits _ _ (fits (c .before))
 
 peek-requires : tie.Need-peek-requires
-peek-requires c κs = let a = c .before .before .before .before .before .before .before .before .before .before .before .args in let σ = storeOf (a .values .now) (a .classes .now) (a .readers .now) (a .claimants .now) (a .exclusives .now) (a .logs .now) (a .t1) in
-    let z = sized σ _ (c .before .before .before .before .lengths-fit .ensures) (a .session) (not-false _ (c .before .before .before .if1 .left)) (c .before .before .if2 .left) in
-    can-decide σ (a .session) z
+peek-requires c κs = can-decide _ _ (fits (c .before .before))
 
 returns-3 : tie.Need-returns-3
-unfolding sessionAt
-returns-3 c = let a = c .before .before .before .before .before .before .before .before .before .before .before .before .args in let σ = storeOf (a .values .now) (a .classes .now) (a .readers .now) (a .claimants .now) (a .exclusives .now) (a .logs .now) (a .t1) in
-    let z = sized σ _ (c .before .before .before .before .before .lengths-fit .ensures) (a .session) (not-false _ (c .before .before .before .before .if1 .left)) (c .before .before .before .if2 .left) in
-    peek-planned σ (a .session) (a .cell) z _ (c .peek .ensures)
+returns-3 c = peek-planned _ _ (fits (c .before .before .before)) _ _ (c .peek .ensures)
 
 pub peek-plan-spec : {M : Type 1} → statement M
 peek-plan-spec =
     tie.close
     (tie.spec
-    lengths-fit-requires
-    returns
-    returns-2
-    mul-a
-    add-e
-    mul-x
-    element-copy-out-x
-    mul-peek
-    sub-peek
-    part-peek-start
-    part-peek-end
-    peek-requires
-    returns-3)
+    (λ c κs. tt) returns returns-2 (λ c. part-start _ _ (fits c)) (λ c. part-stop _ _ (fits c)) (λ c. record-bytes _ _ (fits c))
+    (λ c. (fits c) .session) (λ c. part-bytes _ _ (fits (c .before))) (λ c. part-some _) (λ c. part-some _) part-peek-end peek-requires returns-3)

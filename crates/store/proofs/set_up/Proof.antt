@@ -1,75 +1,50 @@
--- The three answers of `SetUp`, with what the loops leave.
-use mathlib.Core.Path.{sym, _∙_}
+-- `store::set_up` meets its contract: 7, 8 or 100, each a law of proofs/SetUp.antt, with what the loops leave.
+use mathlib.Core.Path.{_≡_, sym, _∙_}
+use mathlib.Core.Bool.{true}
 use borrow.Author.Tests.{not-true, not-false}
-use borrow.Author.Needs.{needs}
+use Rattle.model.specs.Buffers.{Store, lengthsFit}
 use Rattle.store.specs.Lent.{storeOf}
 use Rattle.store.proofs.Refusals.{fit-is, lengths-of}
 use Rattle.store.proofs.SetUp.{set-7, set-8, set-done}
 use Rattle.store.proofs.set_up.Statement.{statement}
 use Rattle.store.proofs.set_up.Tie as tie
 
-lengths-fit-requires : tie.Need-lengths-fit-requires
-lengths-fit-requires c κs = search needs
+-- the store at the entry, whose lengths fit past refusal 7
+abbrev given : tie.Start → Store
+given c =
+    storeOf (c .args .values .now) (c .args .classes .now) (c .args .readers .now) (c .args .claimants .now) (c .args .exclusives .now) (c .args .logs .now) (c .args .sessions)
+
+abbrev start : tie.Else1 → tie.Start
+start c = c .before .before .before .before .before .before .before .before
+
+fits : (c : tie.Else1) → lengthsFit (given (start c) .lent) ≡ true
+fits c = sym (fit-is (given (start c)) _ (c .before .lengths-fit .ensures)) ∙ not-false _ (c .if1 .left)
 
 returns : tie.Need-returns
-returns c = let a = c .before .before .before .before .before .before .before .before .args in let σ = storeOf (a .values .now) (a .classes .now) (a .readers .now) (a .claimants .now) (a .exclusives .now) (a .logs .now) (a .sessions) in
-    set-7 σ (sym (fit-is σ _ (c .before .lengths-fit .ensures)) ∙ not-true _ (c .if1 .taken))
+returns c = set-7 _ (sym (fit-is (given (c .before .before .before .before .before .before .before .before)) _ (c .before .lengths-fit .ensures)) ∙ not-true _ (c .if1 .taken))
 
 all-fit-requires : tie.Need-all-fit-requires
-all-fit-requires c κs = let a = c .before .before .before .before .before .before .before .before .args in let σ = storeOf (a .values .now) (a .classes .now) (a .readers .now) (a .claimants .now) (a .exclusives .now) (a .logs .now) (a .sessions) in
-    lengths-of (σ .lent) (sym (fit-is σ _ (c .before .lengths-fit .ensures)) ∙ not-false _ (c .if1 .left)) .classes
+all-fit-requires c κs = lengths-of (given (start c) .lent) (fits c) .classes
 
 returns-2 : tie.Need-returns-2
-returns-2 c = let a = c .before .before .before .before .before .before .before .before .before .before .args in let σ = storeOf (a .values .now) (a .classes .now) (a .readers .now) (a .claimants .now) (a .exclusives .now) (a .logs .now) (a .sessions) in
-    set-8 σ (sym (fit-is σ _ (c .before .before .before .lengths-fit .ensures)) ∙ not-false _ (c .before .before .if1 .left)) _ (c .before .all-fit .ensures) (not-true _ (c .if2 .taken))
-
-clear-sets-requires : tie.Need-clear-sets-requires
-clear-sets-requires c κs = search needs
-
-fill-bytes-requires : tie.Need-fill-bytes-requires
-fill-bytes-requires c κs = search needs
-
-fill-bytes-requires-2 : tie.Need-fill-bytes-requires-2
-fill-bytes-requires-2 c κs = search needs
-
-clear-words-requires : tie.Need-clear-words-requires
-clear-words-requires c κs = search needs
-
-all-idle-requires : tie.Need-all-idle-requires
-all-idle-requires c κs = search needs
-
-same-length : tie.Need-same-length
-same-length c = search needs
-
-same-length-2 : tie.Need-same-length-2
-same-length-2 c = search needs
-
-same-length-3 : tie.Need-same-length-3
-same-length-3 c = search needs
-
-same-length-4 : tie.Need-same-length-4
-same-length-4 c = search needs
+returns-2 c = set-8 _ (fits (c .before .before)) _ (c .before .all-fit .ensures) (not-true _ (c .if2 .taken))
 
 returns-3 : tie.Need-returns-3
-returns-3 c = let a = c .before .before .before .before .before .before .before .before .before .before .before .before .before .before .before .before .before .before .before .before .before .before .before .before .before .before .before .args in let σ = storeOf (a .values .now) (a .classes .now) (a .readers .now) (a .claimants .now) (a .exclusives .now) (a .logs .now) (a .sessions) in
-    set-done σ (sym (fit-is σ _ (c .before .before .before .before .before .before .before .before .before .before .before .before .before .before .before .before .before .before .before .before .lengths-fit .ensures)) ∙ not-false _ (c .before .before .before .before .before .before .before .before .before .before .before .before .before .before .before .before .before .before .before .if1 .left)) _ (c .before .before .before .before .before .before .before .before .before .before .before .before .before .before .before .before .before .before .all-fit .ensures) (not-false _ (c .before .before .before .before .before .before .before .before .before .before .before .before .before .before .before .before .before .if2 .left)) _ _ _ _ _
-    (c .before .before .before .before .before .before .before .before .before .before .before .before .before .before .before .clear-sets .ensures) (c .before .before .before .before .before .before .before .before .before .before .before .fill-bytes .ensures) (c .before .before .before .before .before .before .before .fill-bytes2 .ensures) (c .before .before .before .clear-words .ensures) (c .all-idle .ensures)
+returns-3 c =
+    let w = c .before .before .before in
+    let e = w .before .before .before .before in
+    let d = e .before .before .before .before in
+    let r = d .before .before .before .before in
+    let t = r .before .before in
+    set-done _ (fits (t .before .before)) _ (t .before .all-fit .ensures) (not-false _ (t .if2 .left)) _ _ _ _ _ (r .clear-sets .ensures) (d .fill-bytes .ensures) (e .fill-bytes2 .ensures)
+    (w .clear-words .ensures) (c .all-idle .ensures)
 
 pub set-up-spec : {M : Type 1} → statement M
 set-up-spec =
     tie.close
     (tie.spec
-    lengths-fit-requires
-    returns
-    all-fit-requires
-    returns-2
-    clear-sets-requires
-    fill-bytes-requires
-    fill-bytes-requires-2
-    clear-words-requires
-    all-idle-requires
-    same-length
-    same-length-2
-    same-length-3
-    same-length-4
+    (λ c κs. tt) returns all-fit-requires returns-2 (λ c κs. tt) (λ c κs. tt) (λ c κs. tt) (λ c κs. tt) (λ c κs. tt)
+    (λ c. c .before .before .before .before .before .before .before .before .before .before .before .before .before .before .before .clear-sets .kept .0)
+    (λ c. c .before .before .before .before .before .before .before .before .before .before .before .fill-bytes .kept .0)
+    (λ c. c .before .before .before .before .before .before .before .fill-bytes2 .kept .0) (λ c. c .before .before .before .clear-words .kept .0)
     returns-3)
