@@ -3,7 +3,9 @@ use mathlib.Core.Path.{_≡_, ap, _∙_}
 use mathlib.Core.Bool.{Bool}
 use mathlib.Core.List.{List}
 use Prim.Native.Nat.{ℕ, _+_, _*_, _%_, _<_, _≤_}
-use native.Mathlib.Nat.{mod-eq-of-lt}
+use mir.Syntax.{w64}
+use mir.Val.{Fits}
+use native.Mathlib.Nat.{mod-eq-of-lt, mod-lt, zero-lt-suc}
 use native.Mathlib.Omega.{arith}
 use lib.ListN.{length}
 use lib.Seq.{set-getD}
@@ -29,6 +31,12 @@ unchanged σ s x L W a o e p = rw (e, set-getD) p
 
 low-place : (s : ℕ) → s ≤ 15 → s % 16 ≡ s
 low-place s l = mod-eq-of-lt (let w : s < 16 = omega arith in w)
+
+pub place-low : (s : ℕ) → s % 16 < 16
+place-low s = mod-lt s (zero-lt-suc 15)
+
+pub place-bytes : (s : ℕ) → Fits w64 (s % 16 * 4)
+place-bytes s = omega (arith, place-low s)
 
 pub own-place : (ss : Sessions) (s : ℕ) (x : Session) → s ≤ 15 → x ≡ sessionAt ss (s % 16) → x ≡ sessionAt ss s
 own-place ss s x l e = e ∙ ap (sessionAt ss) (low-place s l)

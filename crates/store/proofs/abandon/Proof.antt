@@ -2,6 +2,7 @@
 use borrow.Author.Needs.{needs}
 use mathlib.Core.Path.{refl}
 use Rattle.model.specs.Buffers.{sessionAt}
+use Rattle.store.proofs.Own.{place-low, place-bytes}
 use Rattle.store.proofs.abandon.Statement.{statement}
 use Rattle.store.proofs.abandon.Tie as tie
 
@@ -14,4 +15,6 @@ returns c = c .before .before .before .before .before .before .before .abandon-o
 
 pub abandon-spec : {M : Type 1} → statement M
 abandon-spec =
-    tie.close (tie.spec (λ c. search needs) (λ c. search needs) (λ c. search needs) abandon-own-requires (λ c. search needs) (λ c. search needs) (λ c. search needs) (λ c. search needs) (λ c. search needs) returns)
+    tie.close
+    (tie.spec
+    (λ c. search needs) (λ c. place-bytes _) (λ c. place-low _) abandon-own-requires (λ c. place-bytes _) (λ c. place-low _) (λ c. c .before .before .before .before .before .before .before .abandon-own .kept .1 .1 .1 .1 .0) (λ c. c .before .before .before .before .before .before .before .abandon-own .kept .1 .1 .1 .1 .1 .0) (λ c. c .before .before .before .before .before .before .before .abandon-own .kept .1 .1 .1 .1 .1 .1 .0) returns)

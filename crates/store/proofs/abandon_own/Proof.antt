@@ -7,7 +7,7 @@ use lib.Dec.{eqb}
 use Rattle.model.specs.Buffers.{Store, sessionAt}
 use Rattle.store.specs.Lent.{storeOf, Sized}
 use Rattle.store.proofs.Refusals.{refused-7, refused-1, sized}
-use Rattle.store.proofs.Parts.{own, part-fits, can-decide, can-roll-back}
+use Rattle.store.proofs.Parts.{own, part-fits, can-decide, can-roll-back, part-start, part-stop, part-bytes, part-some}
 use Rattle.store.proofs.Own.{unchanged, own-place, put-place, tested-at, entries-at, rolled-at}
 use Rattle.store.proofs.Tested.{abandon-refused, abandon-entries, abandon-cancels}
 use Rattle.store.proofs.abandon_own.Statement.{statement}
@@ -62,4 +62,4 @@ pub abandon-own-spec : {M : Type 1} → statement M
 abandon-own-spec =
     tie.close
     (tie.spec
-    (λ c κs. search needs) returns returns-2 (λ c. search needs) (λ c. search needs) (λ c. search needs) (λ c. search needs) (λ c. search needs) part-tests-end tests-requires returns-3 (λ c. search needs) (λ c. search needs) (λ c. search needs) (λ c. search needs) part-roll-back-end roll-back-requires (λ c κs. search needs) (λ c. search needs) (λ c. search needs) (λ c. search needs) returns-4)
+    (λ c κs. tt) returns returns-2 (λ c. part-start _ _ (fits c)) (λ c. part-stop _ _ (fits c)) (λ c. part-bytes _ _ (fits c)) (λ c. part-some _) (λ c. part-some _) part-tests-end tests-requires returns-3 (λ c. search needs) (λ c. part-bytes _ _ (fits (c .before .before .before .before))) (λ c. part-some _) (λ c. part-some _) part-roll-back-end roll-back-requires (λ c κs. tt) (λ c. c .before .before .before .before .before .before .before .roll-back .kept .1 .1 .0) (λ c. c .before .before .before .before .before .before .before .roll-back .kept .1 .1 .1 .0) (λ c. c .before .before .before .before .before .before .before .roll-back .kept .1 .1 .1 .1 .0) returns-4)

@@ -2,6 +2,7 @@
 use borrow.Author.Needs.{needs}
 use mathlib.Core.Path.{refl}
 use Rattle.model.specs.Buffers.{sessionAt}
+use Rattle.store.proofs.Own.{place-low, place-bytes}
 use Rattle.store.proofs.begin.Statement.{statement}
 use Rattle.store.proofs.begin.Tie as tie
 
@@ -14,4 +15,6 @@ returns c = c .before .begin-own .ensures
 
 pub begin-spec : {M : Type 1} → statement M
 begin-spec =
-    tie.close (tie.spec (λ c. search needs) (λ c. search needs) (λ c. search needs) begin-own-requires (λ c. search needs) (λ c. search needs) returns)
+    tie.close
+    (tie.spec
+    (λ c. search needs) (λ c. place-bytes _) (λ c. place-low _) begin-own-requires (λ c. place-bytes _) (λ c. place-low _) returns)

@@ -1,12 +1,11 @@
 -- `store::begin_own` meets its contract: refusals 7 and 1 are the model's, and past them the number that `decide::tests` answers is the plan's.
 use mathlib.Core.Path.{_≡_}
-use borrow.Author.Needs.{needs}
 use borrow.Author.Tests.{not-true, not-false}
 use lib.Dec.{eqb}
 use Rattle.model.specs.Buffers.{Store, sessionAt}
 use Rattle.store.specs.Lent.{storeOf, Sized}
 use Rattle.store.proofs.Refusals.{refused-7, refused-1, sized}
-use Rattle.store.proofs.Parts.{own, part-fits, can-decide}
+use Rattle.store.proofs.Parts.{own, part-fits, can-decide, part-start, part-stop, part-bytes, part-some}
 use Rattle.store.proofs.Own.{unchanged, own-place, put-place, tested-at}
 use Rattle.store.proofs.Tested.{begin-refused, begin-starts}
 use Rattle.store.proofs.begin_own.Statement.{statement}
@@ -53,4 +52,4 @@ pub begin-own-spec : {M : Type 1} → statement M
 begin-own-spec =
     tie.close
     (tie.spec
-    (λ c κs. search needs) returns returns-2 (λ c. search needs) (λ c. search needs) (λ c. search needs) (λ c. search needs) (λ c. search needs) part-tests-end tests-requires returns-3 (λ c κs. search needs) returns-4)
+    (λ c κs. tt) returns returns-2 (λ c. part-start _ _ (fits c)) (λ c. part-stop _ _ (fits c)) (λ c. part-bytes _ _ (fits c)) (λ c. part-some _) (λ c. part-some _) part-tests-end tests-requires returns-3 (λ c κs. tt) returns-4)

@@ -2,6 +2,7 @@
 use borrow.Author.Needs.{needs}
 use mathlib.Core.Path.{refl}
 use Rattle.model.specs.Buffers.{sessionAt}
+use Rattle.store.proofs.Own.{place-low, place-bytes}
 use Rattle.store.proofs.read.Statement.{statement}
 use Rattle.store.proofs.read.Tie as tie
 
@@ -16,4 +17,4 @@ pub read-spec : {M : Type 1} → statement M
 read-spec =
     tie.close
     (tie.spec
-    (λ c. search needs) (λ c. search needs) (λ c. search needs) read-own-requires (λ c. search needs) (λ c. search needs) (λ c. search needs) (λ c. search needs) (λ c. search needs) (λ c. search needs) returns)
+    (λ c. search needs) (λ c. place-bytes _) (λ c. place-low _) read-own-requires (λ c. place-bytes _) (λ c. place-low _) (λ c. c .before .before .before .before .before .before .before .before .before .read-own .kept .1 .1 .1 .1 .0) (λ c. c .before .before .before .before .before .before .before .before .before .read-own .kept .1 .1 .1 .1 .1 .0) (λ c. c .before .before .before .before .before .before .before .before .before .read-own .kept .1 .1 .1 .1 .1 .1 .0) (λ c. c .before .before .before .before .before .before .before .before .before .read-own .kept .1 .1 .1 .1 .1 .1 .1 .0) returns)

@@ -1,15 +1,14 @@
 -- `store::read_as` meets its contract: each way through it is one law of proofs/Entering.antt, at the plan that `decide::read` answers.
-use native.Mathlib.Omega.{arith}
 use borrow.Author.Needs.{needs}
 use Prim.Native.Nat.{ℕ}
-use mathlib.Core.Path.{_≡_}
+use mathlib.Core.Path.{_≡_, refl}
 use Rattle.model.specs.Buffers.{Store, sessionAt}
 use Rattle.model.specs.declared.Lock.{Lock}
 use Rattle.model.specs.declared.Call.{Call}
 use Rattle.model.specs.declared.Plan.{Plan}
 use Rattle.model.specs.declared.Plan.the-variants.{Enter}
 use Rattle.store.specs.Lent.{storeOf}
-use Rattle.store.proofs.Parts.{own, part-fits, can-decide, locks-even, can-roll-back}
+use Rattle.store.proofs.Parts.{own, part-fits, can-decide, locks-even, can-roll-back, part-start, part-stop, part-bytes, part-some}
 use Rattle.store.proofs.Entering.{Decided, New, Left, OfRead, read-decided, refused, told-new, told-left, can-enter, rolled, read-told, read-entered}
 use Rattle.store.proofs.Own.{unchanged, read-at, room-at, inside-at, entries-at, appended-at, rolled-at, entered-at}
 use Rattle.store.proofs.read_as.Statement.{statement}
@@ -86,4 +85,4 @@ pub read-as-spec : {M : Type 1} → statement M
 read-as-spec =
     tie.close
     (tie.spec
-    (λ c. search needs) (λ c. search needs) at-requires (λ c. search needs) (λ c. search needs) (λ c. search needs) part-read-end read-requires (λ c. search needs) (λ c. search needs) (λ c. search needs) (λ c. search needs) (λ c. search needs) returns (λ c. search needs) (λ c. search needs) (λ c. search needs) (λ c. search needs) (λ c. search needs) returns-2 (λ c. search needs) (λ c. search needs) (λ c. search needs) shared-slice-read-value (λ c. search needs) (λ c. search needs) (λ c. search needs) part-enter-end enter-requires with-entry-requires (λ c. search needs) (λ c. search needs) (λ c. search needs) (λ c. search needs) returns-3 (λ c. search needs) (λ c. search needs) (λ c. search needs) part-roll-back-end roll-back-requires (λ c κs. search needs) (λ c. search needs) (λ c. search needs) (λ c. search needs) (λ c. search needs) returns-4)
+    (λ c. part-start _ _ (c .before .before .before .before .before .before .pre .0)) (λ c. part-stop _ _ (c .before .before .before .before .before .before .pre .0)) at-requires (λ c. part-bytes _ _ (c .before .before .before .before .before .before .before .before .before .before .pre .0)) (λ c. part-some _) (λ c. part-some _) part-read-end read-requires (λ c. c .match .keys1) (λ c. refl) (λ c. refl) (λ c. refl) (λ c. refl) returns (λ c. c .match2 .keys1) (λ c. refl) (λ c. refl) (λ c. refl) (λ c. refl) returns-2 (λ c. search needs) (λ c. c .match3 .keys1) (λ c. search needs) shared-slice-read-value (λ c. part-bytes _ _ (c .before .before .before .before .before .before .before .before .before .before .before .before .before .before .before .before .before .before .before .before .before .before .pre .0)) (λ c. part-some _) (λ c. part-some _) part-enter-end enter-requires with-entry-requires (λ c. c .before .before .before .before .before .before .before .before .before .enter .kept .0) (λ c. c .before .before .before .before .before .before .before .before .before .enter .kept .1 .0) (λ c. c .before .before .before .before .before .before .before .before .before .enter .kept .1 .1 .0) (λ c. search needs) returns-3 (λ c. part-bytes _ _ (c .before .before .before .before .before .before .before .before .before .before .before .before .before .before .before .before .before .pre .0)) (λ c. part-some _) (λ c. part-some _) part-roll-back-end roll-back-requires (λ c κs. tt) (λ c. c .before .before .before .before .before .before .before .roll-back .kept .1 .1 .0) (λ c. c .before .before .before .before .before .before .before .roll-back .kept .1 .1 .1 .0) (λ c. c .before .before .before .before .before .before .before .roll-back .kept .1 .1 .1 .1 .0) (λ c. refl) returns-4)

@@ -2,6 +2,7 @@
 use borrow.Author.Needs.{needs}
 use mathlib.Core.Path.{refl}
 use Rattle.model.specs.Buffers.{sessionAt}
+use Rattle.store.proofs.Own.{place-low, place-bytes}
 use Rattle.store.proofs.write.Statement.{statement}
 use Rattle.store.proofs.write.Tie as tie
 
@@ -16,4 +17,4 @@ pub write-spec : {M : Type 1} → statement M
 write-spec =
     tie.close
     (tie.spec
-    (λ c. search needs) (λ c. search needs) (λ c. search needs) write-own-requires (λ c. search needs) (λ c. search needs) (λ c. search needs) (λ c. search needs) (λ c. search needs) (λ c. search needs) returns)
+    (λ c. search needs) (λ c. place-bytes _) (λ c. place-low _) write-own-requires (λ c. place-bytes _) (λ c. place-low _) (λ c. c .before .before .before .before .before .before .before .before .before .write-own .kept .1 .1 .1 .1 .0) (λ c. c .before .before .before .before .before .before .before .before .before .write-own .kept .1 .1 .1 .1 .1 .0) (λ c. c .before .before .before .before .before .before .before .before .before .write-own .kept .1 .1 .1 .1 .1 .1 .0) (λ c. c .before .before .before .before .before .before .before .before .before .write-own .kept .1 .1 .1 .1 .1 .1 .1 .0) returns)

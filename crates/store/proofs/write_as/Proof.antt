@@ -1,15 +1,14 @@
 -- `store::write_as` meets its contract: each way through it is one law of proofs/Entering.antt, at the plan that `decide::write` answers.
-use native.Mathlib.Omega.{arith}
 use borrow.Author.Needs.{needs}
 use Prim.Native.Nat.{ℕ}
-use mathlib.Core.Path.{_≡_}
+use mathlib.Core.Path.{_≡_, refl}
 use Rattle.model.specs.Buffers.{Store, sessionAt}
 use Rattle.model.specs.declared.Lock.{Lock}
 use Rattle.model.specs.declared.Call.{Call}
 use Rattle.model.specs.declared.Plan.{Plan}
 use Rattle.model.specs.declared.Plan.the-variants.{EnterUpdate}
 use Rattle.store.specs.Lent.{storeOf}
-use Rattle.store.proofs.Parts.{own, part-fits, can-decide-write, locks-even, can-roll-back}
+use Rattle.store.proofs.Parts.{own, part-fits, can-decide-write, locks-even, can-roll-back, part-start, part-stop, part-bytes, part-some}
 use Rattle.store.proofs.Entering.{Decided, New, Left, OfWrite, write-decided, refused, told-new, told-left, can-enter, rolled, can-update, write-updated, entered-fits, can-update-new, logs-still, write-entered}
 use Rattle.store.proofs.Own.{unchanged, write-at, room-at, inside-at, entries-at, appended-at, updated-at, rolled-at, entered-at}
 use Rattle.store.proofs.write_as.Statement.{statement}
@@ -71,9 +70,6 @@ part-enter-end c = part-fits _ _ (is-new (c .before .before .before .before .bef
 enter-requires : tie.Need-enter-requires
 enter-requires c κs = let n = c .before .before .before .before .before .before in let w = can-enter (is-new n) in (w .0, w .1, w .2, w .3, inside-at _ _ (mine (n .before .before .before .before .before)) _ (w .4), w .5)
 
-mul-update-2 : tie.Need-mul-update-2
-mul-update-2 c = omega (arith, is-new (c .before .before .before .before .before .before .before .before .before .before .before .before .before .before .before) .decided .sized .session)
-
 part-update-end-2 : tie.Need-part-update-end-2
 part-update-end-2 c = let e = c .before .before .before .before .before .before .before .before in let n = e .before .before .before .before .before .before .before in entered-fits (is-new n) _ (appended-at _ _ (mine (n .before .before .before .before .before)) _ _ _ _ (e .enter .ensures .1))
 
@@ -105,4 +101,4 @@ pub write-as-spec : {M : Type 1} → statement M
 write-as-spec =
     tie.close
     (tie.spec
-    (λ c. search needs) (λ c. search needs) at-requires (λ c. search needs) (λ c. search needs) (λ c. search needs) part-write-end write-requires (λ c. search needs) (λ c. search needs) (λ c. search needs) (λ c. search needs) part-update-end (λ c. search needs) update-requires (λ c. search needs) (λ c. search needs) (λ c. search needs) (λ c. search needs) returns (λ c. search needs) (λ c. search needs) (λ c. search needs) (λ c. search needs) (λ c. search needs) returns-2 (λ c. search needs) (λ c. search needs) (λ c. search needs) shared-slice-read-found (λ c. search needs) (λ c. search needs) (λ c. search needs) part-enter-end enter-requires mul-update-2 (λ c. search needs) (λ c. search needs) part-update-end-2 update-requires-2 with-entry-requires (λ c. search needs) (λ c. search needs) (λ c. search needs) same-length-12 returns-3 (λ c. search needs) (λ c. search needs) (λ c. search needs) part-roll-back-end roll-back-requires (λ c κs. search needs) (λ c. search needs) (λ c. search needs) (λ c. search needs) (λ c. search needs) returns-4)
+    (λ c. part-start _ _ (c .before .before .before .before .before .before .pre .0)) (λ c. part-stop _ _ (c .before .before .before .before .before .before .pre .0)) at-requires (λ c. part-bytes _ _ (c .before .before .before .before .before .before .before .before .before .before .pre .0)) (λ c. part-some _) (λ c. part-some _) part-write-end write-requires (λ c. c .match .keys1) (λ c. part-bytes _ _ (c .before .before .before .before .before .before .before .before .before .before .before .before .before .before .before .before .pre .0)) (λ c. part-some _) (λ c. part-some _) part-update-end (λ c. search needs) update-requires (λ c. refl) (λ c. refl) (λ c. refl) (λ c. search needs) returns (λ c. c .match2 .keys1) (λ c. refl) (λ c. refl) (λ c. refl) (λ c. refl) returns-2 (λ c. search needs) (λ c. c .match3 .keys1) (λ c. search needs) shared-slice-read-found (λ c. part-bytes _ _ (c .before .before .before .before .before .before .before .before .before .before .before .before .before .before .before .before .before .before .before .before .before .before .before .pre .0)) (λ c. part-some _) (λ c. part-some _) part-enter-end enter-requires (λ c. part-bytes _ _ (c .before .before .before .before .before .before .before .before .before .before .before .before .before .before .before .before .before .before .before .before .before .before .before .before .before .before .before .before .before .before .before .before .before .pre .0)) (λ c. part-some _) (λ c. part-some _) part-update-end-2 update-requires-2 with-entry-requires (λ c. c .before .before .before .before .before .before .before .before .before .before .before .before .before .enter .kept .0) (λ c. c .before .before .before .before .before .before .before .before .before .before .before .before .before .enter .kept .1 .0) (λ c. c .before .before .before .before .before .before .before .before .before .before .before .before .before .enter .kept .1 .1 .0) same-length-12 returns-3 (λ c. part-bytes _ _ (c .before .before .before .before .before .before .before .before .before .before .before .before .before .before .before .before .before .pre .0)) (λ c. part-some _) (λ c. part-some _) part-roll-back-end roll-back-requires (λ c κs. tt) (λ c. c .before .before .before .before .before .before .before .roll-back .kept .1 .1 .0) (λ c. c .before .before .before .before .before .before .before .roll-back .kept .1 .1 .1 .0) (λ c. c .before .before .before .before .before .before .before .roll-back .kept .1 .1 .1 .1 .0) (λ c. refl) returns-4)

@@ -1,5 +1,4 @@
 -- `store::write_own` meets its contract: refusals 7 and 1 are the model's and leave the record, and past them `write_as` is the call.
-use borrow.Author.Needs.{needs}
 use borrow.Author.Tests.{not-true, not-false}
 use Rattle.model.specs.Buffers.{Store}
 use Rattle.store.specs.Lent.{storeOf}
@@ -30,4 +29,4 @@ pub write-own-spec : {M : Type 1} → statement M
 write-own-spec =
     tie.close
     (tie.spec
-    (λ c κs. search needs) returns returns-2 write-as-requires (λ c. search needs) (λ c. search needs) (λ c. search needs) (λ c. search needs) returns-3)
+    (λ c κs. tt) returns returns-2 write-as-requires (λ c. c .before .before .before .before .before .before .before .before .write-as .kept .1 .1 .1 .1 .0) (λ c. c .before .before .before .before .before .before .before .before .write-as .kept .1 .1 .1 .1 .1 .0) (λ c. c .before .before .before .before .before .before .before .before .write-as .kept .1 .1 .1 .1 .1 .1 .0) (λ c. c .before .before .before .before .before .before .before .before .write-as .kept .1 .1 .1 .1 .1 .1 .1 .0) returns-3)
