@@ -117,6 +117,27 @@ static inline uint32_t judge(const plain_lent *lent, const plain_session *sessio
     return 0;
 }
 
+/* Refusals 7, 1, 9 and 2, or 0, of a call that fits one phase. */
+static inline uint32_t admit(const plain_lent *lent, const plain_session *sessions, uint8_t session, uint8_t phase)
+{
+    dirty_step step;
+    uint32_t refused = judge(lent, sessions, session, &step);
+    if (refused) {
+        return refused;
+    }
+    return sessions[session].phase != phase ? 2 : 0;
+}
+
+/* Refusals 7, 1, 9, 2 and 3, or 0, of a running session's call on a cell. */
+static inline uint32_t admit_cell(const plain_lent *lent, const plain_session *sessions, uint8_t session, uint32_t cell)
+{
+    uint32_t refused = admit(lent, sessions, session, RUNNING);
+    if (refused) {
+        return refused;
+    }
+    return cell >= lent->values_len ? 3 : 0;
+}
+
 static inline void go_idle(plain_session *record)
 {
     record->phase = IDLE;
@@ -192,15 +213,11 @@ plain_answer plain_set_up(const plain_lent *lent, plain_session *sessions)
 
 plain_answer plain_begin(const plain_lent *lent, plain_session *sessions, uint8_t session)
 {
-    dirty_step step;
-    uint32_t refused = judge(lent, sessions, session, &step);
+    uint32_t refused = admit(lent, sessions, session, IDLE);
     if (refused) {
         return answer(refused);
     }
     plain_session *record = &sessions[session];
-    if (record->phase != IDLE) {
-        return answer(2);
-    }
     record->phase = RUNNING;
     record->count = 0;
     record->next = 0;
@@ -209,20 +226,12 @@ plain_answer plain_begin(const plain_lent *lent, plain_session *sessions, uint8_
 
 plain_answer plain_read(const plain_lent *lent, plain_session *sessions, uint8_t session, uint32_t cell)
 {
-    dirty_step step;
-    uint32_t refused = judge(lent, sessions, session, &step);
+    uint32_t refused = admit_cell(lent, sessions, session, cell);
     if (refused) {
         return answer(refused);
     }
-    plain_session *record = &sessions[session];
-    if (record->phase != RUNNING) {
-        return answer(2);
-    }
-    if (cell >= lent->values_len) {
-        return answer(3);
-    }
     uint32_t *entry;
-    refused = enter(lent, record, session, cell, &entry);
+    refused = enter(lent, &sessions[session], session, cell, &entry);
     if (refused) {
         return answer(refused);
     }
@@ -232,17 +241,9 @@ plain_answer plain_read(const plain_lent *lent, plain_session *sessions, uint8_t
 
 plain_answer plain_write(const plain_lent *lent, plain_session *sessions, uint8_t session, uint32_t cell, uint32_t value)
 {
-    dirty_step step;
-    uint32_t refused = judge(lent, sessions, session, &step);
+    uint32_t refused = admit_cell(lent, sessions, session, cell);
     if (refused) {
         return answer(refused);
-    }
-    plain_session *record = &sessions[session];
-    if (record->phase != RUNNING) {
-        return answer(2);
-    }
-    if (cell >= lent->values_len) {
-        return answer(3);
     }
     uint8_t class = lent->classes[cell];
     if (class > PLAIN_MAX_CLASS) {
@@ -252,7 +253,7 @@ plain_answer plain_write(const plain_lent *lent, plain_session *sessions, uint8_
         return answer(4);
     }
     uint32_t *entry;
-    refused = enter(lent, record, session, cell, &entry);
+    refused = enter(lent, &sessions[session], session, cell, &entry);
     if (refused) {
         return answer(refused);
     }
@@ -263,15 +264,11 @@ plain_answer plain_write(const plain_lent *lent, plain_session *sessions, uint8_
 
 plain_answer plain_seal(const plain_lent *lent, plain_session *sessions, uint8_t session)
 {
-    dirty_step step;
-    uint32_t refused = judge(lent, sessions, session, &step);
+    uint32_t refused = admit(lent, sessions, session, RUNNING);
     if (refused) {
         return answer(refused);
     }
     plain_session *record = &sessions[session];
-    if (record->phase != RUNNING) {
-        return answer(2);
-    }
     const uint32_t *log = entry_at(lent, session, 0);
     uint64_t seen[PLAIN_MAX_CELLS / 64] = {0};
     int any_dirty = 0;
@@ -360,16 +357,9 @@ plain_answer plain_abandon(const plain_lent *lent, plain_session *sessions, uint
 static inline uint32_t judge_peek(const plain_lent *lent, const plain_session *sessions, uint8_t session, uint32_t cell,
                                   const uint32_t **entry)
 {
-    dirty_step step;
-    uint32_t refused = judge(lent, sessions, session, &step);
+    uint32_t refused = admit_cell(lent, sessions, session, cell);
     if (refused) {
         return refused;
-    }
-    if (sessions[session].phase != RUNNING) {
-        return 2;
-    }
-    if (cell >= lent->values_len) {
-        return 3;
     }
     uint32_t count = sessions[session].count;
     uint32_t i = find(entry_at(lent, session, 0), count, cell);

@@ -44,6 +44,14 @@ fn value_of(a: Answer) -> u32
     }
 }
 
+// The caller is told an answer: its number in n, its value in v.
+fn tell(a: Answer, n: &mut u32, v: &mut u32)
+    ensures { λ _. ⌜ (now (n .exit) ≡ number a) × (now (v .exit) ≡ valueOf a) ⌝ }
+{
+    *n = number_of(a);
+    *v = value_of(a);
+}
+
 // Set-up: 100, 7 or 8.
 #[no_mangle]
 pub extern "C" fn rukkanei_set_up(
@@ -69,10 +77,8 @@ pub extern "C" fn rukkanei_set_up(
         logs,
     );
     let answer = reply.answer;
-    let left = reply.sessions;
-    *number = number_of(answer);
-    *value = value_of(answer);
-    left
+    tell(answer, number, value);
+    reply.sessions
 }
 
 // Begin: 100, or a refusal.
@@ -102,10 +108,8 @@ pub extern "C" fn rukkanei_begin(
         session,
     );
     let answer = reply.answer;
-    let left = reply.sessions;
-    *number = number_of(answer);
-    *value = value_of(answer);
-    left
+    tell(answer, number, value);
+    reply.sessions
 }
 
 // Read: 101 with the value, 6 with the session rolled back, or a refusal.
@@ -137,10 +141,8 @@ pub extern "C" fn rukkanei_read(
         cell,
     );
     let answer = reply.answer;
-    let left = reply.sessions;
-    *number = number_of(answer);
-    *value = value_of(answer);
-    left
+    tell(answer, number, value);
+    reply.sessions
 }
 
 // Write: 100, 6 with the session rolled back, or a refusal.
@@ -174,10 +176,8 @@ pub extern "C" fn rukkanei_write(
         written,
     );
     let answer = reply.answer;
-    let left = reply.sessions;
-    *number = number_of(answer);
-    *value = value_of(answer);
-    left
+    tell(answer, number, value);
+    reply.sessions
 }
 
 // Seal: 102, 105, or a refusal.
@@ -207,10 +207,8 @@ pub extern "C" fn rukkanei_seal(
         session,
     );
     let answer = reply.answer;
-    let left = reply.sessions;
-    *number = number_of(answer);
-    *value = value_of(answer);
-    left
+    tell(answer, number, value);
+    reply.sessions
 }
 
 // Advance: 103, 104, 105, 6 with the session rolled back, or a refusal.
@@ -240,10 +238,8 @@ pub extern "C" fn rukkanei_advance(
         session,
     );
     let answer = reply.answer;
-    let left = reply.sessions;
-    *number = number_of(answer);
-    *value = value_of(answer);
-    left
+    tell(answer, number, value);
+    reply.sessions
 }
 
 // Abandon: 100, or a refusal.
@@ -273,10 +269,8 @@ pub extern "C" fn rukkanei_abandon(
         session,
     );
     let answer = reply.answer;
-    let left = reply.sessions;
-    *number = number_of(answer);
-    *value = value_of(answer);
-    left
+    tell(answer, number, value);
+    reply.sessions
 }
 
 // Peek's twin: 100, or a refusal.
@@ -308,10 +302,8 @@ pub extern "C" fn rukkanei_peek_number(
         cell,
     );
     let answer = reply.answer;
-    let left = reply.sessions;
-    *number = number_of(answer);
-    *value = value_of(answer);
-    left
+    tell(answer, number, value);
+    reply.sessions
 }
 
 // Where a peek's word is: 1 and its index in the values, 2 and its index in the logs; 0, with the index as before, where the peek is refused.

@@ -18,7 +18,7 @@ use Rattle.model.specs.declared.Call.the-variants.{Advance}
 use Rattle.model.specs.declared.Answer.the-variants
 use Rattle.model.specs.declared.Answer.the-variants.{Moved, Waiting}
 use Rattle.model.specs.declared.Plan.{Plan}
-use Rattle.model.specs.declared.Plan.the-variants.{Refuse, RollBack, Wait, Own, Publish, Release}
+use Rattle.model.specs.declared.Plan.the-variants.{RollBack, Wait, Own, Publish, Release}
 use Rattle.model.proofs.Tools.{split}
 use Rattle.model.proofs.Laws.{below-is}
 use Rattle.log.specs.Slots.{part}
@@ -29,7 +29,7 @@ use Rattle.decide.specs.declared.Handled.{Handled}
 use Rattle.decide.proofs.Agree.{part-below, advance-refused, advance-agree, due-known, handled-agree, handled-moves, handled-releases}
 use Rattle.decide.proofs.Ways.{Entries}
 use Rattle.store.specs.Lent.{carried, Sized, Admitted}
-use Rattle.store.proofs.Carry.{carries, put-on, leaves, keeps, carry-refuse, carry-roll-back, carry-wait, carry-own, carry-publish, carry-release}
+use Rattle.store.proofs.Carry.{carries, refuses, put-on, leaves, keeps, carry-roll-back, carry-wait, carry-own, carry-publish, carry-release}
 use Rattle.store.proofs.Refusals.{lengths-of}
 use Rattle.store.proofs.Parts.{own, cut, cut-is, rolled-back, can-decide, can-roll-back}
 use Rattle.store.proofs.Tags.{Passed, passed, apart}
@@ -45,8 +45,7 @@ module _ (σ : Store) (s : ℕ) (z : Sized σ s) where
   pub due-refused : (r : ℕ) → dueOn (length (σ .lent .values)) (cut (σ .lent .logs) s) (own σ s) ≡ Refused r
       → outcome (the-variants.Refused r) σ ≡ taken (Advance s) σ
   unfolding planOf size sessionAt
-  due-refused r e =
-      carry-refuse s σ r ∙ carries (Advance s) σ (Refuse r) (advance-refused (σ .lent) s (own σ s) (z .lengths) (z .session) r (rw cut-is at e))
+  due-refused r e = refuses (Advance s) σ r (advance-refused (σ .lent) s (own σ s) (z .lengths) (z .session) r (rw cut-is at e))
 
   module _ (k : ℕ) (e : dueOn (length (σ .lent .values)) (cut (σ .lent .logs) s) (own σ s) ≡ Slot k) where
     pub due-planned : atEntry σ s k ≡ planOf (Advance s) σ

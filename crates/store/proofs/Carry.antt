@@ -1,5 +1,5 @@
 -- A call is its plan carried out; and what each plan leaves, in the shape in which the code leaves it: an answer, lists, one record put in its place.
-use mathlib.Core.Path.{_≡_, refl}
+use mathlib.Core.Path.{_≡_, refl, _∙_}
 use Prim.Native.Nat.{ℕ}
 use mathlib.Core.List.{List}
 use lib.ListN.{getD, set}
@@ -121,3 +121,7 @@ module _ (s : ℕ) (σ : Store) where
         → outcome a (leaves σ s L (σ .lent .values) (σ .lent .logs) y) ≡ carried s (Release c) σ
     unfolding carried answer after withSession
     carry-release L e l = rw (l, e, record-is)
+
+-- a call whose plan is a refusal
+pub refuses : (k : Call) (σ : Store) (r : ℕ) → Refuse r ≡ planOf k σ → outcome (Refused r) σ ≡ taken k σ
+refuses k σ r e = carry-refuse (sessionOf k) σ r ∙ carries k σ (Refuse r) e

@@ -20,7 +20,7 @@ use Rattle.decide.specs.Own.{readOn, writeOn}
 use Rattle.decide.proofs.Ways.{Entries}
 use Rattle.decide.proofs.Agree.{read-agree, write-agree}
 use Rattle.store.specs.Lent.{Sized}
-use Rattle.store.proofs.Carry.{carries, leaves, keeps, carry-refuse, carry-tell, carry-enter, carry-update, carry-enter-update, carry-roll-back}
+use Rattle.store.proofs.Carry.{carries, refuses, leaves, keeps, carry-tell, carry-enter, carry-update, carry-enter-update, carry-roll-back}
 use Rattle.store.proofs.Refusals.{lengths-of}
 use Rattle.store.proofs.Parts.{own, cut, cut-is, puts, part-long, put-appended, put-updated, rolled-back, can-decide, locks-even}
 use Rattle.store.proofs.Tags.{tag, Passed, Passes}
@@ -81,7 +81,7 @@ module _ (σ : Store) (s c : ℕ) (z : Sized σ s) (l : Lock) (f : l ≡ lockAt 
 module _ {σ : Store} {k : Call} {c : ℕ} {l : Lock} {known : ℕ → Plan} {new p : Plan} where
   module _ (d : Decided σ k c l known new p) where
     pub refused : (r : ℕ) → p ≡ Refuse r → outcome (Refused r) σ ≡ taken k σ
-    refused r e = carry-refuse (sessionOf k) σ r ∙ carries k σ (Refuse r) (sym e ∙ d .planned)
+    refused r e = refuses k σ r (sym e ∙ d .planned)
 
     -- a match told the variant of a new cell, or passed over those of a known cell, of refusals and of a new cell
     pub told-new : (q : Plan) → T (not (eqb 0 (tag q))) → ((j : ℕ) → T (not (eqb (tag (known j)) (tag q)))) → T (not (eqb 6 (tag q))) → p ≡ q

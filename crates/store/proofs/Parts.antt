@@ -8,6 +8,8 @@ use native.Mathlib.Nat.{zero-add, suc-add}
 use native.Mathlib.Omega.{arith}
 use lib.ListN.{length, getD, set, take, drop, length-set, take-append-drop}
 use lib.Seq.{length-take-le, set-append-left, sets}
+use mir.Syntax.{w64}
+use mir.Val.{Fits}
 use Rattle.model.specs.Buffers.{Locks, Store, idle, cellAt, appended, updated, sweep, leave, withdraw}
 use Rattle.model.specs.Step.{rolledBack, readsDropped}
 use Rattle.model.specs.declared.Session.{Session}
@@ -104,9 +106,27 @@ module _ (σ : Store) (s : ℕ) (x : Session) (few : x .count ≤ 32) where
       (sweep-ext _ _ (leave s) _ (cellAt (σ .lent .logs) s) (x .count) (σ .lent .locks) (λ c. ap not (part-publishes (σ .lent .logs) s (x .count) few c))
       (λ j l. part-cell (σ .lent .logs) s j (omega arith)))
 
--- ---- what the callees ask, of a store with fitting lengths
+-- ---- what is asked of a store with fitting lengths: by the machine, where the part and the record are taken, and by the callees
+
+pub part-some : (s : ℕ) → 128 * s ≤ 128 * s + 128
+part-some s = omega arith
 
 module _ (σ : Store) (s : ℕ) (z : Sized σ s) where
+  low : s < 16
+  low = z .session
+
+  pub part-start : Fits w64 (128 * s)
+  part-start = omega (arith, low)
+
+  pub part-stop : Fits w64 (128 * s + 128)
+  part-stop = omega (arith, low)
+
+  pub part-bytes : Fits w64 (128 * s * 4)
+  part-bytes = omega (arith, low)
+
+  pub record-bytes : Fits w64 (s * 4)
+  record-bytes = omega (arith, low)
+
   sizes : Lengths (σ .lent)
   sizes = lengths-of (σ .lent) (z .lengths)
 

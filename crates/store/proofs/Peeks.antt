@@ -25,7 +25,7 @@ use Rattle.decide.specs.Own.{peekOn}
 use Rattle.decide.proofs.Agree.{record-agree, peek-agree}
 use Rattle.decide.proofs.Ways.{record-entries}
 use Rattle.store.specs.Lent.{carried, Sized, PartOf, Handed}
-use Rattle.store.proofs.Carry.{carries, carry-refuse, carry-show-store, carry-show-log}
+use Rattle.store.proofs.Carry.{carries, refuses, carry-show-store, carry-show-log}
 use Rattle.store.proofs.Refusals.{lengths-of}
 use Rattle.store.proofs.Parts.{own, cut, cut-is}
 use Rattle.store.proofs.Tags.{tag, Passed, passed, apart}
@@ -119,7 +119,7 @@ module _ (σ : Store) (s c : ℕ) (p : Plan) (e : p ≡ planOf (Peek s c) σ) wh
   peek-logged k f = of-log way k f
 
   pub peek-refused : (r : ℕ) → p ≡ Refuse r → outcome (Refused r) σ ≡ taken (Peek s c) σ
-  peek-refused r f = carry-refuse s σ r ∙ carries (Peek s c) σ (Refuse r) (sym f ∙ e)
+  peek-refused r f = refuses (Peek s c) σ r (sym f ∙ e)
 
   pub peek-done : Passed 0 p → outcome Done σ ≡ taken (Peek s c) σ
   peek-done a = of-either way a ∙ carries (Peek s c) σ p e

@@ -16,7 +16,7 @@ use Rattle.model.specs.declared.Plan.the-variants.{Refuse}
 use Rattle.model.proofs.Tools.{test, clash, and-false}
 use Rattle.decide.specs.Own.{lengthsOn}
 use Rattle.store.specs.Lent.{Sized}
-use Rattle.store.proofs.Carry.{carries, carry-refuse}
+use Rattle.store.proofs.Carry.{refuses}
 
 -- what fitting lengths say, one by one
 pub record Lengths (B : Buffers) : Type 0 where
@@ -75,10 +75,10 @@ module _ (σ : Store) (b : Bool)
   fit-is = e
 
   pub refused-7 : (k : Call) → b ≡ false → outcome (Refused 7) σ ≡ taken k σ
-  refused-7 k h = carry-refuse (sessionOf k) σ 7 ∙ carries k σ (Refuse 7) (sym (plan-7 k σ (sym fit-is ∙ h)))
+  refused-7 k h = refuses k σ 7 (sym (plan-7 k σ (sym fit-is ∙ h)))
 
   pub refused-1 : (k : Call) → b ≡ true → 15 < sessionOf k → outcome (Refused 1) σ ≡ taken k σ
-  refused-1 k h l = carry-refuse (sessionOf k) σ 1 ∙ carries k σ (Refuse 1) (sym (plan-1 k σ (sym fit-is ∙ h) l))
+  refused-1 k h l = refuses k σ 1 (sym (plan-1 k σ (sym fit-is ∙ h) l))
 
   pub sized : (s : ℕ) → b ≡ true → s ≤ 15 → Sized σ s
   sized s h l = record { lengths = sym fit-is ∙ h; session = omega arith }

@@ -20,7 +20,7 @@ use Rattle.decide.specs.Own.{recordOn, guardOn, sealOn}
 use Rattle.decide.proofs.Agree.{seal-agree}
 use Rattle.decide.proofs.Ways.{Entries, record-entries}
 use Rattle.store.specs.Lent.{Sized}
-use Rattle.store.proofs.Carry.{carries, leaves, carry-refuse, carry-commit-reads, carry-begin-promotion}
+use Rattle.store.proofs.Carry.{carries, refuses, leaves, carry-commit-reads, carry-begin-promotion}
 use Rattle.store.proofs.Refusals.{lengths-of}
 use Rattle.store.proofs.Parts.{own, cut, cut-is, reads-dropped, locks-even, can-sweep}
 use Rattle.store.proofs.Tags.{Passed, passed}
@@ -76,7 +76,7 @@ module _ (σ : Store) (s : ℕ) (z : Sized σ s) (p : Plan) (e : p ≡ sealOn (l
   seal-planned = e ∙ rw cut-is (seal-agree (σ .lent) s (own σ s) (z .lengths) (z .session))
 
   pub seal-refused : (r : ℕ) → p ≡ Refuse r → outcome (Refused r) σ ≡ taken (Seal s) σ
-  seal-refused r f = carry-refuse s σ r ∙ carries (Seal s) σ (Refuse r) (sym f ∙ seal-planned)
+  seal-refused r f = refuses (Seal s) σ r (sym f ∙ seal-planned)
 
   -- no refusal
   module _ (h : Passed 0 p) where

@@ -9,22 +9,21 @@ use Rattle.model.specs.Step.{outcome, taken, planOf}
 use Rattle.model.specs.declared.Session.{Session}
 use Rattle.model.specs.declared.Call.the-variants.{Begin, Abandon}
 use Rattle.model.specs.declared.Answer.the-variants.{Done, Refused}
-use Rattle.model.specs.declared.Plan.the-variants.{Refuse, Start, Cancel}
+use Rattle.model.specs.declared.Plan.the-variants.{Start, Cancel}
 use Rattle.model.proofs.Tools.{clash}
 use Rattle.locks.specs.Sweeps.{rolledBackIn}
 use Rattle.decide.specs.Own.{recordOn, tested}
 use Rattle.decide.proofs.Ways.{Entries, passes, record-entries}
 use Rattle.decide.proofs.Agree.{begin-passes, begin-turned, abandon-passes, abandon-turned}
 use Rattle.store.specs.Lent.{Sized}
-use Rattle.store.proofs.Carry.{carries, leaves, carry-refuse, carry-start, carry-cancel}
+use Rattle.store.proofs.Carry.{carries, refuses, leaves, carry-start, carry-cancel}
 use Rattle.store.proofs.Parts.{own, cut, cut-is, rolled-back}
 
 module _ (σ : Store) (s : ℕ) (z : Sized σ s) (r : ℕ) where
   module _ (e : r ≡ tested (recordOn (length (σ .lent .values)) (cut (σ .lent .logs) s) (own σ s)) (eqb (own σ s .phase) 0)) where
     pub begin-refused : (r ≡ 0 → ⊥) → outcome (Refused r) σ ≡ taken (Begin s) σ
     unfolding planOf size sessionAt
-    begin-refused n =
-        carry-refuse s σ r ∙ carries (Begin s) σ (Refuse r) (begin-turned (σ .lent) s (own σ s) (z .lengths) (z .session) r (rw cut-is at e) n)
+    begin-refused n = refuses (Begin s) σ r (begin-turned (σ .lent) s (own σ s) (z .lengths) (z .session) r (rw cut-is at e) n)
 
     pub begin-starts : r ≡ 0 → (y : Session) → y ≡ running
         → outcome Done (leaves σ s (σ .lent .locks) (σ .lent .values) (σ .lent .logs) y) ≡ taken (Begin s) σ
@@ -35,8 +34,7 @@ module _ (σ : Store) (s : ℕ) (z : Sized σ s) (r : ℕ) where
   module _ (e : r ≡ tested (recordOn (length (σ .lent .values)) (cut (σ .lent .logs) s) (own σ s)) (eqb (own σ s .phase) 1 || eqb (own σ s .phase) 2)) where
     pub abandon-refused : (r ≡ 0 → ⊥) → outcome (Refused r) σ ≡ taken (Abandon s) σ
     unfolding planOf size sessionAt
-    abandon-refused n =
-        carry-refuse s σ r ∙ carries (Abandon s) σ (Refuse r) (abandon-turned (σ .lent) s (own σ s) (z .lengths) (z .session) r (rw cut-is at e) n)
+    abandon-refused n = refuses (Abandon s) σ r (abandon-turned (σ .lent) s (own σ s) (z .lengths) (z .session) r (rw cut-is at e) n)
 
     module _ (o : r ≡ 0) where
       -- the session is in phase 1 or 2, so that its entries fit

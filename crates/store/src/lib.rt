@@ -2,7 +2,7 @@
 // Each call takes the records of all sixteen sessions and hands them back with its answer. It decides, then carries the plan out.
 ghost use mathlib.Core.Path.{_≡_};
 ghost use mathlib.Core.Bool.{Bool, true, false};
-ghost use Prim.Native.Nat.{ℕ, _+_, _*_, _<_, _≤_};
+ghost use Prim.Native.Nat.{ℕ, _+_, _*_, _%_, _<_, _≤_};
 ghost use lib.ListN.{length, replicate};
 ghost use Rattle.model.specs.Buffers.{sessionAt, cellAt, lockAt, lockOn, join, appended};
 ghost use Rattle.model.specs.Step.{outcome, taken, setUpTaken, planOf, shown};
@@ -10,7 +10,7 @@ ghost use Rattle.model.specs.declared.Call.the-variants.{Begin, Read, Write, Se
 ghost use Rattle.log.specs.Slots.{part};
 ghost use Rattle.locks.specs.Sweeps.{locksOf};
 ghost use Rattle.decide.specs.Own.{advanceOn};
-ghost use Rattle.store.specs.Lent.{storeOf, carried, Sized, Admitted, Handed};
+ghost use Rattle.store.specs.Lent.{storeOf, withRecord, carried, Sized, Admitted, Handed};
 use decide::Due;
 use model::Answer;
 use model::Call;
@@ -18,6 +18,13 @@ use model::Lock;
 use model::Plan;
 use model::Reply;
 use model::Sessions;
+
+// A call's answer, and the record that it leaves its session. Begin, read, write and abandon hand on one record by value and put what is left of it
+// in its place at the end, so that the sixteen are copied in and out once. Their inner functions name the sixteen in their contracts alone.
+struct Kept {
+    answer: Answer,
+    session: Session,
+}
 
 // ---- set-up
 
@@ -87,6 +94,59 @@ pub fn set_up(
 
 // ---- the calls
 
+// Begin, of the session whose record is x.
+fn begin_own(
+    sessions: Sessions,
+    x: Session,
+    values: &[u32],
+    classes: &[u8],
+    readers: &[u16],
+    claimants: &[u8],
+    exclusives: &[u8],
+    logs: &[u32],
+    session: u8,
+) -> Kept
+    requires { ⌜ x ≡ sessionAt sessions (session % 16) ⌝ }
+    ensures { λ r. ⌜ outcome (r .answer) (storeOf (now (values .entry)) (now (classes .entry)) (now (readers .entry)) (now (claimants .entry)) (now (exclusives .entry)) (now (logs .entry)) (withRecord sessions (session % 16) (r .session))) ≡ taken (Begin session) (storeOf (now (values .entry)) (now (classes .entry)) (now (readers .entry)) (now (claimants .entry)) (now (exclusives .entry)) (now (logs .entry)) sessions) ⌝ }
+{
+    let n = values.len();
+    if !decide::lengths_fit(
+        n,
+        classes.len(),
+        readers.len(),
+        claimants.len(),
+        exclusives.len(),
+        logs.len(),
+    ) {
+        return Kept {
+            answer: Answer::Refused(7),
+            session: x,
+        };
+    }
+    if 15 < session {
+        return Kept {
+            answer: Answer::Refused(1),
+            session: x,
+        };
+    }
+    let i = session as usize;
+    let a = 128 * i;
+    let e = a + 128;
+    let phase = x.phase;
+    let turned = decide::tests(&logs[a..e], n, x, phase == 0);
+    if turned != 0 {
+        return Kept {
+            answer: Answer::Refused(turned),
+            session: x,
+        };
+    }
+    let y = x.begun();
+    Kept {
+        answer: Answer::Done,
+        session: y,
+    }
+}
+
 // Begin: idle only. The session runs with no entry. 100.
 pub fn begin(
     mut sessions: Sessions,
@@ -100,43 +160,23 @@ pub fn begin(
 ) -> Reply
     ensures { λ r. ⌜ outcome (r .answer) (storeOf (now (values .entry)) (now (classes .entry)) (now (readers .entry)) (now (claimants .entry)) (now (exclusives .entry)) (now (logs .entry)) (r .sessions)) ≡ taken (Begin session) (storeOf (now (values .entry)) (now (classes .entry)) (now (readers .entry)) (now (claimants .entry)) (now (exclusives .entry)) (now (logs .entry)) sessions) ⌝ }
 {
-    let n = values.len();
-    if !decide::lengths_fit(
-        n,
-        classes.len(),
-        readers.len(),
-        claimants.len(),
-        exclusives.len(),
-        logs.len(),
-    ) {
-        return Reply {
-            answer: Answer::Refused(7),
-            sessions,
-        };
-    }
-    if 15 < session {
-        return Reply {
-            answer: Answer::Refused(1),
-            sessions,
-        };
-    }
-    let i = session as usize;
-    let a = 128 * i;
-    let e = a + 128;
+    let i = (session % 16) as usize;
     let x = sessions.records[i];
-    let phase = x.phase;
-    let turned = decide::tests(&logs[a..e], n, x, phase == 0);
-    if turned != 0 {
-        return Reply {
-            answer: Answer::Refused(turned),
-            sessions,
-        };
-    }
-    sessions.records[i] = x.begun();
-    Reply {
-        answer: Answer::Done,
+    let kept = begin_own(
         sessions,
-    }
+        x,
+        values,
+        classes,
+        readers,
+        claimants,
+        exclusives,
+        logs,
+        session,
+    );
+    let answer = kept.answer;
+    let y = kept.session;
+    sessions.records[i] = y;
+    Reply { answer, sessions }
 }
 
 // A new cell is locked and entered: the session joins its readers, and entry count holds the value.
@@ -166,7 +206,8 @@ fn enter(
 
 // Read, once the lengths and the session fit.
 fn read_as(
-    mut sessions: Sessions,
+    sessions: Sessions,
+    x: Session,
     values: &[u32],
     classes: &[u8],
     readers: &mut [u16],
@@ -175,27 +216,26 @@ fn read_as(
     logs: &mut [u32],
     session: u8,
     cell: u32,
-) -> Reply
-    requires { ⌜ Sized (storeOf (now values) (now classes) (now readers) (now claimants) (now exclusives) (now logs) sessions) session ⌝ }
-    ensures { λ r. ⌜ outcome (r .answer) (storeOf (now (values .entry)) (now (classes .entry)) (now (readers .exit)) (now (claimants .exit)) (now (exclusives .exit)) (now (logs .exit)) (r .sessions)) ≡ taken (Read session cell) (storeOf (now (values .entry)) (now (classes .entry)) (now (readers .entry)) (now (claimants .entry)) (now (exclusives .entry)) (now (logs .entry)) sessions) ⌝ }
+) -> Kept
+    requires { ⌜ (Sized (storeOf (now values) (now classes) (now readers) (now claimants) (now exclusives) (now logs) sessions) session) × (x ≡ sessionAt sessions session) ⌝ }
+    ensures { λ r. ⌜ outcome (r .answer) (storeOf (now (values .entry)) (now (classes .entry)) (now (readers .exit)) (now (claimants .exit)) (now (exclusives .exit)) (now (logs .exit)) (withRecord sessions session (r .session))) ≡ taken (Read session cell) (storeOf (now (values .entry)) (now (classes .entry)) (now (readers .entry)) (now (claimants .entry)) (now (exclusives .entry)) (now (logs .entry)) sessions) ⌝ }
 {
     let n = values.len();
     let i = session as usize;
     let a = 128 * i;
     let e = a + 128;
-    let x = sessions.records[i];
     let l = locks::at(&readers[..], &claimants[..], &exclusives[..], cell);
     let p = decide::read(&logs[a..e], n, x, l, cell);
     if let Plan::Tell(value) = p {
-        return Reply {
+        return Kept {
             answer: Answer::Value(value),
-            sessions,
+            session: x,
         };
     }
     if let Plan::Refuse(number) = p {
-        return Reply {
+        return Kept {
             answer: Answer::Refused(number),
-            sessions,
+            session: x,
         };
     }
     let count = x.count as usize;
@@ -212,23 +252,24 @@ fn read_as(
             cell,
             value,
         );
-        sessions.records[i] = x.with_entry();
-        return Reply {
+        let y = x.with_entry();
+        return Kept {
             answer: Answer::Value(value),
-            sessions,
+            session: y,
         };
     }
     locks::roll_back(&logs[a..e], count, readers, claimants, exclusives, session);
-    sessions.records[i] = x.rested();
-    Reply {
+    let y = x.rested();
+    Kept {
         answer: Answer::Refused(6),
-        sessions,
+        session: y,
     }
 }
 
-// Read: running only. 101 with a known cell's present value; a new cell is locked and entered, or the session is rolled back, 6.
-pub fn read(
+// Read, of the session whose record is x.
+fn read_own(
     sessions: Sessions,
+    x: Session,
     values: &[u32],
     classes: &[u8],
     readers: &mut [u16],
@@ -237,8 +278,9 @@ pub fn read(
     logs: &mut [u32],
     session: u8,
     cell: u32,
-) -> Reply
-    ensures { λ r. ⌜ outcome (r .answer) (storeOf (now (values .entry)) (now (classes .entry)) (now (readers .exit)) (now (claimants .exit)) (now (exclusives .exit)) (now (logs .exit)) (r .sessions)) ≡ taken (Read session cell) (storeOf (now (values .entry)) (now (classes .entry)) (now (readers .entry)) (now (claimants .entry)) (now (exclusives .entry)) (now (logs .entry)) sessions) ⌝ }
+) -> Kept
+    requires { ⌜ x ≡ sessionAt sessions (session % 16) ⌝ }
+    ensures { λ r. ⌜ outcome (r .answer) (storeOf (now (values .entry)) (now (classes .entry)) (now (readers .exit)) (now (claimants .exit)) (now (exclusives .exit)) (now (logs .exit)) (withRecord sessions (session % 16) (r .session))) ≡ taken (Read session cell) (storeOf (now (values .entry)) (now (classes .entry)) (now (readers .entry)) (now (claimants .entry)) (now (exclusives .entry)) (now (logs .entry)) sessions) ⌝ }
 {
     if !decide::lengths_fit(
         values.len(),
@@ -248,19 +290,20 @@ pub fn read(
         exclusives.len(),
         logs.len(),
     ) {
-        return Reply {
+        return Kept {
             answer: Answer::Refused(7),
-            sessions,
+            session: x,
         };
     }
     if 15 < session {
-        return Reply {
+        return Kept {
             answer: Answer::Refused(1),
-            sessions,
+            session: x,
         };
     }
     read_as(
         sessions,
+        x,
         values,
         classes,
         readers,
@@ -272,8 +315,8 @@ pub fn read(
     )
 }
 
-// Write, once the lengths and the session fit.
-fn write_as(
+// Read: running only. 101 with a known cell's present value; a new cell is locked and entered, or the session is rolled back, 6.
+pub fn read(
     mut sessions: Sessions,
     values: &[u32],
     classes: &[u8],
@@ -283,28 +326,62 @@ fn write_as(
     logs: &mut [u32],
     session: u8,
     cell: u32,
-    value: u32,
 ) -> Reply
-    requires { ⌜ Sized (storeOf (now values) (now classes) (now readers) (now claimants) (now exclusives) (now logs) sessions) session ⌝ }
-    ensures { λ r. ⌜ outcome (r .answer) (storeOf (now (values .entry)) (now (classes .entry)) (now (readers .exit)) (now (claimants .exit)) (now (exclusives .exit)) (now (logs .exit)) (r .sessions)) ≡ taken (Write session cell value) (storeOf (now (values .entry)) (now (classes .entry)) (now (readers .entry)) (now (claimants .entry)) (now (exclusives .entry)) (now (logs .entry)) sessions) ⌝ }
+    ensures { λ r. ⌜ outcome (r .answer) (storeOf (now (values .entry)) (now (classes .entry)) (now (readers .exit)) (now (claimants .exit)) (now (exclusives .exit)) (now (logs .exit)) (r .sessions)) ≡ taken (Read session cell) (storeOf (now (values .entry)) (now (classes .entry)) (now (readers .entry)) (now (claimants .entry)) (now (exclusives .entry)) (now (logs .entry)) sessions) ⌝ }
+{
+    let i = (session % 16) as usize;
+    let x = sessions.records[i];
+    let kept = read_own(
+        sessions,
+        x,
+        values,
+        classes,
+        readers,
+        claimants,
+        exclusives,
+        logs,
+        session,
+        cell,
+    );
+    let answer = kept.answer;
+    let y = kept.session;
+    sessions.records[i] = y;
+    Reply { answer, sessions }
+}
+
+// Write, once the lengths and the session fit.
+fn write_as(
+    sessions: Sessions,
+    x: Session,
+    values: &[u32],
+    classes: &[u8],
+    readers: &mut [u16],
+    claimants: &mut [u8],
+    exclusives: &mut [u8],
+    logs: &mut [u32],
+    session: u8,
+    cell: u32,
+    value: u32,
+) -> Kept
+    requires { ⌜ (Sized (storeOf (now values) (now classes) (now readers) (now claimants) (now exclusives) (now logs) sessions) session) × (x ≡ sessionAt sessions session) ⌝ }
+    ensures { λ r. ⌜ outcome (r .answer) (storeOf (now (values .entry)) (now (classes .entry)) (now (readers .exit)) (now (claimants .exit)) (now (exclusives .exit)) (now (logs .exit)) (withRecord sessions session (r .session))) ≡ taken (Write session cell value) (storeOf (now (values .entry)) (now (classes .entry)) (now (readers .entry)) (now (claimants .entry)) (now (exclusives .entry)) (now (logs .entry)) sessions) ⌝ }
 {
     let i = session as usize;
     let a = 128 * i;
     let e = a + 128;
-    let x = sessions.records[i];
     let l = locks::at(&readers[..], &claimants[..], &exclusives[..], cell);
     let p = decide::write(&logs[a..e], classes, x, l, cell, value);
     if let Plan::Update(k, v) = p {
         log::update(&mut logs[a..e], k as usize, v);
-        return Reply {
+        return Kept {
             answer: Answer::Done,
-            sessions,
+            session: x,
         };
     }
     if let Plan::Refuse(number) = p {
-        return Reply {
+        return Kept {
             answer: Answer::Refused(number),
-            sessions,
+            session: x,
         };
     }
     let count = x.count as usize;
@@ -322,23 +399,74 @@ fn write_as(
             found,
         );
         log::update(&mut logs[a..e], count, v);
-        sessions.records[i] = x.with_entry();
-        return Reply {
+        let y = x.with_entry();
+        return Kept {
             answer: Answer::Done,
-            sessions,
+            session: y,
         };
     }
     locks::roll_back(&logs[a..e], count, readers, claimants, exclusives, session);
-    sessions.records[i] = x.rested();
-    Reply {
+    let y = x.rested();
+    Kept {
         answer: Answer::Refused(6),
-        sessions,
+        session: y,
     }
+}
+
+// Write, of the session whose record is x.
+fn write_own(
+    sessions: Sessions,
+    x: Session,
+    values: &[u32],
+    classes: &[u8],
+    readers: &mut [u16],
+    claimants: &mut [u8],
+    exclusives: &mut [u8],
+    logs: &mut [u32],
+    session: u8,
+    cell: u32,
+    value: u32,
+) -> Kept
+    requires { ⌜ x ≡ sessionAt sessions (session % 16) ⌝ }
+    ensures { λ r. ⌜ outcome (r .answer) (storeOf (now (values .entry)) (now (classes .entry)) (now (readers .exit)) (now (claimants .exit)) (now (exclusives .exit)) (now (logs .exit)) (withRecord sessions (session % 16) (r .session))) ≡ taken (Write session cell value) (storeOf (now (values .entry)) (now (classes .entry)) (now (readers .entry)) (now (claimants .entry)) (now (exclusives .entry)) (now (logs .entry)) sessions) ⌝ }
+{
+    if !decide::lengths_fit(
+        values.len(),
+        classes.len(),
+        readers.len(),
+        claimants.len(),
+        exclusives.len(),
+        logs.len(),
+    ) {
+        return Kept {
+            answer: Answer::Refused(7),
+            session: x,
+        };
+    }
+    if 15 < session {
+        return Kept {
+            answer: Answer::Refused(1),
+            session: x,
+        };
+    }
+    write_as(
+        sessions,
+        x,
+        values,
+        classes,
+        readers,
+        claimants,
+        exclusives,
+        logs,
+        session,
+        cell,
+        value,
+    )
 }
 
 // Write: running only. A new cell is locked and entered as by read; then the entry is updated. 100.
 pub fn write(
-    sessions: Sessions,
+    mut sessions: Sessions,
     values: &[u32],
     classes: &[u8],
     readers: &mut [u16],
@@ -351,27 +479,11 @@ pub fn write(
 ) -> Reply
     ensures { λ r. ⌜ outcome (r .answer) (storeOf (now (values .entry)) (now (classes .entry)) (now (readers .exit)) (now (claimants .exit)) (now (exclusives .exit)) (now (logs .exit)) (r .sessions)) ≡ taken (Write session cell value) (storeOf (now (values .entry)) (now (classes .entry)) (now (readers .entry)) (now (claimants .entry)) (now (exclusives .entry)) (now (logs .entry)) sessions) ⌝ }
 {
-    if !decide::lengths_fit(
-        values.len(),
-        classes.len(),
-        readers.len(),
-        claimants.len(),
-        exclusives.len(),
-        logs.len(),
-    ) {
-        return Reply {
-            answer: Answer::Refused(7),
-            sessions,
-        };
-    }
-    if 15 < session {
-        return Reply {
-            answer: Answer::Refused(1),
-            sessions,
-        };
-    }
-    write_as(
+    let i = (session % 16) as usize;
+    let x = sessions.records[i];
+    let kept = write_own(
         sessions,
+        x,
         values,
         classes,
         readers,
@@ -381,7 +493,11 @@ pub fn write(
         session,
         cell,
         value,
-    )
+    );
+    let answer = kept.answer;
+    let y = kept.session;
+    sessions.records[i] = y;
+    Reply { answer, sessions }
 }
 
 // Seal: running only. The session leaves the readers of each cell entered but not written. 105 with nothing written, else 102.
@@ -574,6 +690,61 @@ pub fn advance(
     }
 }
 
+// Abandon, of the session whose record is x.
+fn abandon_own(
+    sessions: Sessions,
+    x: Session,
+    values: &[u32],
+    classes: &[u8],
+    readers: &mut [u16],
+    claimants: &mut [u8],
+    exclusives: &mut [u8],
+    logs: &[u32],
+    session: u8,
+) -> Kept
+    requires { ⌜ x ≡ sessionAt sessions (session % 16) ⌝ }
+    ensures { λ r. ⌜ outcome (r .answer) (storeOf (now (values .entry)) (now (classes .entry)) (now (readers .exit)) (now (claimants .exit)) (now (exclusives .exit)) (now (logs .entry)) (withRecord sessions (session % 16) (r .session))) ≡ taken (Abandon session) (storeOf (now (values .entry)) (now (classes .entry)) (now (readers .entry)) (now (claimants .entry)) (now (exclusives .entry)) (now (logs .entry)) sessions) ⌝ }
+{
+    let n = values.len();
+    if !decide::lengths_fit(
+        n,
+        classes.len(),
+        readers.len(),
+        claimants.len(),
+        exclusives.len(),
+        logs.len(),
+    ) {
+        return Kept {
+            answer: Answer::Refused(7),
+            session: x,
+        };
+    }
+    if 15 < session {
+        return Kept {
+            answer: Answer::Refused(1),
+            session: x,
+        };
+    }
+    let i = session as usize;
+    let a = 128 * i;
+    let e = a + 128;
+    let phase = x.phase;
+    let turned = decide::tests(&logs[a..e], n, x, (phase == 1) | (phase == 2));
+    if turned != 0 {
+        return Kept {
+            answer: Answer::Refused(turned),
+            session: x,
+        };
+    }
+    let count = x.count as usize;
+    locks::roll_back(&logs[a..e], count, readers, claimants, exclusives, session);
+    let y = x.rested();
+    Kept {
+        answer: Answer::Done,
+        session: y,
+    }
+}
+
 // Abandon: phases 1 and 2. The session is rolled back. 100.
 pub fn abandon(
     mut sessions: Sessions,
@@ -587,45 +758,23 @@ pub fn abandon(
 ) -> Reply
     ensures { λ r. ⌜ outcome (r .answer) (storeOf (now (values .entry)) (now (classes .entry)) (now (readers .exit)) (now (claimants .exit)) (now (exclusives .exit)) (now (logs .entry)) (r .sessions)) ≡ taken (Abandon session) (storeOf (now (values .entry)) (now (classes .entry)) (now (readers .entry)) (now (claimants .entry)) (now (exclusives .entry)) (now (logs .entry)) sessions) ⌝ }
 {
-    let n = values.len();
-    if !decide::lengths_fit(
-        n,
-        classes.len(),
-        readers.len(),
-        claimants.len(),
-        exclusives.len(),
-        logs.len(),
-    ) {
-        return Reply {
-            answer: Answer::Refused(7),
-            sessions,
-        };
-    }
-    if 15 < session {
-        return Reply {
-            answer: Answer::Refused(1),
-            sessions,
-        };
-    }
-    let i = session as usize;
-    let a = 128 * i;
-    let e = a + 128;
+    let i = (session % 16) as usize;
     let x = sessions.records[i];
-    let phase = x.phase;
-    let turned = decide::tests(&logs[a..e], n, x, (phase == 1) | (phase == 2));
-    if turned != 0 {
-        return Reply {
-            answer: Answer::Refused(turned),
-            sessions,
-        };
-    }
-    let count = x.count as usize;
-    locks::roll_back(&logs[a..e], count, readers, claimants, exclusives, session);
-    sessions.records[i] = x.rested();
-    Reply {
-        answer: Answer::Done,
+    let kept = abandon_own(
         sessions,
-    }
+        x,
+        values,
+        classes,
+        readers,
+        claimants,
+        exclusives,
+        logs,
+        session,
+    );
+    let answer = kept.answer;
+    let y = kept.session;
+    sessions.records[i] = y;
+    Reply { answer, sessions }
 }
 
 // ---- peek

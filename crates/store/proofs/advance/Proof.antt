@@ -5,7 +5,7 @@ use borrow.Author.Tests.{not-true, not-false}
 use Rattle.model.specs.Buffers.{Store}
 use Rattle.store.specs.Lent.{storeOf, Sized}
 use Rattle.store.proofs.Refusals.{refused-7, refused-1, sized}
-use Rattle.store.proofs.Parts.{part-fits, can-decide}
+use Rattle.store.proofs.Parts.{part-fits, can-decide, part-start, part-stop, part-bytes, record-bytes, part-some}
 use Rattle.store.proofs.Advances.{due-refused, due-carried, due-admits}
 use Rattle.store.proofs.advance.Statement.{statement}
 use Rattle.store.proofs.advance.Tie as tie
@@ -48,7 +48,10 @@ pub advance-spec : {M : Type 1} → statement M
 advance-spec =
     tie.close
     (tie.spec
-    (λ c κs. search needs) returns returns-2 (λ c. search needs) (λ c. search needs) (λ c. search needs) (λ c. search needs)
-    (λ c. search needs)
-    (λ c. search needs) (λ c. search needs) part-due-slot-end due-slot-requires (λ c. search needs) (λ c. search needs) (λ c. search needs)
-    advance-at-requires returns-3 (λ c. search needs) (λ c. search needs) (λ c. search needs) (λ c. search needs) returns-4)
+    (λ c κs. tt) returns returns-2 (λ c. part-start _ _ (fits c)) (λ c. part-stop _ _ (fits c)) (λ c. record-bytes _ _ (fits c))
+    (λ c. (fits c) .session) (λ c. part-bytes _ _ (fits (c .before))) (λ c. part-some _) (λ c. part-some _) part-due-slot-end due-slot-requires
+    (λ c. c .match .keys1) (λ c. c .match .keys2) (λ c. search needs) advance-at-requires returns-3
+    (λ c. c .before .before .before .before .before .before .before .before .advance-at .kept .1 .0)
+    (λ c. c .before .before .before .before .before .before .before .before .advance-at .kept .1 .1 .1 .0)
+    (λ c. c .before .before .before .before .before .before .before .before .advance-at .kept .1 .1 .1 .1 .0)
+    (λ c. c .before .before .before .before .before .before .before .before .advance-at .kept .1 .1 .1 .1 .1 .0) returns-4)

@@ -1,9 +1,9 @@
 -- `store::advance_at` meets its contract: each of the five plans is one law of proofs/Advances.antt, at the plan that `decide::advance` answers.
-use native.Mathlib.Omega.{arith}
+use mathlib.Core.Path.{refl}
 use borrow.Author.Needs.{needs}
 use Rattle.model.specs.Buffers.{Store}
 use Rattle.store.specs.Lent.{storeOf}
-use Rattle.store.proofs.Parts.{part-fits, locks-even}
+use Rattle.store.proofs.Parts.{part-fits, locks-even, part-start, part-stop, part-bytes, record-bytes, part-some}
 use Rattle.store.proofs.Advances.{Decided, cell-inside, can-put, can-roll, can-handle, leaves-rolled, leaves-waiting, leaves-owned, leaves-published, leaves-released}
 use Rattle.store.proofs.advance_at.Statement.{statement}
 use Rattle.store.proofs.advance_at.Tie as tie
@@ -46,12 +46,6 @@ returns c =
 roll-back-requires : tie.Need-roll-back-requires
 roll-back-requires c κs = can-roll (decided (c .before .before .before .before .before .before .before))
 
-mul-t55 : tie.Need-mul-t55
-mul-t55 c = omega (arith, decided (c .before .before .before .before .before .before .before .before .before .before .before .before .before .before .before) .admitted .sized .session)
-
-element-set-from-sessions : tie.Need-element-set-from-sessions
-element-set-from-sessions c = decided (c .before .before .before .before .before .before .before .before .before .before .before .before .before .before .before) .admitted .sized .session
-
 returns-2 : tie.Need-returns-2
 returns-2 c =
     let q = c .before .before .before .before .before .before .before in
@@ -59,9 +53,6 @@ returns-2 c =
 
 handle-requires : tie.Need-handle-requires
 handle-requires c κs = can-handle (decided (c .before .before))
-
-element-set-from-y : tie.Need-element-set-from-y
-element-set-from-y c = decided (c .before .before .before .before) .admitted .sized .session
 
 put-requires-2 : tie.Need-put-requires-2
 put-requires-2 c κs = can-put (decided (c .before .before .before .before .before .before .before .before .before .before))
@@ -95,12 +86,27 @@ pub advance-at-spec : {M : Type 1} → statement M
 advance-at-spec =
     tie.close
     (tie.spec
-    (λ c. search needs) (λ c. search needs) (λ c. search needs) (λ c. search needs) (λ c. search needs) (λ c. search needs)
-    (λ c. search needs)
-    part-log-end (λ c κs. search needs) at-requires (λ c κs. search needs) (λ c. search needs) (λ c κs. search needs) put-requires
-    (λ c. search needs) (λ c. search needs) (λ c. search needs) returns (λ c. search needs) (λ c. search needs) roll-back-requires
-    (λ c κs. search needs) mul-t55 element-set-from-sessions (λ c. search needs) (λ c. search needs) (λ c. search needs) returns-2
-    handle-requires (λ c. search needs) element-set-from-y (λ c. search needs) (λ c κs. search needs) put-requires-2 (λ c. search needs)
-    (λ c. search needs) (λ c. search needs) returns-3 (λ c. search needs) (λ c. search needs) (λ c. search needs) slice-write-values
-    (λ c. search needs) (λ c. search needs) (λ c. search needs) (λ c. search needs) returns-4 vacated-requires put-requires-3
-    (λ c. search needs) (λ c. search needs) (λ c. search needs) returns-5)
+    (λ c. part-start _ _ (c .before .before .before .before .before .before .pre .0 .sized))
+    (λ c. part-stop _ _ (c .before .before .before .before .before .before .pre .0 .sized))
+    (λ c. record-bytes _ _ (c .before .before .before .before .before .before .pre .0 .sized))
+    (λ c. c .before .before .before .before .before .before .pre .0 .sized .session)
+    (λ c. part-bytes _ _ (c .before .before .before .before .before .before .before .pre .0 .sized)) (λ c. part-some _) (λ c. part-some _)
+    part-log-end (λ c κs. search needs) at-requires (λ c κs. search needs) (λ c. c .match .keys1) (λ c κs. tt) put-requires
+    (λ c. c .before .before .before .before .before .before .put .kept .0)
+    (λ c. c .before .before .before .before .before .before .put .kept .1 .0)
+    (λ c. c .before .before .before .before .before .before .put .kept .1 .1 .0) returns (λ c. c .match2 .keys1) (λ c. search needs)
+    roll-back-requires (λ c κs. tt)
+    (λ c. record-bytes _ _ (c .before .before .before .before .before .before .before .before .before .before .before .before .before .before .before .before .before .before .before .before .before .before .before .before .before .before .before .before .before .pre .0 .sized))
+    (λ c. c .before .before .before .before .before .before .before .before .before .before .before .before .before .before .before .before .before .before .before .before .before .before .before .before .before .before .before .before .before .pre .0 .sized .session)
+    (λ c. c .before .before .before .before .before .before .before .roll-back .kept .1 .1 .0)
+    (λ c. c .before .before .before .before .before .before .before .roll-back .kept .1 .1 .1 .0)
+    (λ c. c .before .before .before .before .before .before .before .roll-back .kept .1 .1 .1 .1 .0) returns-2 handle-requires
+    (λ c. record-bytes _ _ (c .before .before .before .before .before .before .before .before .before .before .before .before .before .before .before .before .before .before .pre .0 .sized))
+    (λ c. c .before .before .before .before .before .before .before .before .before .before .before .before .before .before .before .before .before .before .pre .0 .sized .session)
+    (λ c. c .match3 .keys1) (λ c κs. tt) put-requires-2 (λ c. c .before .before .before .before .before .before .put2 .kept .0)
+    (λ c. c .before .before .before .before .before .before .put2 .kept .1 .0)
+    (λ c. c .before .before .before .before .before .before .put2 .kept .1 .1 .0) returns-3 (λ c. c .match4 .keys1) (λ c. search needs)
+    (λ c. search needs) slice-write-values (λ c. search needs) (λ c. refl) (λ c. refl) (λ c. refl) returns-4 vacated-requires put-requires-3
+    (λ c. c .before .before .before .before .before .before .put3 .kept .0)
+    (λ c. c .before .before .before .before .before .before .put3 .kept .1 .0)
+    (λ c. c .before .before .before .before .before .before .put3 .kept .1 .1 .0) returns-5)

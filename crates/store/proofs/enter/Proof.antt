@@ -12,5 +12,8 @@ pub enter-spec : {M : Type 1} → statement M
 enter-spec =
     tie.close
     (tie.spec
-    (λ c κs. search needs) (λ c κs. search needs) (λ c κs. search needs) (λ c. search needs) (λ c. search needs) (λ c. search needs)
-    (λ c. search needs) returns)
+    (λ c κs. search needs) (λ c κs. search needs) (λ c κs. search needs)
+    (λ c. c .before .before .before .before .before .before .before .before .before .before .put .kept .0)
+    (λ c. c .before .before .before .before .before .before .before .before .before .before .put .kept .1 .0)
+    (λ c. c .before .before .before .before .before .before .before .before .before .before .put .kept .1 .1 .0)
+    (λ c. c .before .before .append .kept .0) returns)

@@ -24,8 +24,7 @@ pub peek-spec : {M : Type 1} → statement M
 peek-spec =
     tie.close
     (tie.spec
-    (λ c κs. search needs) (λ c. search needs) (λ c. search needs) (λ c. search needs) (λ c. search needs) (λ c. search needs)
-    part-result-end returns (λ c. search needs) (λ c. search needs) (λ c. search needs) (λ c. search needs) (λ c. search needs)
-    (λ c. search needs)
+    (λ c κs. search needs) (λ c. c .match .keys1) (λ c. search needs) (λ c. search needs) (λ c. search needs) (λ c. search needs) part-result-end
+    returns (λ c. c .match2 .keys1) (λ c. search needs) (λ c. search needs) (λ c. search needs) (λ c. search needs) (λ c. search needs)
     (λ c. search needs) (λ c. search needs) (λ c. search needs) (λ c. search needs) part-result-end-2 returns-2 (λ c. search needs)
     (λ c. search needs) (λ c. search needs) returns-3)

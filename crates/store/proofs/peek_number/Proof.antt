@@ -14,4 +14,4 @@ pub peek-number-spec : {M : Type 1} → statement M
 peek-number-spec =
     tie.close
     (tie.spec
-    (λ c κs. search needs) (λ c. search needs) returns returns-2)
+    (λ c κs. search needs) (λ c. c .match .keys1) returns returns-2)

@@ -1,11 +1,10 @@
 -- `store::peek_plan` meets its contract: refused by the lengths or the session, or what `decide::peek` plans on the session's part.
 use mathlib.Core.Path.{sym, _∙_}
-use borrow.Author.Needs.{needs}
 use borrow.Author.Tests.{not-true, not-false}
 use Rattle.model.specs.Buffers.{Store}
 use Rattle.store.specs.Lent.{storeOf, Sized}
 use Rattle.store.proofs.Refusals.{fit-is, plan-7, plan-1, sized}
-use Rattle.store.proofs.Parts.{part-fits, can-decide}
+use Rattle.store.proofs.Parts.{part-fits, can-decide, part-start, part-stop, part-bytes, record-bytes, part-some}
 use Rattle.store.proofs.Peeks.{peek-planned}
 use Rattle.store.proofs.peek_plan.Statement.{statement}
 use Rattle.store.proofs.peek_plan.Tie as tie
@@ -40,6 +39,5 @@ pub peek-plan-spec : {M : Type 1} → statement M
 peek-plan-spec =
     tie.close
     (tie.spec
-    (λ c κs. search needs) returns returns-2 (λ c. search needs) (λ c. search needs) (λ c. search needs) (λ c. search needs)
-    (λ c. search needs)
-    (λ c. search needs) (λ c. search needs) part-peek-end peek-requires returns-3)
+    (λ c κs. tt) returns returns-2 (λ c. part-start _ _ (fits c)) (λ c. part-stop _ _ (fits c)) (λ c. record-bytes _ _ (fits c))
+    (λ c. (fits c) .session) (λ c. part-bytes _ _ (fits (c .before))) (λ c. part-some _) (λ c. part-some _) part-peek-end peek-requires returns-3)

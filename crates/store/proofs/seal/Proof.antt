@@ -4,7 +4,7 @@ use borrow.Author.Tests.{not-true, not-false}
 use Rattle.model.specs.Buffers.{Store}
 use Rattle.store.specs.Lent.{storeOf, Sized}
 use Rattle.store.proofs.Refusals.{refused-7, refused-1, sized}
-use Rattle.store.proofs.Parts.{part-fits, can-decide}
+use Rattle.store.proofs.Parts.{part-fits, can-decide, part-start, part-stop, part-bytes, record-bytes, part-some}
 use Rattle.store.proofs.Seals.{seal-refused, can-drop, seal-commits, seal-promotes}
 use Rattle.store.proofs.seal.Statement.{statement}
 use Rattle.store.proofs.seal.Tie as tie
@@ -57,9 +57,13 @@ pub seal-spec : {M : Type 1} → statement M
 seal-spec =
     tie.close
     (tie.spec
-    (λ c κs. search needs) returns returns-2 (λ c. search needs) (λ c. search needs) (λ c. search needs) (λ c. search needs)
-    (λ c. search needs)
-    (λ c. search needs) (λ c. search needs) part-seal-end seal-requires (λ c. search needs) returns-3 (λ c. search needs) (λ c. search needs)
-    (λ c. search needs) (λ c. search needs) part-drop-reads-end drop-reads-requires (λ c. search needs) (λ c κs. search needs)
-    (λ c. search needs) (λ c. search needs) (λ c. search needs) returns-4 (λ c κs. search needs) (λ c. search needs) (λ c. search needs)
-    (λ c. search needs) returns-5)
+    (λ c κs. tt) returns returns-2 (λ c. part-start _ _ (fits c)) (λ c. part-stop _ _ (fits c)) (λ c. record-bytes _ _ (fits c))
+    (λ c. (fits c) .session) (λ c. part-bytes _ _ (fits (c .before))) (λ c. part-some _) (λ c. part-some _) part-seal-end seal-requires
+    (λ c. c .match .keys1) returns-3 (λ c. search needs) (λ c. part-bytes _ _ (fits (c .before .before .before .before .before)))
+    (λ c. part-some _) (λ c. part-some _) part-drop-reads-end drop-reads-requires (λ c. c .match2 .keys1) (λ c κs. tt)
+    (λ c. record-bytes _ _ (fits (c .before .before .before .before .before .before .before .before .before .before .before .before .before)))
+    (λ c. (fits (c .before .before .before .before .before .before .before .before .before .before .before .before .before)) .session)
+    (λ c. c .before .before .before .before .before .drop-reads .kept .1 .1 .0) returns-4 (λ c κs. tt)
+    (λ c. record-bytes _ _ (fits (c .before .before .before .before .before .before .before .before .before .before .before .before)))
+    (λ c. (fits (c .before .before .before .before .before .before .before .before .before .before .before .before)) .session)
+    (λ c. c .before .before .before .before .drop-reads .kept .1 .1 .0) returns-5)

@@ -1,7 +1,6 @@
 -- `store::set_up` meets its contract: 7, 8 or 100, each a law of proofs/SetUp.antt, with what the loops leave.
 use mathlib.Core.Path.{_≡_, sym, _∙_}
 use mathlib.Core.Bool.{true}
-use borrow.Author.Needs.{needs}
 use borrow.Author.Tests.{not-true, not-false}
 use Rattle.model.specs.Buffers.{Store, lengthsFit}
 use Rattle.store.specs.Lent.{storeOf}
@@ -44,5 +43,8 @@ pub set-up-spec : {M : Type 1} → statement M
 set-up-spec =
     tie.close
     (tie.spec
-    (λ c κs. search needs) returns all-fit-requires returns-2 (λ c κs. search needs) (λ c κs. search needs) (λ c κs. search needs)
-    (λ c κs. search needs) (λ c κs. search needs) (λ c. search needs) (λ c. search needs) (λ c. search needs) (λ c. search needs) returns-3)
+    (λ c κs. tt) returns all-fit-requires returns-2 (λ c κs. tt) (λ c κs. tt) (λ c κs. tt) (λ c κs. tt) (λ c κs. tt)
+    (λ c. c .before .before .before .before .before .before .before .before .before .before .before .before .before .before .before .clear-sets .kept .0)
+    (λ c. c .before .before .before .before .before .before .before .before .before .before .before .fill-bytes .kept .0)
+    (λ c. c .before .before .before .before .before .before .before .fill-bytes2 .kept .0) (λ c. c .before .before .before .clear-words .kept .0)
+    returns-3)

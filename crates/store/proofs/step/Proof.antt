@@ -1,5 +1,5 @@
 -- Each call's outcome is the callee's.
-use borrow.Author.Needs.{needs}
+use mathlib.Core.Path.{refl}
 use Rattle.store.proofs.step.Statement.{statement}
 use Rattle.store.proofs.step.Tie as tie
 
@@ -28,12 +28,23 @@ pub step-spec : {M : Type 1} → statement M
 step-spec =
     tie.close
     (tie.spec
-    (λ c. search needs) (λ c κs. search needs) (λ c. search needs) (λ c κs. search needs) (λ c. search needs) (λ c κs. search needs)
-    (λ c. search needs) (λ c κs. search needs) (λ c. search needs) (λ c κs. search needs) (λ c. search needs) (λ c κs. search needs)
-    (λ c. search needs) (λ c κs. search needs) (λ c. search needs) (λ c. search needs) (λ c. search needs) (λ c. search needs)
-    (λ c. search needs) returns (λ c. search needs) (λ c. search needs) (λ c. search needs) (λ c. search needs) (λ c. search needs) returns-2
-    (λ c. search needs) (λ c. search needs) (λ c. search needs) (λ c. search needs) (λ c. search needs) returns-3 (λ c. search needs)
-    (λ c. search needs) (λ c. search needs) (λ c. search needs) (λ c. search needs) returns-4 (λ c. search needs) (λ c. search needs)
-    (λ c. search needs) (λ c. search needs) (λ c. search needs) returns-5 (λ c. search needs) (λ c. search needs) (λ c. search needs)
-    (λ c. search needs) (λ c. search needs) returns-6 (λ c. search needs) (λ c. search needs) (λ c. search needs) (λ c. search needs)
-    (λ c. search needs) returns-7)
+    (λ c. c .match .keys1) (λ c κs. tt) (λ c. c .match .keys2) (λ c κs. tt) (λ c. c .match .keys3) (λ c κs. tt) (λ c. c .match .keys4)
+    (λ c κs. tt) (λ c. c .match .keys5) (λ c κs. tt) (λ c. c .match .keys6) (λ c κs. tt) (λ c. c .match .keys7) (λ c κs. tt) (λ c. refl)
+    (λ c. refl) (λ c. refl) (λ c. refl) (λ c. refl) returns (λ c. refl)
+    (λ c. c .before .before .before .before .before .before .before .before .read .kept .1 .1 .1 .0)
+    (λ c. c .before .before .before .before .before .before .before .before .read .kept .1 .1 .1 .1 .0)
+    (λ c. c .before .before .before .before .before .before .before .before .read .kept .1 .1 .1 .1 .1 .0)
+    (λ c. c .before .before .before .before .before .before .before .before .read .kept .1 .1 .1 .1 .1 .1 .0) returns-2 (λ c. refl)
+    (λ c. c .before .before .before .before .before .before .before .before .write .kept .1 .1 .1 .0)
+    (λ c. c .before .before .before .before .before .before .before .before .write .kept .1 .1 .1 .1 .0)
+    (λ c. c .before .before .before .before .before .before .before .before .write .kept .1 .1 .1 .1 .1 .0)
+    (λ c. c .before .before .before .before .before .before .before .before .write .kept .1 .1 .1 .1 .1 .1 .0) returns-3 (λ c. refl)
+    (λ c. c .before .before .seal .kept .1 .1 .1 .0) (λ c. refl) (λ c. refl) (λ c. refl) returns-4
+    (λ c. c .before .before .before .before .before .before .before .before .advance .kept .1 .0)
+    (λ c. c .before .before .before .before .before .before .before .before .advance .kept .1 .1 .1 .0)
+    (λ c. c .before .before .before .before .before .before .before .before .advance .kept .1 .1 .1 .1 .0)
+    (λ c. c .before .before .before .before .before .before .before .before .advance .kept .1 .1 .1 .1 .1 .0) (λ c. refl) returns-5 (λ c. refl)
+    (λ c. c .before .before .before .before .before .before .abandon .kept .1 .1 .1 .0)
+    (λ c. c .before .before .before .before .before .before .abandon .kept .1 .1 .1 .1 .0)
+    (λ c. c .before .before .before .before .before .before .abandon .kept .1 .1 .1 .1 .1 .0) (λ c. refl) returns-6 (λ c. refl) (λ c. refl)
+    (λ c. refl) (λ c. refl) (λ c. refl) returns-7)

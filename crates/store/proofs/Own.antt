@@ -1,0 +1,79 @@
+-- A call that is handed its session's own record x: the facts of proofs/Entering.antt at x, and the place of x among the sixteen records.
+use mathlib.Core.Path.{_≡_, ap, _∙_}
+use mathlib.Core.Bool.{Bool}
+use mathlib.Core.List.{List}
+use Prim.Native.Nat.{ℕ, _+_, _*_, _%_, _<_, _≤_}
+use mir.Syntax.{w64}
+use mir.Val.{Fits}
+use native.Mathlib.Nat.{mod-eq-of-lt, mod-lt, zero-lt-suc}
+use native.Mathlib.Omega.{arith}
+use lib.ListN.{length}
+use lib.Seq.{set-getD}
+use Rattle.model.specs.Buffers.{Locks, Store, sessionAt, withEntry, appended, updated}
+use Rattle.model.specs.Step.{Outcome, outcome}
+use Rattle.model.specs.declared.Session.{Session}
+use Rattle.model.specs.declared.Sessions.{Sessions}
+use Rattle.model.specs.declared.Answer.{Answer}
+use Rattle.model.specs.declared.Lock.{Lock}
+use Rattle.model.specs.declared.Plan.{Plan}
+use Rattle.locks.specs.Sweeps.{rolledBackIn}
+use Rattle.decide.specs.Own.{recordOn, tested, readOn, writeOn}
+use Rattle.decide.proofs.Ways.{Entries}
+use Rattle.store.proofs.Carry.{leaves, keeps}
+
+-- a record left as it was leaves all sixteen so
+pub unchanged : (σ : Store) (s : ℕ) (x : Session) (L : Locks) (W : List ℕ) (a : Answer) (o : Outcome) → x ≡ sessionAt (σ .sessions) s
+    → outcome a (keeps σ L W) ≡ o → outcome a (leaves σ s L (σ .lent .values) W x) ≡ o
+unfolding sessionAt
+unchanged σ s x L W a o e p = rw (e, set-getD) p
+
+-- ---- a session below 16 is its own place
+
+low-place : (s : ℕ) → s ≤ 15 → s % 16 ≡ s
+low-place s l = mod-eq-of-lt (let w : s < 16 = omega arith in w)
+
+pub place-low : (s : ℕ) → s % 16 < 16
+place-low s = mod-lt s (zero-lt-suc 15)
+
+pub place-bytes : (s : ℕ) → Fits w64 (s % 16 * 4)
+place-bytes s = omega (arith, place-low s)
+
+pub own-place : (ss : Sessions) (s : ℕ) (x : Session) → s ≤ 15 → x ≡ sessionAt ss (s % 16) → x ≡ sessionAt ss s
+own-place ss s x l e = e ∙ ap (sessionAt ss) (low-place s l)
+
+pub put-place : (σ : Store) (s : ℕ) (y : Session) (L : Locks) (W : List ℕ) (a : Answer) (o : Outcome) → s ≤ 15
+    → outcome a (leaves σ s L (σ .lent .values) W y) ≡ o → outcome a (leaves σ (s % 16) L (σ .lent .values) W y) ≡ o
+put-place σ s y L W a o l p = rw (low-place s l) p
+
+-- ---- x in place of a record y that it is
+
+module _ (x y : Session) (e : x ≡ y) where
+  pub read-at : (n : ℕ) (A : List ℕ) (l : Lock) (c : ℕ) {p : Plan} → p ≡ readOn n A x l c → p ≡ readOn n A y l c
+  read-at n A l c h = h ∙ ap (λ z. readOn n A z l c) e
+
+  pub write-at : (cs : List ℕ) (n : ℕ) (A : List ℕ) (l : Lock) (c v : ℕ) {p : Plan} → p ≡ writeOn cs n A x l c v → p ≡ writeOn cs n A y l c v
+  write-at cs n A l c v h = h ∙ ap (λ z. writeOn cs n A z l c v) e
+
+  pub tested-at : (n : ℕ) (A : List ℕ) (fit : ℕ → Bool) {r : ℕ} → r ≡ tested (recordOn n A x) (fit (x .phase)) → r ≡ tested (recordOn n A y) (fit (y .phase))
+  tested-at n A fit h = h ∙ ap (λ z. tested (recordOn n A z) (fit (z .phase))) e
+
+  pub room-at : y .count < 32 → x .count < 32
+  room-at h = rw e h
+
+  pub inside-at : (m : ℕ) → 4 * y .count + 3 < m → 4 * x .count + 3 < m
+  inside-at m h = rw e h
+
+  pub entries-at : (n : ℕ) (A : List ℕ) → Entries n A y → Entries n A x
+  entries-at n A h = rw e h
+
+  pub appended-at : (P A : List ℕ) (c v : ℕ) → P ≡ appended A 0 (x .count) c v → P ≡ appended A 0 (y .count) c v
+  appended-at P A c v h = h ∙ ap (λ z. appended A 0 (z .count) c v) e
+
+  pub updated-at : (Q A : List ℕ) (u : ℕ) → Q ≡ updated A 0 (x .count) u → Q ≡ updated A 0 (y .count) u
+  updated-at Q A u h = h ∙ ap (λ z. updated A 0 (z .count) u) e
+
+  pub rolled-at : (L M : Locks) (A : List ℕ) (s : ℕ) → L ≡ rolledBackIn A (x .count) s M → L ≡ rolledBackIn A (y .count) s M
+  rolled-at L M A s h = h ∙ ap (λ z. rolledBackIn A (z .count) s M) e
+
+  pub entered-at : (z : Session) → z ≡ withEntry x → z ≡ withEntry y
+  entered-at z h = h ∙ ap withEntry e
