@@ -1,7 +1,7 @@
 -- The plans of document 01 as a session can decide them: from the number of cells, its own part of the log, its record, and one lock by value.
 -- proofs/Agree.antt shows that they are the model's plans, whatever keeps the locks.
-use Prim.Native.Nat.{ℕ, zero, suc, _+_, _*_}
-use mathlib.Core.Bool.{Bool, true, false, cond, not, _&&_, _||_}
+use Prim.Native.Nat.{ℕ, suc}
+use mathlib.Core.Bool.{Bool, cond, _&&_, _||_}
 use mathlib.Core.Option.{Option, none, some}
 use mathlib.Core.List.{List}
 use lib.Dec.{leb, ltb, eqb}
@@ -11,7 +11,6 @@ use Rattle.model.specs.Buffers.{idle, moveTo, cellAt, entryAt, slotIn, targetIn
 use Rattle.model.specs.Step.{newCell, sealPlan, promotePlan}
 use Rattle.model.specs.declared.Session.{Session}
 use Rattle.model.specs.declared.Lock.{Lock}
-use Rattle.model.specs.declared.Answer.{Answer}
 use Rattle.model.specs.declared.Answer.the-variants.{Moved, Committed}
 use Rattle.model.specs.declared.Plan.{Plan}
 use Rattle.model.specs.declared.Plan.the-variants.{Refuse, Tell, Enter, Update, EnterUpdate, Publish, Release, ShowStore, ShowLog}

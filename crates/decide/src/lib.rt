@@ -1,9 +1,8 @@
 // What a call decides before it changes anything, with the order of refusals: 7, 1, 9, 2, 3, 8, 4, then 14 or 5, then 6.
 // A decision sees lengths and numbers, the session's own part of the log and one lock by value, so it serves any way of keeping locks.
 ghost use mathlib.Core.Path.{_≡_};
-ghost use mathlib.Core.Bool.{Bool, true, false};
-ghost use Prim.Native.Nat.{ℕ, _+_, _*_, _<_, _≤_};
-ghost use lib.Dec.{ltb, eqb};
+ghost use mathlib.Core.Bool.{true, false};
+ghost use Prim.Native.Nat.{_+_, _*_, _<_, _≤_};
 ghost use lib.ListN.{length};
 ghost use Rattle.model.specs.Search.{below};
 ghost use Rattle.model.specs.Buffers.{cellAt, cap, fits, allFit};

@@ -1,12 +1,12 @@
 -- A call's outcome in numbers, from its answer taken apart: the one law behind every exported call; and where a peek's word is, by its plan.
 use Prim.Native.Nat.{ℕ, _+_, _*_}
-use mathlib.Core.Path.{_≡_, refl, sym, ap, _∙_}
+use mathlib.Core.Path.{_≡_, sym, ap, _∙_}
 use Rattle.model.specs.declared.Answer.{Answer}
 use Rattle.model.specs.Buffers.{Store}
 use Rattle.model.specs.Step.{Outcome, outcome, number, valueOf, shown}
 use Rattle.model.specs.declared.Plan.{Plan}
 use Rattle.model.specs.declared.Plan.the-variants.{Refuse, ShowStore, ShowLog}
-use Rattle.exports.specs.Said.{Said, said, inNumbers, Place, at, placeOf}
+use Rattle.exports.specs.Said.{said, inNumbers, at, placeOf}
 
 pub in-numbers : (a : Answer) (σ : Store) (o : Outcome) (n v : ℕ) → outcome a σ ≡ o → n ≡ number a → v ≡ valueOf a → said n v σ ≡ inNumbers o
 in-numbers a σ o n v e p q = rw (p, q) (ap inNumbers e)

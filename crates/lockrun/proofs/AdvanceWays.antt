@@ -8,16 +8,15 @@ use borrow.Author.Tests.{ltb-true, ltb-false, lt-ltb, le-ltb}
 use lib.Dec.{ltb}
 use lib.ListN.{length, getD, set, replicate, length-replicate}
 use Rattle.model.specs.Search.{below}
-use Rattle.model.specs.Buffers.{Locks, Store, free, idle, sessionAt, cellAt, lockAt, setLock, claim, own, vacate}
+use Rattle.model.specs.Buffers.{Store, free, idle, sessionAt, cellAt, lockAt, setLock, claim, own, vacate}
 use Rattle.model.specs.Step.{outcome, taken, planOf}
 use Rattle.model.specs.declared.Session.{Session}
 use Rattle.model.specs.declared.Sessions.{Sessions}
 use Rattle.model.specs.declared.Lock.{Lock}
 use Rattle.model.specs.declared.Call.the-variants.{Advance}
-use Rattle.model.specs.declared.Answer.{Answer}
 use Rattle.model.specs.declared.Answer.the-variants
 use Rattle.model.specs.declared.Plan.{Plan}
-use Rattle.model.specs.declared.Plan.the-variants.{Refuse, RollBack, Wait, Publish}
+use Rattle.model.specs.declared.Plan.the-variants.{RollBack, Wait, Publish}
 use Rattle.model.specs.declared.Plan.the-variants as plans
 use Rattle.model.proofs.Tools.{test}
 use Rattle.log.specs.Slots.{part}
@@ -32,7 +31,6 @@ use Rattle.store.proofs.Refusals.{refused-7, refused-1, lengths-of}
 use Rattle.store.proofs.Parts.{cut, cut-is, part-fits, can-decide}
 use Rattle.store.proofs.Tags.{Passed}
 use Rattle.store.proofs.Advances.{atEntry, due-refused, due-planned, due-carried, due-admits, Decided, cell-inside, can-handle, leaves-waiting, leaves-owned, leaves-published, leaves-released}
-use Rattle.lockrun.specs.declared.Change.{Change}
 use Rattle.lockrun.specs.declared.Change.the-variants.{Keep, Claim, Own, Vacate, Withdraw}
 use Rattle.lockrun.specs.declared.Turn.{Turn}
 use Rattle.lockrun.specs.Run.{apart, storeOn, lockIn, turnsOf, cellOf, changeOf, swept, sweptBy}

@@ -11,12 +11,11 @@ use base.Fml.{GName}
 use denote.Ref.{RefT}
 use lib.Dec.{eqb}
 use lib.ListN.{length, getD, set, replicate, length-replicate, length-set}
-use Rattle.model.specs.Buffers.{Locks, Store, free, idle, running, size, sessionAt, withEntry, moveTo, entryAt, appended, updated}
-use Rattle.model.specs.Step.{outcome, taken, planOf, sessionOf, recordOf, rolledBack, readsDropped}
+use Rattle.model.specs.Buffers.{Store, free, idle, running, size, sessionAt, withEntry, moveTo, entryAt, appended, updated}
+use Rattle.model.specs.Step.{taken, planOf, sessionOf, recordOf, rolledBack, readsDropped}
 use Rattle.model.specs.declared.Session.{Session}
 use Rattle.model.specs.declared.Sessions.{Sessions}
 use Rattle.model.specs.declared.Lock.{Lock}
-use Rattle.model.specs.declared.Reply.{Reply}
 use Rattle.model.specs.declared.Call.{Call}
 use Rattle.model.specs.declared.Call.the-variants.{Begin, Read, Write, Seal, Abandon, Peek}
 use Rattle.model.specs.declared.Answer.{Answer}
@@ -33,13 +32,13 @@ use Rattle.store.proofs.Parts.{cut, cut-is, puts, part-long, part-fits, can-dec
 use Rattle.store.proofs.Peeks.{peek-planned, peek-inside, peek-logged, peek-refused, peek-done, hands-store, hands-log, hands-nothing}
 use Rattle.store.proofs.Tags.{Passed}
 use Rattle.store.proofs.Choices.{Choice, read-choice, write-choice, when-new, when-left, when-known}
-use Rattle.store.proofs.Entering.{Decided, New, OfRead, OfWrite, read-decided, write-decided, refused, read-told, read-entered, write-updated, write-entered}
+use Rattle.store.proofs.Entering.{Decided, OfRead, OfWrite, read-decided, write-decided, refused, read-told, read-entered, write-updated, write-entered}
 use Rattle.store.proofs.Seals.{seal-planned, seal-entries, seal-begins}
 use Rattle.store.proofs.Tested.{begin-refused, begin-starts, abandon-refused, abandon-entries}
 use Rattle.lockrun.specs.declared.Change.{Change}
-use Rattle.lockrun.specs.declared.Change.the-variants.{Keep, Join, Withdraw, Leave}
+use Rattle.lockrun.specs.declared.Change.the-variants.{Join, Withdraw, Leave}
 use Rattle.lockrun.specs.declared.Turn.{Turn}
-use Rattle.lockrun.specs.Run.{each, apart, storeOn, lockIn, turnsOf, swept, sweptBy}
+use Rattle.lockrun.specs.Run.{apart, storeOn, lockIn, turnsOf, swept, sweptBy}
 use Rattle.lockrun.specs.Turns.{keeps, Turned, Answered, Peeks, HandsBack}
 use Rattle.lockrun.proofs.Changes.{each-length, apart-at, joins, withdraws, leaves}
 

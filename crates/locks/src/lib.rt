@@ -1,12 +1,11 @@
 // Locks: reader sets, a lock's changes by value, and the locks of all cells on three lent slices (document 01, "What the caller lends", Locks).
 // Whatever takes and gives a `Lock` by value serves any other way of keeping locks.
 ghost use mathlib.Core.Path.{_≡_};
-ghost use mathlib.Core.Bool.{Bool, true, false, cond};
-ghost use Prim.Native.Nat.{ℕ, _+_, _*_, _<_, _≤_};
+ghost use Prim.Native.Nat.{_+_, _*_, _<_, _≤_};
 ghost use lib.Dec.{eqb};
 ghost use lib.ListN.{length, getD, set};
 ghost use Rattle.model.specs.Readers.{withReader, withoutReader, otherReaders};
-ghost use Rattle.model.specs.Buffers.{cellAt, entryAt, publishes, lockAt, setLock, lockOn, join, leave, vacate, withdraw, claim, own};
+ghost use Rattle.model.specs.Buffers.{cellAt, publishes, lockAt, setLock, lockOn, join, leave, vacate, withdraw, claim, own};
 ghost use Rattle.locks.specs.Sweeps.{locksOf, Swept, rolledBackIn, DropsReads, marked, mark, droppedSeen, droppedAt};
 use model::Lock;
 

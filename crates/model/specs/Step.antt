@@ -1,16 +1,15 @@
 -- The calls (document 01, "The steps" and "When a call is turned down"). A call is a plan, which holds every test and the order of refusals;
 -- what it answers and what it leaves go by the plan alone.
-use Prim.Native.Nat.{ℕ, zero, suc, _+_, _*_}
-use mathlib.Core.Bool.{Bool, true, false, cond, not, _&&_, _||_}
+use Prim.Native.Nat.{ℕ, suc, _+_, _*_}
+use mathlib.Core.Bool.{Bool, true, cond, not, _&&_, _||_}
 use mathlib.Core.Option.{Option, none, some}
-use mathlib.Core.List.{List, [], _∷_}
+use mathlib.Core.List.{List}
 use lib.Dec.{leb, ltb, eqb}
-use lib.ListN.{length, getD, set}
+use lib.ListN.{getD, set}
 use Rattle.model.specs.Search.{some?, below}
 use Rattle.model.specs.Readers.{otherReaders}
-use Rattle.model.specs.Buffers.{Locks, Buffers, Store, Entry, size, idle, running, sessionAt, withSession, withEntry, moveTo, cellAt, entryAt, slotIn, lookIn, publishesIn, targetIn, currentOf, appended, updated, lockAt, lockOn, sweep, join, leave, vacate, withdraw, claim, own, cap, allFit, lengthsFit, fresh}
+use Rattle.model.specs.Buffers.{Locks, Buffers, Store, size, idle, running, sessionAt, withSession, withEntry, moveTo, cellAt, entryAt, slotIn, lookIn, publishesIn, targetIn, currentOf, appended, updated, lockAt, lockOn, sweep, join, leave, vacate, withdraw, claim, own, cap, allFit, lengthsFit, fresh}
 use Rattle.model.specs.declared.Session.{Session}
-use Rattle.model.specs.declared.Sessions.{Sessions}
 use Rattle.model.specs.declared.Lock.{Lock}
 use Rattle.model.specs.declared.Call.{Call}
 use Rattle.model.specs.declared.Call.the-variants.{Begin, Read, Write, Seal, Advance, Abandon, Peek}

@@ -7,7 +7,6 @@ use mir.Syntax.{w64}
 use mir.Val.{Fits}
 use native.Mathlib.Nat.{mod-eq-of-lt, mod-lt, zero-lt-suc}
 use native.Mathlib.Omega.{arith}
-use lib.ListN.{length}
 use lib.Seq.{set-getD}
 use Rattle.model.specs.Buffers.{Locks, Store, sessionAt, withEntry, appended, updated}
 use Rattle.model.specs.Step.{Outcome, outcome}

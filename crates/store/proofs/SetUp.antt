@@ -1,16 +1,10 @@
 -- Set-up and its loops: a slice filled from its start, the values tested one by one, and the three answers.
-use mathlib.Core.Path.{_≡_, _∙_}
-use mathlib.Core.Bool.{Bool, true, false, _&&_}
-use mathlib.Core.List.{List, _++_, append-nil}
-use Prim.Native.Nat.{ℕ, _+_, _<_, _≤_}
-use native.Mathlib.Omega.{arith}
-use native.Mathlib.Numerals.{add-one}
-use borrow.Author.Tests.{lt-ltb, le-ltb}
-use borrow.Author.Fill.{fill-more}
-use lib.Dec.{leb}
-use lib.ListN.{length, getD, set, drop, replicate, drop-of-length-le}
-use lib.Seq.{drop-cons}
-use Rattle.model.specs.Buffers.{Store, size, cap, fits, allFit, lengthsFit, fresh, idle}
+use mathlib.Core.Path.{_≡_}
+use mathlib.Core.Bool.{Bool, true, false}
+use mathlib.Core.List.{List}
+use Prim.Native.Nat.{ℕ}
+use lib.ListN.{length, replicate}
+use Rattle.model.specs.Buffers.{Store, size, allFit, lengthsFit, fresh, idle}
 use Rattle.model.specs.Step.{outcome, setUpAnswer, setUp, setUpTaken}
 use Rattle.model.specs.declared.Sessions.{Sessions}
 use Rattle.model.specs.declared.Answer.the-variants.{Done, Refused}

@@ -1,12 +1,12 @@
 -- What a call on number slices is given and leaves, as the model's store; and the part that a peek hands back, as a place in memory.
 use mathlib.Core.Path.{_≡_}
-use mathlib.Core.Bool.{Bool, true, false}
+use mathlib.Core.Bool.{true}
 use Prim.Native.Nat.{ℕ, _+_, _*_, _≤_, _<_}
 use mathlib.Core.List.{List, []}
-use lib.ListN.{length, take, drop, set}
+use lib.ListN.{take, drop, set}
 use denote.Ref.{RefT}
 use Rattle.model.specs.Search.{below}
-use Rattle.model.specs.Buffers.{Locks, Buffers, Store, size, sessionAt, cellAt, lengthsFit}
+use Rattle.model.specs.Buffers.{Store, size, sessionAt, cellAt, lengthsFit}
 use Rattle.model.specs.Step.{Outcome, outcome, answer, after, Part, storeWord, logWord, noWord}
 use Rattle.model.specs.declared.Session.{Session}
 use Rattle.model.specs.declared.Sessions.{Sessions}

@@ -1,8 +1,7 @@
 // The store: set-up and the calls, on number slices that the caller lends (document 01, "The steps").
 // Each call takes the records of all sixteen sessions and hands them back with its answer. It decides, then carries the plan out.
 ghost use mathlib.Core.Path.{_≡_};
-ghost use mathlib.Core.Bool.{Bool, true, false};
-ghost use Prim.Native.Nat.{ℕ, _+_, _*_, _%_, _<_, _≤_};
+ghost use Prim.Native.Nat.{_+_, _*_, _%_, _<_, _≤_};
 ghost use lib.ListN.{length, replicate};
 ghost use Rattle.model.specs.Buffers.{sessionAt, cellAt, lockAt, lockOn, join, appended};
 ghost use Rattle.model.specs.Step.{outcome, taken, setUpTaken, planOf, shown};
@@ -17,6 +16,7 @@ use model::Call;
 use model::Lock;
 use model::Plan;
 use model::Reply;
+use model::Session;
 use model::Sessions;
 
 // A call's answer, and the record that it leaves its session. Begin, read, write and abandon hand on one record by value and put what is left of it

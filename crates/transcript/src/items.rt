@@ -4,7 +4,6 @@ use field::Kind;
 use field::Reading;
 use model::Call;
 ghost use mathlib.Core.Path.{_≡_};
-ghost use Prim.Native.Nat.{_+_, _≤_, _<_};
 ghost use lib.ListN.{length};
 ghost use Rattle.field.specs.Field.{readingAt};
 ghost use Rattle.transcript.specs.Items.{nextOfField, nextOf};

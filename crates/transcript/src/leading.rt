@@ -2,7 +2,6 @@
 use crate::Cells;
 use crate::Next;
 use crate::items::next_at;
-ghost use mathlib.Core.Path.{_≡_};
 ghost use Prim.Native.Nat.{_+_, _≤_};
 ghost use lib.ListN.{length};
 ghost use Rattle.transcript.specs.Output.{ReadCells};

@@ -7,7 +7,7 @@ ghost use Prim.Native.Nat.{_+_, _*_, _≤_, _<_};
 ghost use lib.ListN.{length};
 ghost use Rattle.model.specs.Step.{number};
 ghost use Rattle.transcript.specs.Decimal.{decimal};
-ghost use Rattle.transcript.specs.Lines.{word, sizeLine, setUpLine, fieldLine, cellLine, answerLine, cellLines};
+ghost use Rattle.transcript.specs.Lines.{word, setUpLine, fieldLine, cellLine, answerLine, cellLines};
 ghost use Rattle.transcript.specs.Output.{out, put, stopLine};
 
 const SPACE: u8 = 32;

@@ -9,7 +9,7 @@ use model::Call;
 use model::Session;
 use model::Sessions;
 ghost use mathlib.Core.Path.{_≡_};
-ghost use Prim.Native.Nat.{_+_, _*_, _≤_, _<_};
+ghost use Prim.Native.Nat.{_+_, _≤_, _<_};
 ghost use lib.ListN.{length};
 ghost use Rattle.store.specs.Lent.{storeOf};
 ghost use Rattle.transcript.specs.Items.{itemsAt};

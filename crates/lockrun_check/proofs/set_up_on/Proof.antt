@@ -1,6 +1,6 @@
 -- `lockrun_check::set_up_on` meets its contract: a walk of its MIR, by hand. The array is copied to a local, which is lent to `lockrun::set_up` as a run (`LentArray.antt`), and is handed back with the reply.
 -- Assumes nothing.
-use mathlib.Core.Path.{_≡_, refl, ap, subst}
+use mathlib.Core.Path.{_≡_, refl, subst}
 use Prim.Native.Nat.{ℕ}
 use mathlib.Core.List.{List, [], _∷_}
 use lib.ListN.{length}
@@ -41,14 +41,13 @@ use Rattle.model.specs.declared.Sessions.{Sessions}
 use Rattle.model.specs.declared.Reply.{Reply}
 use Rattle.lockrun.specs.Run.{storeOn}
 use Rattle.lockrun.proofs.Row.{R, vals, tells, RS, low-s, tells-s, makes-s, typed-s, RA, typed-a}
-use Rattle.lockrun.proofs.Leave.{full, bare, leave}
+use Rattle.lockrun.proofs.Leave.{full, leave}
 use Rattle.lockrun.proofs.Short.{var, sets}
 use Rattle.lockrun.proofs.Lent.{ref-at}
 use Rattle.lockrun.proofs.set_up as set-up
 use Rattle.lockrun.proofs.set_up.Symbol as set-up-def
 use Rattle.lockrun.proofs.set_up.Symbol.{name as #lockrun·set-up}
 use Rattle.lockrun.proofs.set_up.Met as set-up-thm
-use Rattle.lockrun_check.specs.declared.Left.{Left}
 use Rattle.lockrun_check.proofs.LentArray.{lent-array}
 use Rattle.lockrun_check.proofs.Run.{room, RX, typed-run, makes-run, makes-x, typed-x, left-is}
 use Rattle.lockrun_check.proofs.set_up_on.Key.{name as #lockrun-check·set-up-on}

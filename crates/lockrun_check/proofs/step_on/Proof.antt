@@ -1,6 +1,6 @@
 -- `lockrun_check::step_on` meets its contract: a walk of its MIR, by hand. The array is copied to a local, which is lent to `lockrun::step` as a run (`LentArray.antt`), and is handed back with the reply.
 -- Assumes nothing.
-use mathlib.Core.Path.{_≡_, refl, ap, subst}
+use mathlib.Core.Path.{_≡_, refl, subst}
 use Prim.Native.Nat.{ℕ}
 use mathlib.Core.List.{List, [], _∷_}
 use lib.ListN.{length}
@@ -42,14 +42,13 @@ use Rattle.model.specs.declared.Reply.{Reply}
 use Rattle.model.specs.declared.Call.{Call}
 use Rattle.lockrun.specs.Run.{storeOn}
 use Rattle.lockrun.proofs.Row.{R, vals, tells, RS, low-s, tells-s, makes-s, typed-s, RA, typed-a, RK, low-k, tells-k, makes-k, typed-k}
-use Rattle.lockrun.proofs.Leave.{full, bare, leave}
+use Rattle.lockrun.proofs.Leave.{full, leave}
 use Rattle.lockrun.proofs.Short.{var, sets}
 use Rattle.lockrun.proofs.Lent.{ref-at}
 use Rattle.lockrun.proofs.step as step
 use Rattle.lockrun.proofs.step.Symbol as step-def
 use Rattle.lockrun.proofs.step.Symbol.{name as #lockrun·step}
 use Rattle.lockrun.proofs.step.Met as step-thm
-use Rattle.lockrun_check.specs.declared.Left.{Left}
 use Rattle.lockrun_check.proofs.LentArray.{lent-array}
 use Rattle.lockrun_check.proofs.Run.{room, RX, typed-run, makes-run, makes-x, typed-x, left-is}
 use Rattle.lockrun_check.proofs.step_on.Key.{name as #lockrun-check·step-on}

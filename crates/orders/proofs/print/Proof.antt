@@ -49,6 +49,6 @@ pub print-spec : {M : Type 1} → statement M
 print-spec =
     tie.close
     (tie.spec
-    (λ c. search needs) (λ c. search needs) (λ c. search needs) (λ c. search needs) (λ c. search needs) (λ c. search needs) array-write-text-2
-    add-n-2 (λ c. search needs) (λ c. search needs) array-write-text-3 add-text-4 array-write-text-4 add-text-5 array-share-prefix-text
-    slice-aggregate-write-all (λ c κs. search needs) (λ c. search needs))
+    (λ c. search needs) (λ c. search needs) (λ c. search needs) (λ c. search needs) (λ c. search needs) (λ c. search needs)
+    array-write-text-2 add-n-2 (λ c. search needs) (λ c. search needs) array-write-text-3 add-text-4 array-write-text-4 add-text-5
+    array-share-prefix-text slice-aggregate-write-all (λ c κs. search needs) (λ c. search needs))

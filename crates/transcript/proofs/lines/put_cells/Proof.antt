@@ -20,27 +20,6 @@ Inv-loop output₀ at values end₀ i₀ output end i =
 abbrev μ-loop : tie.MeasureT-loop
 μ-loop output₀ at values end₀ i₀ output end i = length values - i
 
-loop-holds : tie.Need-loop-holds Inv-loop μ-loop
-loop-holds c = search needs
-
-cast-put-cell : tie.Need-cast-put-cell Inv-loop μ-loop
-cast-put-cell c = search needs
-
-mul-put-cell : tie.Need-mul-put-cell Inv-loop μ-loop
-mul-put-cell c = search needs
-
-shared-slice-read-put-cell : tie.Need-shared-slice-read-put-cell Inv-loop μ-loop
-shared-slice-read-put-cell c = search needs
-
-put-cell-requires : tie.Need-put-cell-requires Inv-loop μ-loop
-put-cell-requires c κs = search needs
-
-add-i : tie.Need-add-i Inv-loop μ-loop
-add-i c = search needs
-
-loop-less : tie.Need-loop-less Inv-loop μ-loop
-loop-less c = search needs
-
 loop-again : tie.Need-loop-again Inv-loop μ-loop
 loop-again c =
     let i = c .before .before .before .before .before .before .loop .i in
@@ -49,9 +28,6 @@ loop-again c =
     let line = c .before .before .put-cell .ensures in
     let value = c .before .before .before .before .before .before .before .shared-slice-known .given i in
     (search needs, search needs, omega (arith, ends-at _ _ _ line, length-cell i (getD values i 0) (omega arith) (omega (arith, value))), after _ _ _ _ line ∙ ap (put _ _) (sym (cells-more i values (c .before .before .before .before .before .loop-test .taken))) ∙ inv .3)
-
-same-length : tie.Need-same-length Inv-loop μ-loop
-same-length c = search needs
 
 returns : tie.Need-returns Inv-loop μ-loop
 returns c =
@@ -62,5 +38,5 @@ pub put-cells-spec : {M : Type 1} → statement M
 put-cells-spec =
     tie.close
     (tie.spec
-    Inv-loop μ-loop loop-holds cast-put-cell mul-put-cell shared-slice-read-put-cell put-cell-requires add-i loop-less loop-again
-    same-length returns)
+    Inv-loop μ-loop (λ c. search needs) (λ c. search needs) (λ c. search needs) (λ c. search needs) (λ c κs. search needs)
+    (λ c. search needs) (λ c. search needs) loop-again (λ c. search needs) returns)

@@ -18,24 +18,6 @@ Inv-loop output₀ at text i₀ output i = (i ≤ length text) × (length output
 abbrev μ-loop : tie.MeasureT-loop
 μ-loop output₀ at text i₀ output i = length text - i
 
-loop-holds : tie.Need-loop-holds Inv-loop μ-loop
-loop-holds c = search needs
-
-shared-slice-read-output : tie.Need-shared-slice-read-output Inv-loop μ-loop
-shared-slice-read-output c = search needs
-
-add-output : tie.Need-add-output Inv-loop μ-loop
-add-output c = search needs
-
-slice-write-output : tie.Need-slice-write-output Inv-loop μ-loop
-slice-write-output c = search needs
-
-add-i : tie.Need-add-i Inv-loop μ-loop
-add-i c = search needs
-
-loop-less : tie.Need-loop-less Inv-loop μ-loop
-loop-less c = search needs
-
 loop-again : tie.Need-loop-again Inv-loop μ-loop
 loop-again c =
     let i = c .before .before .loop .i in
@@ -43,12 +25,6 @@ loop-again c =
     let inv = c .before .before .loop .inv in
     let more : take (i + 1) text ≡ take i text ++ (getD text i 0 ∷ []) = rw add-one (take-suc text i 0 (c .before .loop-test .taken)) in
     (search needs, search needs, rw (inv .2, more) (sets-more _ _ i (take i text) _ (length-take-le i text (inv .0))))
-
-add-result : tie.Need-add-result Inv-loop μ-loop
-add-result c = search needs
-
-same-length : tie.Need-same-length Inv-loop μ-loop
-same-length c = search needs
 
 returns : tie.Need-returns Inv-loop μ-loop
 unfolding put
@@ -65,5 +41,5 @@ pub put-text-spec : {M : Type 1} → statement M
 put-text-spec =
     tie.close
     (tie.spec
-    Inv-loop μ-loop loop-holds shared-slice-read-output add-output slice-write-output add-i loop-less loop-again add-result same-length
-    returns)
+    Inv-loop μ-loop (λ c. search needs) (λ c. search needs) (λ c. search needs) (λ c. search needs) (λ c. search needs)
+    (λ c. search needs) loop-again (λ c. search needs) (λ c. search needs) returns)

@@ -35,12 +35,6 @@ abbrev μ-loop : tie.MeasureT-loop
 loop-holds : tie.Need-loop-holds Inv-loop μ-loop
 loop-holds c = (omega arith, omega arith, omega arith, refl, refl, refl, refl, refl, refl, refl)
 
-next-at-requires : tie.Need-next-at-requires Inv-loop μ-loop
-next-at-requires c κs = search needs
-
-enum-known-next : tie.Need-enum-known-next Inv-loop μ-loop
-enum-known-next c = search needs
-
 put-stop-requires : tie.Need-put-stop-requires Inv-loop μ-loop
 put-stop-requires c κs =
     let inv = c .before .before .before .loop .inv in
@@ -50,24 +44,6 @@ put-cells-requires : tie.Need-put-cells-requires Inv-loop μ-loop
 put-cells-requires c κs =
     let inv = c .before .before .before .before .before .before .before .before .loop .inv in
     (omega (arith, inv .4), omega (arith, inv .0, inv .1, inv .2, inv .3, inv .4, c .before .before .before .before .put-stop .ensures .1))
-
-same-length : tie.Need-same-length Inv-loop μ-loop
-same-length c = search needs
-
-same-length-2 : tie.Need-same-length-2 Inv-loop μ-loop
-same-length-2 c = search needs
-
-same-length-3 : tie.Need-same-length-3 Inv-loop μ-loop
-same-length-3 c = search needs
-
-same-length-4 : tie.Need-same-length-4 Inv-loop μ-loop
-same-length-4 c = search needs
-
-same-length-5 : tie.Need-same-length-5 Inv-loop μ-loop
-same-length-5 c = search needs
-
-same-length-6 : tie.Need-same-length-6 Inv-loop μ-loop
-same-length-6 c = search needs
 
 returns : tie.Need-returns Inv-loop μ-loop
 returns c =
@@ -122,5 +98,6 @@ pub run-calls-spec : {M : Type 1} → statement M
 run-calls-spec =
     tie.close
     (tie.spec
-    Inv-loop μ-loop loop-holds next-at-requires enum-known-next put-stop-requires put-cells-requires same-length same-length-2
-    same-length-3 same-length-4 same-length-5 same-length-6 returns take-turn-requires add-ordinal add-place loop-less loop-again)
+    Inv-loop μ-loop loop-holds (λ c κs. search needs) (λ c. search needs) put-stop-requires put-cells-requires (λ c. search needs)
+    (λ c. search needs) (λ c. search needs) (λ c. search needs) (λ c. search needs) (λ c. search needs) returns take-turn-requires
+    add-ordinal add-place loop-less loop-again)
