@@ -1,4 +1,4 @@
--- The end of a walk: a function's locals are freed, each whether it holds a value or not. It says nothing of the crate, and can be copied as it stands.
+-- The end of a walk: a function's locals are freed, each whether it holds a value or not. It says nothing of the crate: other crates may cite it.
 --     Slot         what a local is at the end: `full` of a value, or `bare`
 --     laid         the locals as they stand in the context, the last one first
 --     leave        one step that frees them all: they are what comes after the first k entries, the result's slot is named first, and a slot that is not named is bare

@@ -1,4 +1,4 @@
--- A `&κ mut [T]` that the caller keeps is lent for a call, as `&mut` or as `&`, and comes back. It says nothing of the crate, and can be copied as it stands.
+-- A `&κ mut [T]` that the caller keeps is lent for a call, as `&mut` or as `&`, and comes back. It says nothing of the crate: other crates may cite it.
 --     Lending, lends-shared, back-shared     `Again.antt` for a loan as `&`: the holder keeps the lender's part at κ′ and its own borrow, open
 --     lent             one step for a call that takes the slice as `&mut`, whatever the callee: `goes` makes what it asks of the new slice, a whole token and P, and `gets` says what its `post` gives: the token, the last list, and Q
 --     lent-shared      one step for a call that takes it as `&`

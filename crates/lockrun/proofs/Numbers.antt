@@ -1,4 +1,4 @@
--- The numbers that a walked function takes after what it is lent, by the list of their widths: their slots, and what a walk owes of each. It says nothing of the crate, and can be copied as it stands.
+-- The numbers that a walked function takes after what it is lent, by the list of their widths: their slots, and what a walk owes of each. It says nothing of the crate: other crates may cite it.
 --     inLocals     their locals, before those that follow.        copies   each copied, from local i on.        hold, lent    a local of a type, and of a slice
 --     numbers      a slot for each.        rows     their types at the lifetimes κs
 --     stays, go    each is still owned at the end, and nothing is said of it

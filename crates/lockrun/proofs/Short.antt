@@ -1,4 +1,4 @@
--- Steps of a walk that every function has, each under one name. It says nothing of the crate, and can be copied as it stands.
+-- Steps of a walk that every function has, each under one name. It says nothing of the crate: other crates may cite it.
 --     allocates    all locals of a function, each with room: one step for all
 --     var          a local as an operand
 --     sets         a local that is bare is given a value

@@ -1,4 +1,4 @@
--- A local array `[T; n]`, written whole, is lent as a `&mut [T]` or as a `&[T]` for a call, and is whole again after it. It says nothing of the crate, and can be copied as it stands.
+-- A local array `[T; n]`, written whole, is lent as a `&mut [T]` or as a `&[T]` for a call, and is whole again after it. It says nothing of this program.
 --     lent-array           one step for a call that takes it as `&mut`, whatever the callee: `goes` and `gets` are those of `Lent.antt`'s `lent`
 --     lent-array-shared    one step for a call that takes it as `&`: they are those of `lent-shared`
 -- T has one MIR type, its laws, and a machine value that its relation tells.
