@@ -1,4 +1,4 @@
--- A call that is handed its session's own record x: the facts of proofs/Entering.antt at x, and the place of x among the sixteen records.
+-- A call that is handed its session's own record x: the place of x among the sixteen records, and what the callees ask and answer, at x.
 use mathlib.Core.Path.{_≡_, ap, _∙_}
 use mathlib.Core.Bool.{Bool}
 use mathlib.Core.List.{List}
@@ -8,22 +8,28 @@ use mir.Val.{Fits}
 use native.Mathlib.Nat.{mod-eq-of-lt, mod-lt, zero-lt-suc}
 use native.Mathlib.Omega.{arith}
 use lib.Seq.{set-getD}
-use Rattle.model.specs.Buffers.{Locks, Store, sessionAt, withEntry, appended, updated}
+use Rattle.model.specs.Buffers.{Locks, Store, sessionAt, withSession, withEntry, moveTo, appended, updated}
 use Rattle.model.specs.Step.{Outcome, outcome}
 use Rattle.model.specs.declared.Session.{Session}
 use Rattle.model.specs.declared.Sessions.{Sessions}
 use Rattle.model.specs.declared.Answer.{Answer}
 use Rattle.model.specs.declared.Lock.{Lock}
 use Rattle.model.specs.declared.Plan.{Plan}
-use Rattle.locks.specs.Sweeps.{rolledBackIn}
-use Rattle.decide.specs.Own.{recordOn, tested, readOn, writeOn}
+use Rattle.locks.specs.Sweeps.{Swept, rolledBackIn, DropsReads}
+use Rattle.decide.specs.Own.{recordOn, tested, readOn, writeOn, sealOn, dueOn, advanceOn, handledOn}
+use Rattle.decide.specs.declared.Due.{Due}
+use Rattle.decide.specs.declared.Handled.{Handled}
 use Rattle.decide.proofs.Ways.{Entries}
 use Rattle.store.proofs.Carry.{leaves, keeps}
 
+-- `leaves`, as the contracts have it
+abbrev leavesOwn : Store → ℕ → Locks → List ℕ → List ℕ → Session → Store
+leavesOwn σ s L vs W y = record { lent = record { values = vs; classes = σ .lent .classes; locks = L; logs = W }; sessions = withSession (σ .sessions) s y }
+
 -- a record left as it was leaves all sixteen so
 pub unchanged : (σ : Store) (s : ℕ) (x : Session) (L : Locks) (W : List ℕ) (a : Answer) (o : Outcome) → x ≡ sessionAt (σ .sessions) s
-    → outcome a (keeps σ L W) ≡ o → outcome a (leaves σ s L (σ .lent .values) W x) ≡ o
-unfolding sessionAt
+    → outcome a (keeps σ L W) ≡ o → outcome a (leavesOwn σ s L (σ .lent .values) W x) ≡ o
+unfolding sessionAt withSession
 unchanged σ s x L W a o e p = rw (e, set-getD) p
 
 -- ---- a session below 16 is its own place
@@ -40,9 +46,11 @@ place-bytes s = omega (arith, place-low s)
 pub own-place : (ss : Sessions) (s : ℕ) (x : Session) → s ≤ 15 → x ≡ sessionAt ss (s % 16) → x ≡ sessionAt ss s
 own-place ss s x l e = e ∙ ap (sessionAt ss) (low-place s l)
 
-pub put-place : (σ : Store) (s : ℕ) (y : Session) (L : Locks) (W : List ℕ) (a : Answer) (o : Outcome) → s ≤ 15
-    → outcome a (leaves σ s L (σ .lent .values) W y) ≡ o → outcome a (leaves σ (s % 16) L (σ .lent .values) W y) ≡ o
-put-place σ s y L W a o l p = rw (low-place s l) p
+-- what a plan leaves, at the place that the code takes
+pub put-place : (σ : Store) (s : ℕ) (y : Session) (L : Locks) (vs W : List ℕ) (a : Answer) (o : Outcome) → s ≤ 15
+    → outcome a (leaves σ s L vs W y) ≡ o → outcome a (leavesOwn σ (s % 16) L vs W y) ≡ o
+unfolding withSession
+put-place σ s y L vs W a o l p = rw (low-place s l) p
 
 -- ---- x in place of a record y that it is
 
@@ -52,6 +60,18 @@ module _ (x y : Session) (e : x ≡ y) where
 
   pub write-at : (cs : List ℕ) (n : ℕ) (A : List ℕ) (l : Lock) (c v : ℕ) {p : Plan} → p ≡ writeOn cs n A x l c v → p ≡ writeOn cs n A y l c v
   write-at cs n A l c v h = h ∙ ap (λ z. writeOn cs n A z l c v) e
+
+  pub seal-at : (n : ℕ) (A : List ℕ) {p : Plan} → p ≡ sealOn n A x → p ≡ sealOn n A y
+  seal-at n A h = h ∙ ap (sealOn n A) e
+
+  pub due-at : (n : ℕ) (A : List ℕ) {d : Due} → d ≡ dueOn n A x → d ≡ dueOn n A y
+  due-at n A h = h ∙ ap (dueOn n A) e
+
+  pub advance-at : (A : List ℕ) (l : Lock) (s k : ℕ) {p : Plan} → p ≡ advanceOn A x l s k → p ≡ advanceOn A y l s k
+  advance-at A l s k h = h ∙ ap (λ z. advanceOn A z l s k) e
+
+  pub handled-at : (A : List ℕ) (c : ℕ) {r : Handled} → r ≡ handledOn A x c → r ≡ handledOn A y c
+  handled-at A c h = h ∙ ap (λ z. handledOn A z c) e
 
   pub tested-at : (n : ℕ) (A : List ℕ) (fit : ℕ → Bool) {r : ℕ} → r ≡ tested (recordOn n A x) (fit (x .phase)) → r ≡ tested (recordOn n A y) (fit (y .phase))
   tested-at n A fit h = h ∙ ap (λ z. tested (recordOn n A z) (fit (z .phase))) e
@@ -65,6 +85,12 @@ module _ (x y : Session) (e : x ≡ y) where
   pub entries-at : (n : ℕ) (A : List ℕ) → Entries n A y → Entries n A x
   entries-at n A h = rw e h
 
+  pub swept-at : (s : ℕ) (A : List ℕ) (n : ℕ) → Swept s A (y .count) n → Swept s A (x .count) n
+  swept-at s A n h = rw e h
+
+  pub dropped-at : (A : List ℕ) (s : ℕ) (R S : List ℕ) → DropsReads A (x .count) s R S → DropsReads A (y .count) s R S
+  dropped-at A s R S h = rw e at h
+
   pub appended-at : (P A : List ℕ) (c v : ℕ) → P ≡ appended A 0 (x .count) c v → P ≡ appended A 0 (y .count) c v
   appended-at P A c v h = h ∙ ap (λ z. appended A 0 (z .count) c v) e
 
@@ -76,3 +102,6 @@ module _ (x y : Session) (e : x ≡ y) where
 
   pub entered-at : (z : Session) → z ≡ withEntry x → z ≡ withEntry y
   entered-at z h = h ∙ ap withEntry e
+
+  pub moved-at : (z : Session) (p n : ℕ) → z ≡ moveTo p n x → z ≡ moveTo p n y
+  moved-at z p n h = h ∙ ap (moveTo p n) e

@@ -3,12 +3,11 @@ use mathlib.Core.Path.{_≡_}
 use mathlib.Core.Bool.{true}
 use Prim.Native.Nat.{ℕ, _+_, _*_, _≤_, _<_}
 use mathlib.Core.List.{List, []}
-use lib.ListN.{take, drop, set}
+use lib.ListN.{take, drop}
 use denote.Ref.{RefT}
 use Rattle.model.specs.Search.{below}
 use Rattle.model.specs.Buffers.{Store, size, sessionAt, cellAt, lengthsFit}
 use Rattle.model.specs.Step.{Outcome, outcome, answer, after, Part, storeWord, logWord, noWord}
-use Rattle.model.specs.declared.Session.{Session}
 use Rattle.model.specs.declared.Sessions.{Sessions}
 use Rattle.model.specs.declared.Plan.{Plan}
 use Rattle.locks.specs.Sweeps.{locksOf}
@@ -19,10 +18,6 @@ storeOf values classes readers claimants exclusives logs sessions =
       lent = record { values = values; classes = classes; locks = locksOf readers claimants exclusives; logs = logs };
       sessions = sessions;
     }
-
--- the sixteen records with y at s; past the sixteenth all as before
-abbrev pub withRecord : Sessions → ℕ → Session → Sessions
-withRecord ss s y = record { records = set (ss .records) s y }
 
 -- a plan of session s carried out
 unfoldable pub carried : ℕ → Plan → Store → Outcome

@@ -3,13 +3,13 @@
 ghost use mathlib.Core.Path.{_≡_};
 ghost use Prim.Native.Nat.{_+_, _*_, _%_, _<_, _≤_};
 ghost use lib.ListN.{length, replicate};
-ghost use Rattle.model.specs.Buffers.{sessionAt, cellAt, lockAt, lockOn, join, appended};
+ghost use Rattle.model.specs.Buffers.{sessionAt, withSession, cellAt, lockAt, lockOn, join, appended};
 ghost use Rattle.model.specs.Step.{outcome, taken, setUpTaken, planOf, shown};
 ghost use Rattle.model.specs.declared.Call.the-variants.{Begin, Read, Write, Seal, Advance, Abandon, Peek};
 ghost use Rattle.log.specs.Slots.{part};
 ghost use Rattle.locks.specs.Sweeps.{locksOf};
 ghost use Rattle.decide.specs.Own.{advanceOn};
-ghost use Rattle.store.specs.Lent.{storeOf, withRecord, carried, Sized, Admitted, Handed};
+ghost use Rattle.store.specs.Lent.{storeOf, carried, Sized, Admitted, Handed};
 use decide::Due;
 use model::Answer;
 use model::Call;
@@ -19,8 +19,8 @@ use model::Reply;
 use model::Session;
 use model::Sessions;
 
-// A call's answer, and the record that it leaves its session. Begin, read, write and abandon hand on one record by value and put what is left of it
-// in its place at the end, so that the sixteen are copied in and out once. Their inner functions name the sixteen in their contracts alone.
+// A call's answer, and the record that it leaves its session. Each call but peek hands on one record by value and puts what is left of it in its
+// place at the end, so that the sixteen are copied in and out once. The inner functions name the sixteen in their contracts alone.
 struct Kept {
     answer: Answer,
     session: Session,
@@ -107,7 +107,7 @@ fn begin_own(
     session: u8,
 ) -> Kept
     requires { ⌜ x ≡ sessionAt sessions (session % 16) ⌝ }
-    ensures { λ r. ⌜ outcome (r .answer) (storeOf (now (values .entry)) (now (classes .entry)) (now (readers .entry)) (now (claimants .entry)) (now (exclusives .entry)) (now (logs .entry)) (withRecord sessions (session % 16) (r .session))) ≡ taken (Begin session) (storeOf (now (values .entry)) (now (classes .entry)) (now (readers .entry)) (now (claimants .entry)) (now (exclusives .entry)) (now (logs .entry)) sessions) ⌝ }
+    ensures { λ r. ⌜ outcome (r .answer) (storeOf (now (values .entry)) (now (classes .entry)) (now (readers .entry)) (now (claimants .entry)) (now (exclusives .entry)) (now (logs .entry)) (withSession sessions (session % 16) (r .session))) ≡ taken (Begin session) (storeOf (now (values .entry)) (now (classes .entry)) (now (readers .entry)) (now (claimants .entry)) (now (exclusives .entry)) (now (logs .entry)) sessions) ⌝ }
 {
     let n = values.len();
     if !decide::lengths_fit(
@@ -218,7 +218,7 @@ fn read_as(
     cell: u32,
 ) -> Kept
     requires { ⌜ (Sized (storeOf (now values) (now classes) (now readers) (now claimants) (now exclusives) (now logs) sessions) session) × (x ≡ sessionAt sessions session) ⌝ }
-    ensures { λ r. ⌜ outcome (r .answer) (storeOf (now (values .entry)) (now (classes .entry)) (now (readers .exit)) (now (claimants .exit)) (now (exclusives .exit)) (now (logs .exit)) (withRecord sessions session (r .session))) ≡ taken (Read session cell) (storeOf (now (values .entry)) (now (classes .entry)) (now (readers .entry)) (now (claimants .entry)) (now (exclusives .entry)) (now (logs .entry)) sessions) ⌝ }
+    ensures { λ r. ⌜ outcome (r .answer) (storeOf (now (values .entry)) (now (classes .entry)) (now (readers .exit)) (now (claimants .exit)) (now (exclusives .exit)) (now (logs .exit)) (withSession sessions session (r .session))) ≡ taken (Read session cell) (storeOf (now (values .entry)) (now (classes .entry)) (now (readers .entry)) (now (claimants .entry)) (now (exclusives .entry)) (now (logs .entry)) sessions) ⌝ }
 {
     let n = values.len();
     let i = session as usize;
@@ -280,7 +280,7 @@ fn read_own(
     cell: u32,
 ) -> Kept
     requires { ⌜ x ≡ sessionAt sessions (session % 16) ⌝ }
-    ensures { λ r. ⌜ outcome (r .answer) (storeOf (now (values .entry)) (now (classes .entry)) (now (readers .exit)) (now (claimants .exit)) (now (exclusives .exit)) (now (logs .exit)) (withRecord sessions (session % 16) (r .session))) ≡ taken (Read session cell) (storeOf (now (values .entry)) (now (classes .entry)) (now (readers .entry)) (now (claimants .entry)) (now (exclusives .entry)) (now (logs .entry)) sessions) ⌝ }
+    ensures { λ r. ⌜ outcome (r .answer) (storeOf (now (values .entry)) (now (classes .entry)) (now (readers .exit)) (now (claimants .exit)) (now (exclusives .exit)) (now (logs .exit)) (withSession sessions (session % 16) (r .session))) ≡ taken (Read session cell) (storeOf (now (values .entry)) (now (classes .entry)) (now (readers .entry)) (now (claimants .entry)) (now (exclusives .entry)) (now (logs .entry)) sessions) ⌝ }
 {
     if !decide::lengths_fit(
         values.len(),
@@ -364,7 +364,7 @@ fn write_as(
     value: u32,
 ) -> Kept
     requires { ⌜ (Sized (storeOf (now values) (now classes) (now readers) (now claimants) (now exclusives) (now logs) sessions) session) × (x ≡ sessionAt sessions session) ⌝ }
-    ensures { λ r. ⌜ outcome (r .answer) (storeOf (now (values .entry)) (now (classes .entry)) (now (readers .exit)) (now (claimants .exit)) (now (exclusives .exit)) (now (logs .exit)) (withRecord sessions session (r .session))) ≡ taken (Write session cell value) (storeOf (now (values .entry)) (now (classes .entry)) (now (readers .entry)) (now (claimants .entry)) (now (exclusives .entry)) (now (logs .entry)) sessions) ⌝ }
+    ensures { λ r. ⌜ outcome (r .answer) (storeOf (now (values .entry)) (now (classes .entry)) (now (readers .exit)) (now (claimants .exit)) (now (exclusives .exit)) (now (logs .exit)) (withSession sessions session (r .session))) ≡ taken (Write session cell value) (storeOf (now (values .entry)) (now (classes .entry)) (now (readers .entry)) (now (claimants .entry)) (now (exclusives .entry)) (now (logs .entry)) sessions) ⌝ }
 {
     let i = session as usize;
     let a = 128 * i;
@@ -428,7 +428,7 @@ fn write_own(
     value: u32,
 ) -> Kept
     requires { ⌜ x ≡ sessionAt sessions (session % 16) ⌝ }
-    ensures { λ r. ⌜ outcome (r .answer) (storeOf (now (values .entry)) (now (classes .entry)) (now (readers .exit)) (now (claimants .exit)) (now (exclusives .exit)) (now (logs .exit)) (withRecord sessions (session % 16) (r .session))) ≡ taken (Write session cell value) (storeOf (now (values .entry)) (now (classes .entry)) (now (readers .entry)) (now (claimants .entry)) (now (exclusives .entry)) (now (logs .entry)) sessions) ⌝ }
+    ensures { λ r. ⌜ outcome (r .answer) (storeOf (now (values .entry)) (now (classes .entry)) (now (readers .exit)) (now (claimants .exit)) (now (exclusives .exit)) (now (logs .exit)) (withSession sessions (session % 16) (r .session))) ≡ taken (Write session cell value) (storeOf (now (values .entry)) (now (classes .entry)) (now (readers .entry)) (now (claimants .entry)) (now (exclusives .entry)) (now (logs .entry)) sessions) ⌝ }
 {
     if !decide::lengths_fit(
         values.len(),
@@ -500,6 +500,67 @@ pub fn write(
     Reply { answer, sessions }
 }
 
+// Seal, of the session whose record is x.
+fn seal_own(
+    sessions: Sessions,
+    x: Session,
+    values: &[u32],
+    classes: &[u8],
+    readers: &mut [u16],
+    claimants: &[u8],
+    exclusives: &[u8],
+    logs: &[u32],
+    session: u8,
+) -> Kept
+    requires { ⌜ x ≡ sessionAt sessions (session % 16) ⌝ }
+    ensures { λ r. ⌜ outcome (r .answer) (storeOf (now (values .entry)) (now (classes .entry)) (now (readers .exit)) (now (claimants .entry)) (now (exclusives .entry)) (now (logs .entry)) (withSession sessions (session % 16) (r .session))) ≡ taken (Seal session) (storeOf (now (values .entry)) (now (classes .entry)) (now (readers .entry)) (now (claimants .entry)) (now (exclusives .entry)) (now (logs .entry)) sessions) ⌝ }
+{
+    let n = values.len();
+    if !decide::lengths_fit(
+        n,
+        classes.len(),
+        readers.len(),
+        claimants.len(),
+        exclusives.len(),
+        logs.len(),
+    ) {
+        return Kept {
+            answer: Answer::Refused(7),
+            session: x,
+        };
+    }
+    if 15 < session {
+        return Kept {
+            answer: Answer::Refused(1),
+            session: x,
+        };
+    }
+    let i = session as usize;
+    let a = 128 * i;
+    let e = a + 128;
+    let p = decide::seal(&logs[a..e], n, x);
+    if let Plan::Refuse(number) = p {
+        return Kept {
+            answer: Answer::Refused(number),
+            session: x,
+        };
+    }
+    let count = x.count as usize;
+    locks::drop_reads(&logs[a..e], count, readers, session);
+    if let Plan::CommitReads = p {
+        let y = x.rested();
+        return Kept {
+            answer: Answer::Committed,
+            session: y,
+        };
+    }
+    let y = x.sealed();
+    Kept {
+        answer: Answer::Sealed,
+        session: y,
+    }
+}
+
 // Seal: running only. The session leaves the readers of each cell entered but not written. 105 with nothing written, else 102.
 pub fn seal(
     mut sessions: Sessions,
@@ -513,56 +574,29 @@ pub fn seal(
 ) -> Reply
     ensures { λ r. ⌜ outcome (r .answer) (storeOf (now (values .entry)) (now (classes .entry)) (now (readers .exit)) (now (claimants .entry)) (now (exclusives .entry)) (now (logs .entry)) (r .sessions)) ≡ taken (Seal session) (storeOf (now (values .entry)) (now (classes .entry)) (now (readers .entry)) (now (claimants .entry)) (now (exclusives .entry)) (now (logs .entry)) sessions) ⌝ }
 {
-    let n = values.len();
-    if !decide::lengths_fit(
-        n,
-        classes.len(),
-        readers.len(),
-        claimants.len(),
-        exclusives.len(),
-        logs.len(),
-    ) {
-        return Reply {
-            answer: Answer::Refused(7),
-            sessions,
-        };
-    }
-    if 15 < session {
-        return Reply {
-            answer: Answer::Refused(1),
-            sessions,
-        };
-    }
-    let i = session as usize;
-    let a = 128 * i;
-    let e = a + 128;
+    let i = (session % 16) as usize;
     let x = sessions.records[i];
-    let p = decide::seal(&logs[a..e], n, x);
-    if let Plan::Refuse(number) = p {
-        return Reply {
-            answer: Answer::Refused(number),
-            sessions,
-        };
-    }
-    let count = x.count as usize;
-    locks::drop_reads(&logs[a..e], count, readers, session);
-    if let Plan::CommitReads = p {
-        sessions.records[i] = x.rested();
-        return Reply {
-            answer: Answer::Committed,
-            sessions,
-        };
-    }
-    sessions.records[i] = x.sealed();
-    Reply {
-        answer: Answer::Sealed,
+    let kept = seal_own(
         sessions,
-    }
+        x,
+        values,
+        classes,
+        readers,
+        claimants,
+        exclusives,
+        logs,
+        session,
+    );
+    let answer = kept.answer;
+    let y = kept.session;
+    sessions.records[i] = y;
+    Reply { answer, sessions }
 }
 
-// A sealed session's step at entry k.
+// A sealed session's step at entry k. Its record is x.
 fn advance_at(
-    mut sessions: Sessions,
+    sessions: Sessions,
+    x: Session,
     values: &mut [u32],
     classes: &[u8],
     readers: &mut [u16],
@@ -571,14 +605,13 @@ fn advance_at(
     logs: &[u32],
     session: u8,
     k: usize,
-) -> Reply
-    requires { ⌜ (Admitted (storeOf (now values) (now classes) (now readers) (now claimants) (now exclusives) (now logs) sessions) session) × (k < sessionAt sessions session .count) × (2 ≤ sessionAt sessions session .phase) × (sessionAt sessions session .phase ≤ 4) ⌝ }
-    ensures { λ r. ⌜ outcome (r .answer) (storeOf (now (values .exit)) (now (classes .entry)) (now (readers .exit)) (now (claimants .exit)) (now (exclusives .exit)) (now (logs .entry)) (r .sessions)) ≡ carried session (advanceOn (part (now (logs .entry)) session) (sessionAt sessions session) (lockAt (locksOf (now (readers .entry)) (now (claimants .entry)) (now (exclusives .entry))) (cellAt (part (now (logs .entry)) session) 0 k)) session k) (storeOf (now (values .entry)) (now (classes .entry)) (now (readers .entry)) (now (claimants .entry)) (now (exclusives .entry)) (now (logs .entry)) sessions) ⌝ }
+) -> Kept
+    requires { ⌜ (Admitted (storeOf (now values) (now classes) (now readers) (now claimants) (now exclusives) (now logs) sessions) session) × (k < sessionAt sessions session .count) × (2 ≤ sessionAt sessions session .phase) × (sessionAt sessions session .phase ≤ 4) × (x ≡ sessionAt sessions session) ⌝ }
+    ensures { λ r. ⌜ outcome (r .answer) (storeOf (now (values .exit)) (now (classes .entry)) (now (readers .exit)) (now (claimants .exit)) (now (exclusives .exit)) (now (logs .entry)) (withSession sessions session (r .session))) ≡ carried session (advanceOn (part (now (logs .entry)) session) (sessionAt sessions session) (lockAt (locksOf (now (readers .entry)) (now (claimants .entry)) (now (exclusives .entry))) (cellAt (part (now (logs .entry)) session) 0 k)) session k) (storeOf (now (values .entry)) (now (classes .entry)) (now (readers .entry)) (now (claimants .entry)) (now (exclusives .entry)) (now (logs .entry)) sessions) ⌝ }
 {
     let i = session as usize;
     let a = 128 * i;
     let e = a + 128;
-    let x = sessions.records[i];
     let log = &logs[a..e];
     let cell = log::cell_at(log, k);
     let l = locks::at(&readers[..], &claimants[..], &exclusives[..], cell);
@@ -591,24 +624,23 @@ fn advance_at(
             cell,
             locks::claimed(l, session),
         );
-        return Reply {
+        return Kept {
             answer: Answer::Waiting,
-            sessions,
+            session: x,
         };
     }
     if let Plan::RollBack = p {
         let count = x.count as usize;
         locks::roll_back(log, count, readers, claimants, exclusives, session);
-        sessions.records[i] = x.rested();
-        return Reply {
+        let y = x.rested();
+        return Kept {
             answer: Answer::Refused(6),
-            sessions,
+            session: y,
         };
     }
     let h = decide::handle(log, values.len(), x, cell);
-    let y = h.session;
     let answer = h.answer;
-    sessions.records[i] = y;
+    let y = h.session;
     if let Plan::Own(_) = p {
         locks::put(
             readers,
@@ -617,11 +649,11 @@ fn advance_at(
             cell,
             locks::owned(l, session),
         );
-        return Reply { answer, sessions };
+        return Kept { answer, session: y };
     }
     if let Plan::Publish(_, value) = p {
         values[cell as usize] = value;
-        return Reply { answer, sessions };
+        return Kept { answer, session: y };
     }
     locks::put(
         readers,
@@ -630,12 +662,13 @@ fn advance_at(
         cell,
         locks::vacated(l, session),
     );
-    Reply { answer, sessions }
+    Kept { answer, session: y }
 }
 
-// Advance: phases 2 to 4. One written cell is promoted, published or released. 103, 104, 105, or 6.
-pub fn advance(
+// Advance, of the session whose record is x.
+fn advance_own(
     sessions: Sessions,
+    x: Session,
     values: &mut [u32],
     classes: &[u8],
     readers: &mut [u16],
@@ -643,8 +676,9 @@ pub fn advance(
     exclusives: &mut [u8],
     logs: &[u32],
     session: u8,
-) -> Reply
-    ensures { λ r. ⌜ outcome (r .answer) (storeOf (now (values .exit)) (now (classes .entry)) (now (readers .exit)) (now (claimants .exit)) (now (exclusives .exit)) (now (logs .entry)) (r .sessions)) ≡ taken (Advance session) (storeOf (now (values .entry)) (now (classes .entry)) (now (readers .entry)) (now (claimants .entry)) (now (exclusives .entry)) (now (logs .entry)) sessions) ⌝ }
+) -> Kept
+    requires { ⌜ x ≡ sessionAt sessions (session % 16) ⌝ }
+    ensures { λ r. ⌜ outcome (r .answer) (storeOf (now (values .exit)) (now (classes .entry)) (now (readers .exit)) (now (claimants .exit)) (now (exclusives .exit)) (now (logs .entry)) (withSession sessions (session % 16) (r .session))) ≡ taken (Advance session) (storeOf (now (values .entry)) (now (classes .entry)) (now (readers .entry)) (now (claimants .entry)) (now (exclusives .entry)) (now (logs .entry)) sessions) ⌝ }
 {
     let n = values.len();
     if !decide::lengths_fit(
@@ -655,29 +689,29 @@ pub fn advance(
         exclusives.len(),
         logs.len(),
     ) {
-        return Reply {
+        return Kept {
             answer: Answer::Refused(7),
-            sessions,
+            session: x,
         };
     }
     if 15 < session {
-        return Reply {
+        return Kept {
             answer: Answer::Refused(1),
-            sessions,
+            session: x,
         };
     }
     let i = session as usize;
     let a = 128 * i;
     let e = a + 128;
-    let x = sessions.records[i];
     let due = decide::due_slot(&logs[a..e], n, x);
     match due {
-        Due::Refused(number) => Reply {
+        Due::Refused(number) => Kept {
             answer: Answer::Refused(number),
-            sessions,
+            session: x,
         },
         Due::Slot(k) => advance_at(
             sessions,
+            x,
             values,
             classes,
             readers,
@@ -688,6 +722,38 @@ pub fn advance(
             k as usize,
         ),
     }
+}
+
+// Advance: phases 2 to 4. One written cell is promoted, published or released. 103, 104, 105, or 6.
+pub fn advance(
+    mut sessions: Sessions,
+    values: &mut [u32],
+    classes: &[u8],
+    readers: &mut [u16],
+    claimants: &mut [u8],
+    exclusives: &mut [u8],
+    logs: &[u32],
+    session: u8,
+) -> Reply
+    ensures { λ r. ⌜ outcome (r .answer) (storeOf (now (values .exit)) (now (classes .entry)) (now (readers .exit)) (now (claimants .exit)) (now (exclusives .exit)) (now (logs .entry)) (r .sessions)) ≡ taken (Advance session) (storeOf (now (values .entry)) (now (classes .entry)) (now (readers .entry)) (now (claimants .entry)) (now (exclusives .entry)) (now (logs .entry)) sessions) ⌝ }
+{
+    let i = (session % 16) as usize;
+    let x = sessions.records[i];
+    let kept = advance_own(
+        sessions,
+        x,
+        values,
+        classes,
+        readers,
+        claimants,
+        exclusives,
+        logs,
+        session,
+    );
+    let answer = kept.answer;
+    let y = kept.session;
+    sessions.records[i] = y;
+    Reply { answer, sessions }
 }
 
 // Abandon, of the session whose record is x.
@@ -703,7 +769,7 @@ fn abandon_own(
     session: u8,
 ) -> Kept
     requires { ⌜ x ≡ sessionAt sessions (session % 16) ⌝ }
-    ensures { λ r. ⌜ outcome (r .answer) (storeOf (now (values .entry)) (now (classes .entry)) (now (readers .exit)) (now (claimants .exit)) (now (exclusives .exit)) (now (logs .entry)) (withRecord sessions (session % 16) (r .session))) ≡ taken (Abandon session) (storeOf (now (values .entry)) (now (classes .entry)) (now (readers .entry)) (now (claimants .entry)) (now (exclusives .entry)) (now (logs .entry)) sessions) ⌝ }
+    ensures { λ r. ⌜ outcome (r .answer) (storeOf (now (values .entry)) (now (classes .entry)) (now (readers .exit)) (now (claimants .exit)) (now (exclusives .exit)) (now (logs .entry)) (withSession sessions (session % 16) (r .session))) ≡ taken (Abandon session) (storeOf (now (values .entry)) (now (classes .entry)) (now (readers .entry)) (now (claimants .entry)) (now (exclusives .entry)) (now (logs .entry)) sessions) ⌝ }
 {
     let n = values.len();
     if !decide::lengths_fit(

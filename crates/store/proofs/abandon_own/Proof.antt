@@ -54,7 +54,7 @@ roll-back-requires c κs = let i = c .before .before .before .before .before in 
 
 returns-4 : tie.Need-returns-4
 returns-4 c = let i = c .before .before .before .before .before .before .before .before .before .before .before .before .before in let z = i .before .before .before in
-    put-place (given (start z)) _ _ _ _ _ _ (z .if2 .left)
+    put-place (given (start z)) _ _ _ _ _ _ _ (z .if2 .left)
     (abandon-cancels (given (start z)) _ (fits z) _ (tested-at _ _ (mine z) _ _ (λ p. eqb p 1 || eqb p 2) (i .before .tests .ensures)) (i .if3 .left) _ _
     (rolled-at _ _ (mine z) _ _ _ _ (c .before .before .before .before .before .before .before .roll-back .ensures)) (c .rested .ensures))
 

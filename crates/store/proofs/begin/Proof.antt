@@ -1,7 +1,7 @@
 -- `store::begin` meets its contract: `begin_own` is the call, and the record that it leaves is put in its place.
 use borrow.Author.Needs.{needs}
 use mathlib.Core.Path.{refl}
-use Rattle.model.specs.Buffers.{sessionAt}
+use Rattle.model.specs.Buffers.{sessionAt, withSession}
 use Rattle.store.proofs.Own.{place-low, place-bytes}
 use Rattle.store.proofs.begin.Statement.{statement}
 use Rattle.store.proofs.begin.Tie as tie
@@ -11,6 +11,7 @@ unfolding sessionAt
 begin-own-requires c κs = refl
 
 returns : tie.Need-returns
+unfolding withSession
 returns c = c .before .begin-own .ensures
 
 pub begin-spec : {M : Type 1} → statement M

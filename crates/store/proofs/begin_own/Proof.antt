@@ -45,7 +45,7 @@ returns-3 c = let z = c .before .before .before in
 
 returns-4 : tie.Need-returns-4
 returns-4 c = let z = c .before .before .before .before in
-    put-place (given (start z)) _ _ _ _ _ _ (z .if2 .left)
+    put-place (given (start z)) _ _ _ _ _ _ _ (z .if2 .left)
     (begin-starts (given (start z)) _ (fits z) _ (tested-at _ _ (mine z) _ _ (λ p. eqb p 0) (c .before .before .tests .ensures)) (c .before .if3 .left) _ (c .begun .ensures))
 
 pub begin-own-spec : {M : Type 1} → statement M

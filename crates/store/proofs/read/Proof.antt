@@ -1,7 +1,7 @@
 -- `store::read` meets its contract: `read_own` is the call, and the record that it leaves is put in its place.
 use borrow.Author.Needs.{needs}
 use mathlib.Core.Path.{refl}
-use Rattle.model.specs.Buffers.{sessionAt}
+use Rattle.model.specs.Buffers.{sessionAt, withSession}
 use Rattle.store.proofs.Own.{place-low, place-bytes}
 use Rattle.store.proofs.read.Statement.{statement}
 use Rattle.store.proofs.read.Tie as tie
@@ -11,6 +11,7 @@ unfolding sessionAt
 read-own-requires c κs = refl
 
 returns : tie.Need-returns
+unfolding withSession
 returns c = c .before .before .before .before .before .before .before .before .before .read-own .ensures
 
 pub read-spec : {M : Type 1} → statement M

@@ -2,7 +2,7 @@
 use borrow.Author.Needs.{needs}
 use Prim.Native.Nat.{ℕ}
 use mathlib.Core.Path.{_≡_, refl}
-use Rattle.model.specs.Buffers.{Store, sessionAt}
+use Rattle.model.specs.Buffers.{Store, sessionAt, withSession}
 use Rattle.model.specs.declared.Lock.{Lock}
 use Rattle.model.specs.declared.Call.{Call}
 use Rattle.model.specs.declared.Plan.{Plan}
@@ -68,6 +68,7 @@ with-entry-requires : tie.Need-with-entry-requires
 with-entry-requires c κs = let n = c .before .before .before .before .before .before .before .before .before .before .before .before .before .before in room-at _ _ (mine (n .before .before .before .before .before)) (is-new n .room)
 
 returns-3 : tie.Need-returns-3
+unfolding withSession
 returns-3 c = let e = c .before .before .before .before .before .before .before .before .before in let n = e .before .before .before .before .before .before in
     read-entered (is-new n) _ _ _ (e .enter .ensures .0) (appended-at _ _ (mine (n .before .before .before .before .before)) _ _ _ _ (e .enter .ensures .1))
     (entered-at _ _ (mine (n .before .before .before .before .before)) _ (c .with-entry .ensures))
@@ -79,6 +80,7 @@ roll-back-requires : tie.Need-roll-back-requires
 roll-back-requires c κs = let m = c .before .before .before .before .before in let w = is-left m in can-roll-back _ _ (w .decided .sized) _ (entries-at _ _ (mine (m .before .before .before .before)) _ _ (w .entries))
 
 returns-4 : tie.Need-returns-4
+unfolding withSession
 returns-4 c = let r = c .before .before .before .before .before .before .before in let m = r .before .before .before .before .before .before in rolled (is-left m) _ _ (rolled-at _ _ (mine (m .before .before .before .before)) _ _ _ _ (r .roll-back .ensures)) (c .rested .ensures)
 
 pub read-as-spec : {M : Type 1} → statement M

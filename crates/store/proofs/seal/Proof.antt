@@ -1,69 +1,22 @@
--- `store::seal` meets its contract: refusals 7 and 1 are the model's, and past them each plan is one law of proofs/Seals.antt.
+-- `store::seal` meets its contract: `seal_own` is the call, and the record that it leaves is put in its place.
 use borrow.Author.Needs.{needs}
-use borrow.Author.Tests.{not-true, not-false}
-use Rattle.model.specs.Buffers.{Store}
-use Rattle.store.specs.Lent.{storeOf, Sized}
-use Rattle.store.proofs.Refusals.{refused-7, refused-1, sized}
-use Rattle.store.proofs.Parts.{part-fits, can-decide, part-start, part-stop, part-bytes, record-bytes, part-some}
-use Rattle.store.proofs.Seals.{seal-refused, can-drop, seal-commits, seal-promotes}
+use mathlib.Core.Path.{refl}
+use Rattle.model.specs.Buffers.{sessionAt, withSession}
+use Rattle.store.proofs.Own.{place-low, place-bytes}
 use Rattle.store.proofs.seal.Statement.{statement}
 use Rattle.store.proofs.seal.Tie as tie
 
--- the store at the entry, and what is known past refusals 7 and 1
-abbrev given : tie.Start → Store
-given c =
-    storeOf (c .args .values .now) (c .args .classes .now) (c .args .readers .now) (c .args .claimants .now) (c .args .exclusives .now) (c .args .logs .now) (c .args .t1)
-
-abbrev start : tie.Else2 → tie.Start
-start c = c .before .before .before .before .before .before .before .before .before
-
-fits : (c : tie.Else2) → Sized (given (start c)) (start c .args .session)
-fits c = sized (given (start c)) _ (c .before .before .lengths-fit .ensures) _ (not-false _ (c .before .if1 .left)) (c .if2 .left)
+seal-own-requires : tie.Need-seal-own-requires
+unfolding sessionAt
+seal-own-requires c κs = refl
 
 returns : tie.Need-returns
-returns c = refused-7 _ _ (c .before .lengths-fit .ensures) _ (not-true _ (c .if1 .taken))
-
-returns-2 : tie.Need-returns-2
-returns-2 c = refused-1 _ _ (c .before .before .lengths-fit .ensures) _ (not-false _ (c .before .if1 .left)) (c .if2 .taken)
-
-part-seal-end : tie.Need-part-seal-end
-part-seal-end c = part-fits _ _ (fits (c .before))
-
-seal-requires : tie.Need-seal-requires
-seal-requires c κs = can-decide _ _ (fits (c .before .before))
-
-returns-3 : tie.Need-returns-3
-returns-3 c = seal-refused _ _ (fits (c .before .before .before .before .before .before)) _ (c .before .before .before .seal .ensures) _ (c .before .p .given .1)
-
-part-drop-reads-end : tie.Need-part-drop-reads-end
-part-drop-reads-end c = part-fits _ _ (fits (c .before .before .before .before .before))
-
-drop-reads-requires : tie.Need-drop-reads-requires
-drop-reads-requires c κs = let t = c .before .before .before in can-drop _ _ (fits (t .before .before .before .before)) _ (t .before .seal .ensures) (t .match .keys2)
-
-returns-4 : tie.Need-returns-4
-returns-4 c =
-    let d = c .before .before .before .before .before in
-    let t = d .before .before .before .before in
-    seal-commits _ _ (fits (t .before .before .before .before)) _ (t .before .seal .ensures) (t .match .keys2) _ (d .drop-reads .ensures) _ (c .before .enum-told .given .1) (c .rested .ensures)
-
-returns-5 : tie.Need-returns-5
-returns-5 c =
-    let d = c .before .before .before .before in
-    let t = d .before .before .before .before in
-    seal-promotes _ _ (fits (t .before .before .before .before)) _ (t .before .seal .ensures) (t .match .keys2) _ (d .drop-reads .ensures) _ (c .before .match2 .keys2) (c .sealed .ensures)
+unfolding withSession
+returns c = c .before .before .before .seal-own .ensures
 
 pub seal-spec : {M : Type 1} → statement M
 seal-spec =
     tie.close
     (tie.spec
-    (λ c κs. tt) returns returns-2 (λ c. part-start _ _ (fits c)) (λ c. part-stop _ _ (fits c)) (λ c. record-bytes _ _ (fits c))
-    (λ c. (fits c) .session) (λ c. part-bytes _ _ (fits (c .before))) (λ c. part-some _) (λ c. part-some _) part-seal-end seal-requires
-    (λ c. c .match .keys1) returns-3 (λ c. search needs) (λ c. part-bytes _ _ (fits (c .before .before .before .before .before)))
-    (λ c. part-some _) (λ c. part-some _) part-drop-reads-end drop-reads-requires (λ c. c .match2 .keys1) (λ c κs. tt)
-    (λ c. record-bytes _ _ (fits (c .before .before .before .before .before .before .before .before .before .before .before .before .before)))
-    (λ c. (fits (c .before .before .before .before .before .before .before .before .before .before .before .before .before)) .session)
-    (λ c. c .before .before .before .before .before .drop-reads .kept .1 .1 .0) returns-4 (λ c κs. tt)
-    (λ c. record-bytes _ _ (fits (c .before .before .before .before .before .before .before .before .before .before .before .before)))
-    (λ c. (fits (c .before .before .before .before .before .before .before .before .before .before .before .before)) .session)
-    (λ c. c .before .before .before .before .drop-reads .kept .1 .1 .0) returns-5)
+    (λ c. search needs) (λ c. place-bytes _) (λ c. place-low _) seal-own-requires (λ c. place-bytes _) (λ c. place-low _)
+    (λ c. c .before .before .before .seal-own .kept .1 .1 .1 .1 .0) returns)

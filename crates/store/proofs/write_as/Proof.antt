@@ -2,7 +2,7 @@
 use borrow.Author.Needs.{needs}
 use Prim.Native.Nat.{ℕ}
 use mathlib.Core.Path.{_≡_, refl}
-use Rattle.model.specs.Buffers.{Store, sessionAt}
+use Rattle.model.specs.Buffers.{Store, sessionAt, withSession}
 use Rattle.model.specs.declared.Lock.{Lock}
 use Rattle.model.specs.declared.Call.{Call}
 use Rattle.model.specs.declared.Plan.{Plan}
@@ -84,6 +84,7 @@ same-length-12 c = let e = c .before .before .before .before .before .before .be
     logs-still (is-new n) _ (appended-at _ _ (mine (n .before .before .before .before .before)) _ _ _ _ (e .enter .ensures .1)) _ _ (n .p3 .given .1) _ (updated-at _ _ (mine (n .before .before .before .before .before)) _ _ _ (c .before .before .before .update2 .ensures))
 
 returns-3 : tie.Need-returns-3
+unfolding withSession
 returns-3 c = let e = c .before .before .before .before .before .before .before .before .before .before .before .before .before in let n = e .before .before .before .before .before .before .before in
     write-entered (is-new n) _ (appended-at _ _ (mine (n .before .before .before .before .before)) _ _ _ _ (e .enter .ensures .1)) _ _ (n .p3 .given .1) _ (updated-at _ _ (mine (n .before .before .before .before .before)) _ _ _ (c .before .before .before .update2 .ensures)) _ _ (e .enter .ensures .0)
     (entered-at _ _ (mine (n .before .before .before .before .before)) _ (c .with-entry .ensures))
@@ -95,6 +96,7 @@ roll-back-requires : tie.Need-roll-back-requires
 roll-back-requires c κs = let m = c .before .before .before .before .before in let w = is-left m in can-roll-back _ _ (w .decided .sized) _ (entries-at _ _ (mine (m .before .before .before .before)) _ _ (w .entries))
 
 returns-4 : tie.Need-returns-4
+unfolding withSession
 returns-4 c = let r = c .before .before .before .before .before .before .before in let m = r .before .before .before .before .before .before in rolled (is-left m) _ _ (rolled-at _ _ (mine (m .before .before .before .before)) _ _ _ _ (r .roll-back .ensures)) (c .rested .ensures)
 
 pub write-as-spec : {M : Type 1} → statement M

@@ -1,6 +1,6 @@
 -- `store::write_own` meets its contract: refusals 7 and 1 are the model's and leave the record, and past them `write_as` is the call.
 use borrow.Author.Tests.{not-true, not-false}
-use Rattle.model.specs.Buffers.{Store}
+use Rattle.model.specs.Buffers.{Store, withSession}
 use Rattle.store.specs.Lent.{storeOf}
 use Rattle.store.proofs.Refusals.{refused-7, refused-1, sized}
 use Rattle.store.proofs.Own.{unchanged, own-place, put-place}
@@ -23,7 +23,8 @@ write-as-requires c κs = let z = c .before .before .before .before .before .bef
     (sized (given z) _ (c .before .before .before .before .before .before .lengths-fit .ensures) _ (not-false _ (c .before .before .before .before .before .if1 .left)) l, own-place _ _ _ l (z .pre))
 
 returns-3 : tie.Need-returns-3
-returns-3 c = put-place (given (c .before .before .before .before .before .before .before .before .before .before .before .before .before .before .before .before .before .before .before .before .before .before)) _ _ _ _ _ _ (c .before .before .before .before .before .before .before .before .before .before .before .before .before .if2 .left) (c .before .before .before .before .before .before .before .before .write-as .ensures)
+unfolding withSession
+returns-3 c = put-place (given (c .before .before .before .before .before .before .before .before .before .before .before .before .before .before .before .before .before .before .before .before .before .before)) _ _ _ _ _ _ _ (c .before .before .before .before .before .before .before .before .before .before .before .before .before .if2 .left) (c .before .before .before .before .before .before .before .before .write-as .ensures)
 
 pub write-own-spec : {M : Type 1} → statement M
 write-own-spec =
