@@ -1,12 +1,14 @@
 -- Demand 3: the theorem. What it claims is `Demand3` of specs/Isolation.antt.
 use native.Mathlib.Omega.{arith}
-use mathlib.Core.Path.{_≡_, sym, subst}
+use mathlib.Core.Path.{_≡_, refl, sym, ap, subst, _∙_}
 use mathlib.Core.Bool.{true}
 use mathlib.Core.List.{List, reverse}
 use Rattle.model.specs.declared.Call.{Call}
+use Rattle.model.specs.declared.Answer.{Answer}
 use Rattle.model.specs.Buffers.{Buffers, Store, allFit, lengthsFit, fresh}
-use Rattle.model.specs.Isolation.{Demand3}
-use Rattle.model.specs.Step.{number, setUpAnswer, setUp}
+use Rattle.model.specs.History.{Event, run, history}
+use Rattle.model.specs.Isolation.{Demand3, Ran, none, then, Demand3OfCode}
+use Rattle.model.specs.Step.{Outcome, outcome, number, taken, setUpTaken, step, setUpAnswer, setUp}
 use Rattle.model.proofs.Invariant.{Inv}
 use Rattle.model.proofs.Ledger.{blank}
 use Rattle.model.proofs.Runs.{inv-fresh}
@@ -32,3 +34,26 @@ set-up-fresh σ h = let p = set-up-passed (σ .lent) h in rw (p .0, p .1)
 -- demand 3: any store that set-up answers 100, and any list of calls from what it leaves
 pub demand3 : (σ : Store) → number (setUpAnswer (σ .lent)) ≡ 100 → (calls : List Call) → Demand3 (setUp σ) calls
 demand3 σ h calls = subst (λ (φ : Store). Demand3 φ calls) (sym (set-up-fresh σ h)) (demand3-from (fresh (σ .lent)) (inv-fresh (σ .lent)) calls)
+
+-- ---- code
+
+-- what code that keeps its contract answered and left is the model's
+pub ran-is : (σ : Store) {ks : List Call} {h : List Event} {τ : Store} → Ran σ ks h τ → (h ≡ history σ ks) × (τ ≡ run σ ks)
+unfolding history run taken
+ran-is σ none = (refl, refl)
+ran-is σ (then r k a y e) =
+    let i = ran-is σ r in
+    let f = ap (λ (o : Outcome). o .answer) e in
+    let g = ap (λ (o : Outcome). o .store) e in
+    (rw (f, i .0, i .1), g ∙ ap (step k) (i .1))
+
+-- demand 3 of code: a set-up that kept its contract and answered 100 left σ, and the calls kept theirs
+pub demand3-of-code : (φ σ : Store) (a : Answer) → outcome a σ ≡ setUpTaken φ → number a ≡ 100
+    → (calls : List Call) (h : List Event) (τ : Store) → Ran σ (reverse calls) h τ → Demand3OfCode σ calls h τ
+unfolding setUpTaken
+demand3-of-code φ σ a e n calls h τ r =
+    let f = ap (λ (o : Outcome). o .answer) e in
+    let g : σ ≡ setUp φ = ap (λ (o : Outcome). o .store) e in
+    let d = subst (λ (σ : Store). Demand3 σ calls) (sym g) (demand3 φ (ap number (sym f) ∙ n) calls) in
+    let i = ran-is σ r in
+    record { events = i .0; left = i .1; isolated = rw (i .0) (d .isolated); locks = d .locks }

@@ -1,4 +1,4 @@
--- The writer locks of committed transactions: with its commit call, and not before, a transaction holds all the cells it wrote.
+-- The writer locks: with its commit call, and not before, a transaction holds all the cells it wrote; one that is not committed does not.
 use Prim.Native.Nat.{ℕ, zero, suc, _≤_, _<_}
 use native.Mathlib.Omega.{arith}
 use mathlib.Core.Path.{_≡_, refl, sym, _∙_, ap, subst}
@@ -10,7 +10,7 @@ use lib.ListN.{length, List·getD-eq-default}
 use borrow.Author.Tests.{ltb-true, ltb-false, le-leb, lt-leb}
 use Rattle.model.specs.declared.Call.{Call}
 use Rattle.model.specs.Buffers.{Locks, Store, lockAt}
-use Rattle.model.specs.History.{Event, run, history, transaction, wrote}
+use Rattle.model.specs.History.{Event, run, history, Placed, transaction, isOpen, ownerOf, wrote}
 use Rattle.model.specs.Isolation.{All, at, Commits, commitOf, Isolated, Holds, firsts, HoldsAtCommit}
 use Rattle.model.specs.Step.{recordOf, sessionOf, reply}
 use Rattle.model.proofs.Advancing.{late, role-late}
@@ -246,6 +246,10 @@ module _ (φ : Store) (I₀ : Inv (φ .lent .values) φ blank) where
   wrote-of : (ks : List Call) (p c : ℕ) → tx ks p .wrote c ≡ wrote (transaction p (history φ ks)) c
   wrote-of ks p c = ap (λ (f : ℕ → Bool). f c) (words ks p .wrote)
 
+  who-open : (t : List Placed) {u : Txn} → Agrees (length (φ .lent .values)) t u → isOpen t ≡ true → u .who ≡ ownerOf t
+  who-open [] A o = absurd (clash false o refl)
+  who-open (x ∷ r) A o = A .who x r refl
+
   pub writing : (ks : List Call) → HoldsAtCommit φ ks
   writing ks =
       let M = match-run φ I₀ ks in
@@ -266,6 +270,13 @@ module _ (φ : Store) (I₀ : Inv (φ .lent .values) φ blank) where
             unheld (inv-run φ I₀ (firsts m ks)) s (ap (λ (t : Txn). t .live) (sym u) ∙ o .live) (ap (λ (t : Txn). t .done) (sym u) ∙ o .not-done)
             (wrote (transaction p (history φ ks))) (λ c h. sym (wrote-of ks p c) ∙ o .wrote c (ap (λ (t : Txn). t .wrote c) u ∙ h)) c w
             (λ c h. rw (o .who, who-is (words ks p) d) (al c h));
+        notUncommitted = λ p o d c w al.
+            let live : tx ks p .live ≡ true = words ks p .live ∙ o in
+            let u = M .open′ p live in
+            unheld (inv-run φ I₀ ks) (tx ks p .who) (ap (λ (t : Txn). t .live) (sym u) ∙ live)
+            (ap (λ (t : Txn). t .done) (sym u) ∙ (done-is (words ks p) ∙ d))
+            (wrote (transaction p (history φ ks))) (λ c h. sym (wrote-of ks p c) ∙ (ap (λ (t : Txn). t .wrote c) u ∙ h)) c w
+            (λ c h. rw (who-open (transaction p (history φ ks)) (words ks p) o) (al c h));
       }
 
   pub isolation : (ks : List Call) → Isolated (φ .lent .values) (history φ ks)

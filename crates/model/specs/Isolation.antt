@@ -1,14 +1,16 @@
--- Demand 3, the claim: what must hold of the transactions that a list of calls and answers tells, and of the writer locks.
+-- Demand 3, the claim: what must hold of the transactions that a list of calls and answers tells, and of the writer locks; and the same of code.
 use Prim.Native.Nat.{ℕ, suc, _≤_, _<_}
 use mathlib.Core.Path.{_≡_}
 use mathlib.Core.Logic.{_⊎_}
-use mathlib.Core.Bool.{Bool, true, cond}
+use mathlib.Core.Bool.{Bool, true, false, cond}
 use mathlib.Core.List.{List, [], _∷_, reverse}
 use lib.Dec.{leb, eqb}
 use lib.ListN.{length}
 use Rattle.model.specs.declared.Call.{Call}
+use Rattle.model.specs.declared.Answer.{Answer}
 use Rattle.model.specs.Buffers.{Store, lockAt}
-use Rattle.model.specs.History.{Event, run, history, Placed, transaction, ownerOf, wrote, valueWritten, cellsWritten, ReadOf, readsBeforeWriting, seals, snapshot, moves, commit, committed, startingValue}
+use Rattle.model.specs.History.{Event, run, history, Placed, transaction, isOpen, ownerOf, wrote, valueWritten, cellsWritten, ReadOf, readsBeforeWriting, seals, snapshot, moves, commit, committed, startingValue}
+use Rattle.model.specs.Step.{outcome, taken}
 
 abbrev pub All {ℓ} : {A : Type ℓ} → (A → Type 0) → List A → Type 0
 All P [] = Unit
@@ -70,18 +72,42 @@ unfoldable pub firsts : ℕ → List Call → List Call
 firsts m [] = []
 firsts m (k ∷ ks) = cond (leb (suc (length ks)) m) (k ∷ ks) (firsts m ks)
 
--- with its commit call, and with none from its begin on before, a committed transaction holds all its writer locks
+-- a transaction, by its calls, holds the writer lock of each cell that it wrote
+abbrev pub HoldsAll : Store → List Placed → Type 0
+HoldsAll σ t = (c : ℕ) → wrote t c ≡ true → Holds σ (ownerOf t) c
+
+-- of a list of calls, the newest first, from the store σ
 pub record HoldsAtCommit (σ : Store) (ks : List Call) : Type 0 where
-  pub withThis : (p : ℕ) → Commits (σ .lent .values) (history σ ks) p → (c : ℕ) → wrote (at (σ .lent .values) (history σ ks) p) c ≡ true
-      → Holds (run σ (firsts (commitOf (σ .lent .values) (history σ ks) p) ks)) (ownerOf (at (σ .lent .values) (history σ ks) p)) c
+  -- with its commit call a committed transaction holds all its writer locks
+  pub withThis : (p : ℕ) → Commits (σ .lent .values) (history σ ks) p
+      → HoldsAll (run σ (firsts (commitOf (σ .lent .values) (history σ ks) p) ks)) (transaction p (history σ ks))
+  -- and with no call from its begin on before, where it wrote a cell
   pub notBefore : (p m : ℕ) → Commits (σ .lent .values) (history σ ks) p → p ≤ m → m < commitOf (σ .lent .values) (history σ ks) p
-      → (c : ℕ) → wrote (at (σ .lent .values) (history σ ks) p) c ≡ true
-      → ((d : ℕ) → wrote (at (σ .lent .values) (history σ ks) p) d ≡ true
-      → Holds (run σ (firsts m ks)) (ownerOf (at (σ .lent .values) (history σ ks) p)) d) → ⊥
+      → (c : ℕ) → wrote (transaction p (history σ ks)) c ≡ true → HoldsAll (run σ (firsts m ks)) (transaction p (history σ ks)) → ⊥
+  -- a transaction that is open, wrote a cell and is not committed does not hold them all in the store that the list leaves
+  pub notUncommitted : (p : ℕ) → isOpen (transaction p (history σ ks)) ≡ true
+      → committed (length (σ .lent .values)) (transaction p (history σ ks)) ≡ false
+      → (c : ℕ) → wrote (transaction p (history σ ks)) c ≡ true → HoldsAll (run σ ks) (transaction p (history σ ks)) → ⊥
 
 -- ---- demand 3
 
 -- of a list of calls, in the order of the calls, from a store
 pub record Demand3 (σ : Store) (calls : List Call) : Type 0 where
   pub isolated : Isolated (σ .lent .values) (history σ (reverse calls))
+  pub locks : HoldsAtCommit σ (reverse calls)
+
+-- ---- demand 3 of code
+
+-- calls made one after the other by code that keeps its contract, the newest first: each was answered, and left, what `taken` says of what the
+-- call before left
+pub data Ran (σ : Store) : List Call → List Event → Store → Type 0 where
+  none : Ran σ [] [] σ
+  then : {ks : List Call} {h : List Event} {x : Store} → Ran σ ks h x → (k : Call) (a : Answer) (y : Store) → outcome a y ≡ taken k x
+      → Ran σ (k ∷ ks) (record { call = k; answer = a } ∷ h) y
+
+-- what code answered, and the store that it left, of a list of calls in their order: those of the model, and demand 3 holds of them
+pub record Demand3OfCode (σ : Store) (calls : List Call) (h : List Event) (τ : Store) : Type 0 where
+  pub events : h ≡ history σ (reverse calls)
+  pub left : τ ≡ run σ (reverse calls)
+  pub isolated : Isolated (σ .lent .values) h
   pub locks : HoldsAtCommit σ (reverse calls)
