@@ -1,7 +1,12 @@
 -- What a call tells a caller in C: document 01's number and value, and the store that it leaves.
 use Prim.Native.Nat.{ℕ}
+use mathlib.Core.Path.{_≡_}
+use mathlib.Core.List.{List, [], _∷_, map}
 use Rattle.model.specs.Buffers.{Store}
-use Rattle.model.specs.Step.{Outcome, number, valueOf, Part, storeWord, logWord, noWord}
+use Rattle.model.specs.History.{Event}
+use Rattle.model.specs.Isolation.{Demand3OfCode}
+use Rattle.model.specs.Step.{Outcome, number, valueOf, taken, Part, storeWord, logWord, noWord}
+use Rattle.model.specs.declared.Call.{Call}
 
 pub record Said : Type 0 where
   pub number : ℕ
@@ -26,3 +31,27 @@ abbrev pub placeOf : Part → ℕ → Place
 placeOf (storeWord i) j = at 1 i
 placeOf (logWord i) j = at 2 i
 placeOf noWord j = at 0 j
+
+-- ---- lists of calls for C
+
+-- a call with the two numbers that it told
+pub record Heard : Type 0 where
+  pub call : Call
+  pub number : ℕ
+  pub value : ℕ
+
+-- what a caller in C hears of an event
+abbrev pub heard : Event → Heard
+heard e = record { call = e .call; number = number (e .answer); value = valueOf (e .answer) }
+
+-- calls for C made one after the other, the newest first: each kept its contract on what the call before left
+pub data Called (σ : Store) : List Call → List Heard → Store → Type 0 where
+  none : Called σ [] [] σ
+  then : {ks : List Call} {h : List Heard} {x : Store} → Called σ ks h x → (k : Call) (n v : ℕ) (y : Store) → said n v y ≡ inNumbers (taken k x)
+      → Called σ (k ∷ ks) (record { call = k; number = n; value = v } ∷ h) y
+
+-- what C was told of a list of calls in their order is what it hears of events of which demand 3 holds
+pub record Demand3InNumbers (σ : Store) (calls : List Call) (h : List Heard) (τ : Store) : Type 0 where
+  pub events : List Event
+  pub told : h ≡ map heard events
+  pub meets : Demand3OfCode σ calls events τ

@@ -1,20 +1,18 @@
 -- The two forms agree: taking the records apart into three lists, calling, and putting the lists together is calling on the records.
--- So the contract of a call on the run fixes every lock, and demand 3 speaks of the run too.
-use mathlib.Core.Path.{_≡_, refl, sym, ap, subst, _∙_}
-use mathlib.Core.List.{List, [], _∷_, reverse}
+-- So the contract of a call on the run fixes every lock. Lists of calls on the run are lists of calls that keep the model's contract: `demand3-of-code`
+-- of model speaks of them as it stands.
+use mathlib.Core.Path.{_≡_, refl, sym, ap, _∙_}
+use mathlib.Core.List.{List, [], _∷_}
 use Prim.Native.Nat.{ℕ}
-use Rattle.model.specs.Buffers.{Locks, Store}
-use Rattle.model.specs.History.{Event, run, history}
-use Rattle.model.specs.Isolation.{Demand3, Isolated, HoldsAtCommit}
-use Rattle.model.specs.Step.{Outcome, outcome, number, taken, setUpTaken, step, setUp, planOf}
+use Rattle.model.specs.Buffers.{Locks}
+use Rattle.model.specs.Step.{Outcome, outcome, taken, setUpTaken, planOf}
 use Rattle.model.specs.declared.Lock.{Lock}
 use Rattle.model.specs.declared.Sessions.{Sessions}
 use Rattle.model.specs.declared.Call.{Call}
 use Rattle.model.specs.declared.Answer.{Answer}
-use Rattle.model.proofs.Demand3.{demand3}
 use Rattle.store.specs.Lent.{storeOf}
 use Rattle.lockrun.specs.Run.{apart, storeOn}
-use Rattle.lockrun.specs.Forms.{together, Left, Kept, whole, Ran, none, then}
+use Rattle.lockrun.specs.Forms.{together, Left}
 
 -- ---- apart and together
 
@@ -61,26 +59,3 @@ set-ups-agree vs cs L W ss x y e f = agrees cs x y (f ∙ sym e)
 pub plans-agree : (k : Call) (vs cs : List ℕ) (L : List Lock) (W : List ℕ) (ss : Sessions)
     → planOf k (storeOn vs cs L W ss) ≡ planOf k (storeOf vs cs (apart L .readers) (apart L .claimants) (apart L .exclusives) W ss)
 plans-agree k vs cs L W ss = refl
-
--- ---- a list of calls on the run
-
--- its events and what it leaves are the model's
-pub ran-is : (x : Kept) {ks : List Call} {h : List Event} {y : Kept} → Ran x ks h y → (h ≡ history (whole x) ks) × (whole y ≡ run (whole x) ks)
-unfolding history run taken
-ran-is x none = (refl, refl)
-ran-is x (then r k a y e) =
-    let i = ran-is x r in
-    let f = ap (λ (o : Outcome). o .answer) e in
-    let g = ap (λ (o : Outcome). o .store) e in
-    (rw (f, i .0, i .1), g ∙ ap (step k) (i .1))
-
--- demand 3, of calls on the run after a set-up on the run that was answered 100
-pub demand3-on-run : (x y : Kept) (a : Answer) → outcome a (whole y) ≡ setUpTaken (whole x) → number a ≡ 100
-    → (calls : List Call) (h : List Event) (z : Kept) → Ran y (reverse calls) h z
-    → Isolated (y .values) h × HoldsAtCommit (whole y) (reverse calls)
-unfolding setUpTaken
-demand3-on-run x y a e n calls h z r =
-    let f = ap (λ (o : Outcome). o .answer) e in
-    let g : whole y ≡ setUp (whole x) = ap (λ (o : Outcome). o .store) e in
-    let d = subst (λ (σ : Store). Demand3 σ calls) (sym g) (demand3 (whole x) (ap number (sym f) ∙ n) calls) in
-    (rw (ran-is y r .0) (d .isolated), d .locks)
