@@ -3,19 +3,16 @@ use Prim.Native.Nat.{ℕ, zero, suc, _<_}
 use native.Mathlib.Omega.{arith}
 use mathlib.Core.Path.{_≡_, refl}
 use mathlib.Core.Logic.{_⊎_, inl, inr}
-use mathlib.Core.Bool.{Bool, true, not, _&&_}
+use mathlib.Core.Bool.{Bool, true, false, not, _&&_}
 use mathlib.Core.List.{List, [], _∷_, reverse}
 use lib.Dec.{leb, eqb}
-use lib.Count.{ones, onesIn}
 use borrow.Author.Tests.{le-leb}
-use Rattle.model.specs.Buffers.{size, sessionAt, withSession, word, cellAt, entryAt, slotIn, entryOf, lookIn, publishes, publishesIn, targetIn, appended, updated, lockAt, setLock, lockOn, sweep, join, leave, vacate, withdraw, claim, own, caps, cap, fits, allFit, lengthsFit, fresh}
+use Rattle.model.specs.Computing.{computing, counting}
 use Rattle.model.specs.Histories.{lostUpdate, dirtyRead, brokenSnapshot}
-use Rattle.model.specs.History.{Event, run, history, opening, continued, transaction, wrote, valueWritten, readsBeforeWriting, snapshot, movesIn, moveNumber, commit, committed}
+use Rattle.model.specs.History.{Event, history, transaction, isOpen, wrote, valueWritten, snapshot, commit, committed}
 use Rattle.model.specs.Isolation.{Last, lastCommit, noCommit, Isolated}
-use Rattle.model.specs.Orders.{given, skew}
-use Rattle.model.specs.Readers.{odd, assign, otherReaders}
-use Rattle.model.specs.Search.{orElse, find, lower, lowest, below, tally}
-use Rattle.model.specs.Step.{rolledBack, readsDropped, handled, after, releasing, answer, recordFits, guard, known, claimed, newCell, readPlan, writeSlot, writePlan, sealPlan, promotePlan, advancePlan, peekPlan, plan, planOf, step, reply, setUpAnswer, setUp}
+use Rattle.model.specs.Orders.{given, skew, skewUnsealed}
+use Rattle.model.specs.Step.{setUp}
 use Rattle.model.proofs.Demand3.{demand3}
 use Rattle.model.proofs.Tools.{same, clash, both-l, both-r}
 
@@ -34,7 +31,7 @@ passes f (suc n) a p l = same p n (λ e. rw e (both-l (f n) (allBelow f n) a)) (
 
 -- two writers of cell 0 whose spans meet
 pub lost-update-refused : Isolated (3 ∷ 5 ∷ []) lostUpdate → ⊥
-unfolding lostUpdate opening continued transaction wrote valueWritten readsBeforeWriting snapshot movesIn moveNumber commit committed tally
+unfolding lostUpdate counting
 lost-update-refused i = go (i .apart 1 2 0 (λ e. omega arith) refl refl refl refl)
   where
     go : (9 < 8) ⊎ (10 < 7) → ⊥
@@ -43,7 +40,7 @@ lost-update-refused i = go (i .apart 1 2 0 (λ e. omega arith) refl refl refl re
 
 -- 4 is nobody's commit and not the starting value
 pub dirty-read-refused : Isolated (3 ∷ 5 ∷ []) dirtyRead → ⊥
-unfolding dirtyRead allBelow opening continued transaction wrote valueWritten readsBeforeWriting snapshot movesIn moveNumber commit committed tally
+unfolding dirtyRead allBelow counting
 dirty-read-refused i = go (i .reads 3 refl .0)
   where
     free : ℕ → Bool
@@ -57,7 +54,7 @@ dirty-read-refused i = go (i .reads 3 refl .0)
 
 -- of two commits to cell 0 the reader got the older
 pub broken-snapshot-refused : Isolated (3 ∷ 5 ∷ []) brokenSnapshot → ⊥
-unfolding brokenSnapshot allBelow opening continued transaction wrote valueWritten readsBeforeWriting snapshot movesIn moveNumber commit committed tally
+unfolding brokenSnapshot allBelow counting
 broken-snapshot-refused i = go (i .reads 13 refl .1 .0)
   where
     older : ℕ → Bool
@@ -78,10 +75,20 @@ skewed = history (setUp (given skew)) (reverse (skew .calls))
 -- both transactions commit, with spans that meet
 pub skew-commits : (committed 2 (transaction 1 skewed) ≡ true) × (committed 2 (transaction 2 skewed) ≡ true)
     × (snapshot (transaction 1 skewed) ≡ 9) × (commit 2 (transaction 1 skewed) ≡ 11) × (snapshot (transaction 2 skewed) ≡ 10) × (commit 2 (transaction 2 skewed) ≡ 14)
-unfolding skew given history run opening continued transaction wrote valueWritten readsBeforeWriting snapshot movesIn moveNumber commit committed tally orElse find lower lowest below odd assign otherReaders size sessionAt withSession word cellAt entryAt slotIn entryOf lookIn publishes publishesIn targetIn appended updated lockAt setLock lockOn sweep join leave vacate withdraw claim own caps cap fits allFit lengthsFit fresh rolledBack readsDropped handled after releasing answer recordFits guard known claimed newCell readPlan writeSlot writePlan sealPlan promotePlan advancePlan peekPlan plan planOf step reply setUpAnswer setUp ones onesIn
+unfolding skew given counting computing
 skew-commits = (refl, refl, refl, refl, refl, refl)
 
 -- and the claim holds of them
 pub skew-accepted : Isolated (3 ∷ 5 ∷ []) skewed
-unfolding skew given orElse find lower lowest below odd assign otherReaders size sessionAt withSession word cellAt entryAt slotIn entryOf lookIn publishes publishesIn targetIn appended updated lockAt setLock lockOn sweep join leave vacate withdraw claim own caps cap fits allFit lengthsFit fresh rolledBack readsDropped handled after releasing answer recordFits guard known claimed newCell readPlan writeSlot writePlan sealPlan promotePlan advancePlan peekPlan plan planOf step reply setUpAnswer setUp ones onesIn
+unfolding skew given computing
 skew-accepted = demand3 (given skew) refl (skew .calls) .isolated
+
+-- ---- a transaction that waits
+
+abbrev pub waited : List Event
+waited = history (setUp (given skewUnsealed)) (reverse (skewUnsealed .calls))
+
+-- it is open, has written cell 0 and is not committed: the claim says that it does not hold all its writer locks
+pub waiting-uncommitted : (isOpen (transaction 1 waited) ≡ true) × (committed 2 (transaction 1 waited) ≡ false) × (wrote (transaction 1 waited) 0 ≡ true)
+unfolding skewUnsealed given computing counting
+waiting-uncommitted = (refl, refl, refl)

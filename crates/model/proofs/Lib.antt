@@ -19,8 +19,8 @@ pub mod Commits
 pub mod Writers
 pub mod Demand3
 pub mod Orders
+pub mod Cases
 pub mod Histories
-pub mod OddBuffers
 pub mod Caps
 pub mod SerialLedger
 pub mod SerialLocks

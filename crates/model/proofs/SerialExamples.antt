@@ -5,7 +5,6 @@ use native.Mathlib.Omega.{arith}
 use mathlib.Core.Path.{_≡_, refl, _∙_, ap}
 use mathlib.Core.Bool.{Bool, true, false, cond, _&&_}
 use mathlib.Core.List.{List, [], _∷_, map, reverse}
-use lib.Count.{ones, onesIn}
 use lib.Dec.{ltb, eqb}
 use lib.ListN.{length, replicate}
 use borrow.Author.Tests.{eqb-true, eq-eqb, ne-eqb, ltb-true, ltb-false}
@@ -13,12 +12,12 @@ use Rattle.model.specs.declared.Call.{Call}
 use Rattle.model.specs.declared.Call.the-variants.{Begin, Read, Write, Seal, Advance}
 use Rattle.model.specs.declared.Answer.{Answer}
 use Rattle.model.specs.declared.Answer.the-variants.{Done, Value, Sealed, Moved, Waiting, Committed, Refused}
-use Rattle.model.specs.Buffers.{Store, size, idle, sessionAt, withSession, word, cellAt, entryAt, slotIn, entryOf, lookIn, publishes, publishesIn, targetIn, appended, updated, lockAt, setLock, lockOn, sweep, join, leave, vacate, withdraw, claim, own, caps, cap, fits, allFit, lengthsFit, fresh}
+use Rattle.model.specs.Buffers.{Store, idle}
 use Rattle.model.specs.Companions.{serialStep, serial, NoneOpen, OneAtATime, SeriallyEqual}
+use Rattle.model.specs.Computing.{computing, counting}
 use Rattle.model.specs.History.{Event, run, history, is, opening, continued, transaction, isOpen}
-use Rattle.model.specs.Readers.{odd, member, assign, otherReaders}
-use Rattle.model.specs.Search.{orElse, find, lower, lowest, below, tally}
-use Rattle.model.specs.Step.{number, rolledBack, readsDropped, handled, after, releasing, answer, recordFits, guard, known, claimed, newCell, readPlan, writeSlot, writePlan, sealPlan, promotePlan, advancePlan, plan, planOf, step, reply, setUpAnswer, setUp}
+use Rattle.model.specs.Search.{tally}
+use Rattle.model.specs.Step.{number, setUpAnswer, setUp}
 use Rattle.model.proofs.Laws.{tally-flat, tally-more}
 use Rattle.model.proofs.Roles.{flip}
 use Rattle.model.proofs.Serial.{serially-equal}
@@ -104,7 +103,7 @@ record Computed : Type 0 where
   other-answers : answers atOnce ≡ Done ∷ Done ∷ Value 3 ∷ Value 3 ∷ Done ∷ Done ∷ Sealed ∷ Sealed ∷ Waiting ∷ Refused 6 ∷ Moved ∷ Moved ∷ Committed ∷ []
 
 computed : Computed
-unfolding given told inTurn atOnce answers openIn oneAtATime size sessionAt withSession word cellAt entryAt slotIn entryOf lookIn publishes publishesIn targetIn appended updated lockAt setLock lockOn sweep join leave vacate withdraw claim own caps cap fits allFit lengthsFit fresh serialStep serial run history opening continued transaction odd member assign otherReaders orElse find lower lowest below tally ones onesIn rolledBack readsDropped handled after releasing answer recordFits guard known claimed newCell readPlan writeSlot writePlan sealPlan promotePlan advancePlan plan planOf step reply setUpAnswer setUp
+unfolding given told inTurn atOnce answers openIn oneAtATime serialStep serial computing counting
 computed =
     record { set-up = refl; serial-list = refl; serial-answers = refl; serial-open = refl; serial-values = refl; other-list = refl; other-answers = refl }
 

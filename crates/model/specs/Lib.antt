@@ -3,7 +3,9 @@ pub mod Readers
 pub mod Buffers
 pub mod Step
 pub mod History
+pub mod Computing
 pub mod Isolation
 pub mod Companions
 pub mod Orders
+pub mod Cases
 pub mod Histories

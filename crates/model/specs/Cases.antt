@@ -1,0 +1,367 @@
+-- Single calls, on buffers that no list of calls need have left: for each step of document 01 ("The steps") and each line of its table of refusals ("When a
+-- call is turned down") a row, in numerals, with what the call answers and all that it leaves. proofs/Cases.antt proves the tables by computation.
+use Prim.Native.Nat.{ℕ, suc, _*_}
+use mathlib.Core.Bool.{cond}
+use mathlib.Core.List.{List, [], _∷_, _++_, map}
+use lib.Dec.{eqb}
+use lib.ListN.{length, set, replicate}
+use lib.Seq.{sets}
+use Rattle.model.specs.declared.Session.{Session}
+use Rattle.model.specs.declared.Call.{Call}
+use Rattle.model.specs.declared.Call.the-variants.{Begin, Read, Write, Seal, Advance, Abandon, Peek}
+use Rattle.model.specs.declared.Answer.{Answer}
+use Rattle.model.specs.Buffers.{Store}
+use Rattle.model.specs.Step.{number, valueOf, sessionOf, Part, storeWord, logWord, noWord, shown, planOf, step, reply, setUpAnswer, setUp}
+
+-- ---- what a row is given and leaves
+
+-- the calling session's record and the front of its log; values, reader sets, claimants and marks of two cells
+pub record State : Type 0 where
+  pub mine : Session
+  pub words : List ℕ
+  pub values : List ℕ
+  pub readers : List ℕ
+  pub claimants : List ℕ
+  pub exclusives : List ℕ
+
+abbrev pub session : ℕ → ℕ → ℕ → Session
+session phase count next = record { phase = phase; count = count; next = next }
+
+abbrev pub state : Session → List ℕ → List ℕ → List ℕ → List ℕ → List ℕ → State
+state x w v r c e = record { mine = x; words = w; values = v; readers = r; claimants = c; exclusives = e }
+
+-- the whole store: cells of class 2 and 16, other records and other log words of their own
+unfoldable pub storeWith : ℕ → State → Store
+storeWith s x =
+    record {
+      lent = record {
+        values = x .values;
+        classes = 2 ∷ 16 ∷ [];
+        locks = record { readers = x .readers; claimants = x .claimants; exclusives = x .exclusives };
+        logs = sets (replicate 2048 9) (128 * s) (x .words);
+      };
+      sessions = record { records = set (replicate 16 (session 3 9 1)) s (x .mine) };
+    }
+
+-- what is answered, in numbers, and the whole store afterwards
+pub record Result : Type 0 where
+  pub number : ℕ
+  pub value : ℕ
+  pub store : Store
+
+abbrev pub result : Answer → Store → Result
+result a σ = record { number = number a; value = valueOf a; store = σ }
+
+-- ---- the rows of one call each
+
+pub record Case : Type 0 where
+  pub given : State
+  pub call : Call
+  pub number : ℕ
+  pub value : ℕ
+  pub left : State
+
+abbrev case : State → Call → ℕ → ℕ → State → Case
+case x k n v y = record { given = x; call = k; number = n; value = v; left = y }
+
+-- turned down: the number, value 0, and all as before
+abbrev refused : State → Call → ℕ → Case
+refused x k n = case x k n 0 x
+
+unfoldable pub actual : Case → Result
+actual r = let σ = storeWith (sessionOf (r .call)) (r .given) in result (reply (r .call) σ) (step (r .call) σ)
+
+unfoldable pub expected : Case → Result
+expected r = record { number = r .number; value = r .value; store = storeWith (sessionOf (r .call)) (r .left) }
+
+-- two cells with values 3 and 5; a log with cell 0: found 8, present 4, and a fourth word
+abbrev two : List ℕ
+two = 3 ∷ 5 ∷ []
+
+abbrev entry : ℕ → List ℕ
+entry fourth = 0 ∷ 8 ∷ 4 ∷ fourth ∷ []
+
+-- an entry of a cell, with the value found, the present value and the fourth word, before others
+abbrev enters : ℕ → ℕ → ℕ → ℕ → List ℕ → List ℕ
+enters c f p w rest = c ∷ f ∷ p ∷ w ∷ rest
+
+unfoldable pub steps : List Case
+steps =
+    -- begin: running, with count 0 and next 0, whatever an idle record's count is; log words stay
+    case (state (session 0 33 7) (entry 1) two (7 ∷ 6 ∷ []) (1 ∷ 9 ∷ []) (1 ∷ 0 ∷ [])) (Begin 1) 100 0
+    (state (session 1 0 0) (entry 1) two (7 ∷ 6 ∷ []) (1 ∷ 9 ∷ []) (1 ∷ 0 ∷ []))
+    ∷ case (state (session 0 0 0) [] two (0 ∷ 0 ∷ []) (16 ∷ 16 ∷ []) (0 ∷ 0 ∷ [])) (Begin 15) 100 0
+    (state (session 1 0 0) [] two (0 ∷ 0 ∷ []) (16 ∷ 16 ∷ []) (0 ∷ 0 ∷ []))
+    -- read of a cell in the log: its present value, though the lock is claimed; of two entries the first counts
+    ∷ case (state (session 1 1 7) (entry 2) two (7 ∷ 6 ∷ []) (9 ∷ 16 ∷ []) (1 ∷ 0 ∷ [])) (Read 1 0) 101 4
+    (state (session 1 1 7) (entry 2) two (7 ∷ 6 ∷ []) (9 ∷ 16 ∷ []) (1 ∷ 0 ∷ []))
+    ∷ case (state (session 1 2 0) (enters 0 3 4 6 (enters 0 3 6 7 [])) two (1 ∷ 0 ∷ []) (16 ∷ 16 ∷ []) (0 ∷ 0 ∷ [])) (Read 0 0) 101 4
+    (state (session 1 2 0) (enters 0 3 4 6 (enters 0 3 6 7 [])) two (1 ∷ 0 ∷ []) (16 ∷ 16 ∷ []) (0 ∷ 0 ∷ []))
+    -- read of a new cell: among the readers, and entered with the store's value, not written; also as the 32nd entry
+    ∷ case (state (session 1 1 7) (entry 3) two (7 ∷ 4 ∷ []) (9 ∷ 16 ∷ []) (1 ∷ 1 ∷ [])) (Read 1 1) 101 5
+    (state (session 1 2 7) (entry 3 ++ enters 1 5 5 0 []) two (7 ∷ 6 ∷ []) (9 ∷ 16 ∷ []) (1 ∷ 1 ∷ []))
+    ∷ case (state (session 1 31 0) (replicate 124 0) two (0 ∷ 0 ∷ []) (16 ∷ 16 ∷ []) (0 ∷ 0 ∷ [])) (Read 1 1) 101 5
+    (state (session 1 32 0) (replicate 124 0 ++ enters 1 5 5 0 []) two (0 ∷ 2 ∷ []) (16 ∷ 16 ∷ []) (0 ∷ 0 ∷ []))
+    -- write of a cell in the log: present and written, the value found stays, though the lock is claimed; of two entries the first
+    ∷ case (state (session 1 1 7) (entry 2) two (5 ∷ 4 ∷ []) (200 ∷ 16 ∷ []) (1 ∷ 0 ∷ [])) (Write 1 0 6) 100 0
+    (state (session 1 1 7) (enters 0 8 6 1 []) two (5 ∷ 4 ∷ []) (200 ∷ 16 ∷ []) (1 ∷ 0 ∷ []))
+    ∷ case (state (session 1 2 0) (enters 0 3 4 0 (enters 0 3 5 0 [])) two (1 ∷ 0 ∷ []) (16 ∷ 16 ∷ []) (0 ∷ 0 ∷ [])) (Write 0 0 8) 100 0
+    (state (session 1 2 0) (enters 0 3 8 1 (enters 0 3 5 0 [])) two (1 ∷ 0 ∷ []) (16 ∷ 16 ∷ []) (0 ∷ 0 ∷ []))
+    -- write of a new cell: locked and entered as by read, then written; an equal value is written too
+    ∷ case (state (session 1 0 7) [] two (5 ∷ 4 ∷ []) (16 ∷ 16 ∷ []) (1 ∷ 1 ∷ [])) (Write 1 0 6) 100 0
+    (state (session 1 1 7) (enters 0 3 6 1 []) two (7 ∷ 4 ∷ []) (16 ∷ 16 ∷ []) (1 ∷ 1 ∷ []))
+    ∷ case (state (session 1 0 0) [] two (0 ∷ 0 ∷ []) (16 ∷ 16 ∷ []) (0 ∷ 0 ∷ [])) (Write 2 0 3) 100 0
+    (state (session 1 1 0) (enters 0 3 3 1 []) two (4 ∷ 0 ∷ []) (16 ∷ 16 ∷ []) (0 ∷ 0 ∷ []))
+    -- seal with nothing written: off the readers of every cell entered, idle; claims, marks and log words stay
+    ∷ case (state (session 1 2 7) (entry 2 ++ enters 1 5 6 0 []) two (7 ∷ 6 ∷ []) (1 ∷ 9 ∷ []) (1 ∷ 1 ∷ [])) (Seal 1) 105 0
+    (state (session 0 0 0) (entry 2 ++ enters 1 5 6 0 []) two (5 ∷ 4 ∷ []) (1 ∷ 9 ∷ []) (1 ∷ 1 ∷ []))
+    ∷ case (state (session 1 2 0) (enters 0 3 4 6 (enters 0 3 5 7 [])) two (1 ∷ 1 ∷ []) (16 ∷ 16 ∷ []) (0 ∷ 0 ∷ [])) (Seal 0) 105 0
+    (state (session 0 0 0) (enters 0 3 4 6 (enters 0 3 5 7 [])) two (0 ∷ 1 ∷ []) (16 ∷ 16 ∷ []) (0 ∷ 0 ∷ []))
+    -- seal with a cell written: off the readers of the others; phase 2, next 0
+    ∷ case (state (session 1 2 7) (entry 2 ++ enters 1 5 6 3 []) two (7 ∷ 6 ∷ []) (1 ∷ 9 ∷ []) (1 ∷ 1 ∷ [])) (Seal 1) 102 0
+    (state (session 2 2 0) (entry 2 ++ enters 1 5 6 3 []) two (5 ∷ 6 ∷ []) (1 ∷ 9 ∷ []) (1 ∷ 1 ∷ []))
+    ∷ case (state (session 1 2 0) (enters 0 3 4 7 (enters 0 3 5 6 [])) two (1 ∷ 1 ∷ []) (16 ∷ 16 ∷ []) (0 ∷ 0 ∷ [])) (Seal 0) 102 0
+    (state (session 2 2 0) (enters 0 3 4 7 (enters 0 3 5 6 [])) two (1 ∷ 1 ∷ []) (16 ∷ 16 ∷ []) (0 ∷ 0 ∷ []))
+    -- advance, phase 2: claimant, and waiting while anybody else reads, the own bit left aside; next, mark and readers stay
+    ∷ case (state (session 2 1 0) (entry 1) two (6 ∷ 6 ∷ []) (16 ∷ 9 ∷ []) (0 ∷ 1 ∷ [])) (Advance 1) 104 0
+    (state (session 2 1 0) (entry 1) two (6 ∷ 6 ∷ []) (1 ∷ 9 ∷ []) (0 ∷ 1 ∷ []))
+    ∷ case (state (session 2 1 0) (entry 1) two (4 ∷ 6 ∷ []) (1 ∷ 9 ∷ []) (1 ∷ 1 ∷ [])) (Advance 1) 104 0
+    (state (session 2 1 0) (entry 1) two (4 ∷ 6 ∷ []) (1 ∷ 9 ∷ []) (1 ∷ 1 ∷ []))
+    -- promoted: claimant with mark 1; the lowest cell first, next one above it; after the last phase 3, next 0
+    ∷ case (state (session 2 2 0) (enters 1 5 6 1 (entry 1)) two (2 ∷ 6 ∷ []) (16 ∷ 9 ∷ []) (0 ∷ 0 ∷ [])) (Advance 1) 103 0
+    (state (session 2 2 1) (enters 1 5 6 1 (entry 1)) two (2 ∷ 6 ∷ []) (1 ∷ 9 ∷ []) (1 ∷ 0 ∷ []))
+    ∷ case (state (session 2 2 1) (enters 1 5 6 1 (entry 1)) two (2 ∷ 0 ∷ []) (1 ∷ 1 ∷ []) (1 ∷ 0 ∷ [])) (Advance 1) 103 0
+    (state (session 3 2 0) (enters 1 5 6 1 (entry 1)) two (2 ∷ 0 ∷ []) (1 ∷ 1 ∷ []) (1 ∷ 1 ∷ []))
+    -- published: the present value of the cell's first entry, whatever the cap; after the last phase 4, next 0
+    ∷ case (state (session 3 2 0) (entry 1 ++ enters 1 5 6 1 []) two (2 ∷ 2 ∷ []) (1 ∷ 1 ∷ []) (1 ∷ 1 ∷ [])) (Advance 1) 103 0
+    (state (session 3 2 1) (entry 1 ++ enters 1 5 6 1 []) (4 ∷ 5 ∷ []) (2 ∷ 2 ∷ []) (1 ∷ 1 ∷ []) (1 ∷ 1 ∷ []))
+    ∷ case (state (session 3 2 1) (enters 1 5 60 1 (enters 1 5 7 1 [])) two (0 ∷ 4 ∷ []) (16 ∷ 9 ∷ []) (1 ∷ 1 ∷ [])) (Advance 1) 103 0
+    (state (session 4 2 0) (enters 1 5 60 1 (enters 1 5 7 1 [])) (3 ∷ 60 ∷ []) (0 ∷ 4 ∷ []) (16 ∷ 9 ∷ []) (1 ∷ 1 ∷ []))
+    -- released: off the readers, claimant 16 whoever it was, mark 0; after the last idle, 105
+    ∷ case (state (session 4 2 0) (entry 1 ++ enters 1 5 6 1 []) two (7 ∷ 7 ∷ []) (1 ∷ 1 ∷ []) (1 ∷ 1 ∷ [])) (Advance 1) 103 0
+    (state (session 4 2 1) (entry 1 ++ enters 1 5 6 1 []) two (5 ∷ 7 ∷ []) (16 ∷ 1 ∷ []) (0 ∷ 1 ∷ []))
+    ∷ case (state (session 4 1 0) (entry 1) two (7 ∷ 7 ∷ []) (9 ∷ 9 ∷ []) (1 ∷ 1 ∷ [])) (Advance 1) 105 0
+    (state (session 0 0 0) (entry 1) two (5 ∷ 7 ∷ []) (16 ∷ 9 ∷ []) (0 ∷ 1 ∷ []))
+    -- abandon, phases 1 and 2: off the readers of each entry's cell, its own claims and their marks gone, idle; log words stay
+    ∷ case (state (session 1 2 7) (entry 0 ++ enters 1 5 6 1 []) two (7 ∷ 7 ∷ []) (1 ∷ 9 ∷ []) (1 ∷ 1 ∷ [])) (Abandon 1) 100 0
+    (state (session 0 0 0) (entry 0 ++ enters 1 5 6 1 []) two (5 ∷ 5 ∷ []) (16 ∷ 9 ∷ []) (0 ∷ 1 ∷ []))
+    ∷ case (state (session 2 1 0) (entry 1) two (7 ∷ 7 ∷ []) (1 ∷ 1 ∷ []) (1 ∷ 1 ∷ [])) (Abandon 1) 100 0
+    (state (session 0 0 0) (entry 1) two (5 ∷ 7 ∷ []) (16 ∷ 1 ∷ []) (0 ∷ 1 ∷ []))
+    -- peek's twin: nothing changes
+    ∷ case (state (session 1 1 7) (entry 1) two (7 ∷ 6 ∷ []) (9 ∷ 9 ∷ []) (1 ∷ 1 ∷ [])) (Peek 1 0) 100 0
+    (state (session 1 1 7) (entry 1) two (7 ∷ 6 ∷ []) (9 ∷ 9 ∷ []) (1 ∷ 1 ∷ []))
+    ∷ []
+
+-- a session in a phase, with nothing entered; with cell 0 written; with 32 entries, all of cell 0
+abbrev empty : ℕ → State
+empty p = state (session p 0 0) [] two (7 ∷ 6 ∷ []) (16 ∷ 16 ∷ []) (1 ∷ 1 ∷ [])
+
+abbrev writing : ℕ → State
+writing p = state (session p 1 0) (entry 1) two (2 ∷ 2 ∷ []) (16 ∷ 16 ∷ []) (0 ∷ 0 ∷ [])
+
+abbrev full : ℕ → State
+full claimant = state (session 1 32 0) (replicate 128 0) two (7 ∷ 6 ∷ []) (16 ∷ claimant ∷ []) (1 ∷ 1 ∷ [])
+
+-- the table of refusals, in the order of its numbers; 7 and set-up's 8 are below, 10 to 13 are the fields'
+unfoldable pub refusals : List Case
+refusals =
+    -- 1: session above 15, of each call
+    refused (empty 1) (Begin 16) 1 ∷ refused (empty 1) (Read 16 0) 1 ∷ refused (empty 1) (Write 16 0 1) 1 ∷ refused (empty 1) (Seal 16) 1
+    ∷ refused (empty 1) (Advance 16) 1 ∷ refused (empty 1) (Abandon 16) 1 ∷ refused (empty 1) (Peek 255 0) 1
+    -- 2: the call does not fit the phase: the table `phases` has each call in each phase
+    ∷ refused (writing 3) (Abandon 1) 2
+    -- 3: cell not below n
+    ∷ refused (writing 1) (Read 1 2) 3 ∷ refused (writing 1) (Write 1 2 0) 3 ∷ refused (writing 1) (Peek 1 2) 3
+    -- 4: written value above its cap, in a new cell and in a known one
+    ∷ refused (empty 1) (Write 1 0 9) 4 ∷ refused (writing 1) (Write 1 0 9) 4
+    -- 5: a new cell with 32 entries
+    ∷ refused (full 16) (Read 1 1) 5
+    ∷ refused (state (session 1 32 0) (replicate 124 1 ++ enters 1 5 5 0 []) two (7 ∷ 6 ∷ []) (16 ∷ 16 ∷ []) (1 ∷ 1 ∷ [])) (Write 1 0 1) 5
+    -- 6: lock claimed, on read and write by anyone, on advance by another; rolled back: own claims and their marks alone are gone
+    ∷ case (state (session 1 1 7) (entry 0) two (7 ∷ 7 ∷ []) (1 ∷ 1 ∷ []) (1 ∷ 1 ∷ [])) (Read 1 1) 6 0
+    (state (session 0 0 0) (entry 0) two (5 ∷ 7 ∷ []) (16 ∷ 1 ∷ []) (0 ∷ 1 ∷ []))
+    ∷ case (state (session 1 1 7) (enters 1 5 6 1 []) two (7 ∷ 7 ∷ []) (200 ∷ 9 ∷ []) (1 ∷ 1 ∷ [])) (Write 1 0 4) 6 0
+    (state (session 0 0 0) (enters 1 5 6 1 []) two (7 ∷ 5 ∷ []) (200 ∷ 9 ∷ []) (1 ∷ 1 ∷ []))
+    ∷ case (state (session 2 2 1) (entry 1 ++ enters 1 5 6 1 []) two (7 ∷ 2 ∷ []) (1 ∷ 200 ∷ []) (1 ∷ 1 ∷ [])) (Advance 1) 6 0
+    (state (session 0 0 0) (entry 1 ++ enters 1 5 6 1 []) two (5 ∷ 0 ∷ []) (16 ∷ 200 ∷ []) (0 ∷ 1 ∷ []))
+    -- 8: the class byte of a written cell above 15
+    ∷ refused (empty 1) (Write 1 1 0) 8
+    -- 9: the table `damaged` has each cause in each phase
+    ∷ refused (state (session 5 1 0) (entry 1) two (7 ∷ 7 ∷ []) (1 ∷ 1 ∷ []) (1 ∷ 1 ∷ [])) (Advance 1) 9
+    ∷ refused (state (session 255 0 0) [] two (7 ∷ 7 ∷ []) (1 ∷ 1 ∷ []) (1 ∷ 1 ∷ [])) (Begin 1) 9
+    -- 14: peeked cell not in the log
+    ∷ refused (writing 1) (Peek 1 1) 14
+    ∷ []
+
+-- the order 7, 1, 9, 2, 3, 8, 4, then 14 or 5, then 6, where two are due; 7 before 1 is below
+unfoldable pub order : List Case
+order =
+    -- 9 before 2; 2 before 3, before 8 and 4, before 14 and 5
+    refused (state (session 2 33 0) [] two (7 ∷ 6 ∷ []) (16 ∷ 16 ∷ []) (1 ∷ 1 ∷ [])) (Read 1 7) 9
+    ∷ refused (writing 2) (Read 1 7) 2 ∷ refused (writing 2) (Write 1 1 9) 2 ∷ refused (writing 2) (Write 1 0 9) 2 ∷ refused (writing 2) (Peek 1 1) 2
+    -- 3 before 14 and before 5 (a cell that is not there has no class and no lock)
+    ∷ refused (empty 1) (Peek 1 2) 3 ∷ refused (full 16) (Read 1 2) 3
+    -- 8 before 4, before 5 and before 6; 4 before 5 and before 6
+    ∷ refused (empty 1) (Write 1 1 4294967295) 8 ∷ refused (full 3) (Write 1 1 0) 8
+    ∷ refused (state (session 1 32 0) (replicate 124 1 ++ enters 1 5 5 0 []) two (7 ∷ 6 ∷ []) (3 ∷ 16 ∷ []) (1 ∷ 1 ∷ [])) (Write 1 0 9) 4
+    ∷ refused (state (session 1 0 0) [] two (7 ∷ 6 ∷ []) (3 ∷ 16 ∷ []) (1 ∷ 1 ∷ [])) (Write 1 0 9) 4
+    -- 5 before 6; a known cell is neither
+    ∷ refused (full 3) (Read 1 1) 5
+    ∷ refused (state (session 1 32 0) (replicate 124 1 ++ enters 1 5 5 0 []) two (7 ∷ 6 ∷ []) (3 ∷ 16 ∷ []) (1 ∷ 1 ∷ [])) (Write 1 0 1) 5
+    ∷ case (full 3) (Read 1 0) 101 0 (full 3)
+    ∷ []
+
+-- ---- what a call answers in phases 0 to 4, and 5, which is none
+
+pub record Phased : Type 0 where
+  pub given : ℕ → State
+  pub call : Call
+  pub numbers : List ℕ
+
+abbrev phased : (ℕ → State) → Call → List ℕ → Phased
+phased x k ns = record { given = x; call = k; numbers = ns }
+
+unfoldable pub answered : Phased → List ℕ
+answered r = map (λ (p : ℕ). number (reply (r .call) (storeWith 1 (r .given p)))) (0 ∷ 1 ∷ 2 ∷ 3 ∷ 4 ∷ 5 ∷ [])
+
+unfoldable pub phases : List Phased
+phases =
+    phased writing (Begin 1) (100 ∷ 2 ∷ 2 ∷ 2 ∷ 2 ∷ 9 ∷ [])
+    ∷ phased writing (Read 1 0) (2 ∷ 101 ∷ 2 ∷ 2 ∷ 2 ∷ 9 ∷ [])
+    ∷ phased writing (Write 1 0 8) (2 ∷ 100 ∷ 2 ∷ 2 ∷ 2 ∷ 9 ∷ [])
+    ∷ phased writing (Seal 1) (2 ∷ 102 ∷ 2 ∷ 2 ∷ 2 ∷ 9 ∷ [])
+    ∷ phased writing (Advance 1) (2 ∷ 2 ∷ 103 ∷ 103 ∷ 105 ∷ 9 ∷ [])
+    ∷ phased writing (Abandon 1) (2 ∷ 100 ∷ 100 ∷ 2 ∷ 2 ∷ 9 ∷ [])
+    ∷ phased writing (Peek 1 0) (2 ∷ 100 ∷ 2 ∷ 2 ∷ 2 ∷ 9 ∷ [])
+    ∷ []
+
+-- a log of these words, with a count and a next cell
+abbrev logged : ℕ → ℕ → List ℕ → ℕ → State
+logged count next words p = state (session p count next) words two (0 ∷ 0 ∷ []) (16 ∷ 16 ∷ []) (0 ∷ 0 ∷ [])
+
+-- refusal 9, by what begin answers: 100 in phase 0, which judges neither count nor log; 2 in the others where the record and the log pass
+unfoldable pub damaged : List Phased
+damaged =
+    -- a count above 32
+    phased (logged 33 0 (replicate 128 1)) (Begin 1) (100 ∷ 9 ∷ 9 ∷ 9 ∷ 9 ∷ 9 ∷ [])
+    -- an entered cell not below n, the first or the last of three; words past the count are not judged
+    ∷ phased (logged 3 0 (enters 2 5 6 1 (enters 1 5 6 1 (enters 0 5 6 1 [])))) (Begin 1) (100 ∷ 9 ∷ 9 ∷ 9 ∷ 9 ∷ 9 ∷ [])
+    ∷ phased (logged 3 0 (enters 0 5 6 1 (enters 1 5 6 1 (enters 2 5 6 1 [])))) (Begin 1) (100 ∷ 9 ∷ 9 ∷ 9 ∷ 9 ∷ 9 ∷ [])
+    ∷ phased (logged 2 0 (enters 0 5 6 1 (enters 1 5 6 1 (enters 2 5 6 1 [])))) (Begin 1) (100 ∷ 2 ∷ 2 ∷ 2 ∷ 2 ∷ 9 ∷ [])
+    -- in phases 2 to 4 no written cell at or above next: none there, none written, or the cell's first entry is not
+    ∷ phased (logged 1 0 (entry 1)) (Begin 1) (100 ∷ 2 ∷ 2 ∷ 2 ∷ 2 ∷ 9 ∷ [])
+    ∷ phased (logged 1 1 (entry 1)) (Begin 1) (100 ∷ 2 ∷ 9 ∷ 9 ∷ 9 ∷ 9 ∷ [])
+    ∷ phased (logged 1 0 (entry 2)) (Begin 1) (100 ∷ 2 ∷ 9 ∷ 9 ∷ 9 ∷ 9 ∷ [])
+    ∷ phased (logged 2 0 (enters 0 5 6 0 (enters 0 5 6 1 []))) (Begin 1) (100 ∷ 2 ∷ 9 ∷ 9 ∷ 9 ∷ 9 ∷ [])
+    ∷ phased (logged 0 0 (entry 1)) (Begin 1) (100 ∷ 2 ∷ 9 ∷ 9 ∷ 9 ∷ 9 ∷ [])
+    ∷ []
+
+-- ---- the part that peek hands back
+
+pub record Peeked : Type 0 where
+  pub given : State
+  pub call : Call
+  pub part : Part
+
+abbrev peeked : State → Call → Part → Peeked
+peeked x k w = record { given = x; call = k; part = w }
+
+unfoldable pub handed : Peeked → Part
+handed r = shown (sessionOf (r .call)) (planOf (r .call) (storeWith (sessionOf (r .call)) (r .given)))
+
+unfoldable pub parts : List Peeked
+parts =
+    -- the store's own word of an entry not written, the log's present word of a written one, in the session's own part; refused, no word
+    peeked (logged 2 0 (enters 1 5 6 6 (entry 1)) 1) (Peek 1 1) (storeWord 1)
+    ∷ peeked (logged 2 0 (enters 1 5 6 6 (entry 1)) 1) (Peek 1 0) (logWord 134)
+    ∷ peeked (logged 1 0 (entry 9) 1) (Peek 15 0) (logWord 1922)
+    ∷ peeked (logged 1 0 (enters 1 5 6 6 (entry 1)) 1) (Peek 1 0) noWord
+    ∷ peeked (logged 2 0 (enters 1 5 6 6 (entry 1)) 2) (Peek 1 0) noWord
+    ∷ peeked (logged 2 0 (enters 1 5 6 6 (entry 1)) 1) (Peek 1 2) noWord
+    ∷ []
+
+-- ---- set-up
+
+-- values, classes, and how many reader sets, claimants, marks and log words are lent; set-up's number
+pub record Lending : Type 0 where
+  pub values : List ℕ
+  pub classes : List ℕ
+  pub readers : ℕ
+  pub claimants : ℕ
+  pub exclusives : ℕ
+  pub words : ℕ
+  pub number : ℕ
+
+abbrev lending : List ℕ → List ℕ → ℕ → ℕ → ℕ → ℕ → ℕ → Lending
+lending v k r c e w n = record { values = v; classes = k; readers = r; claimants = c; exclusives = e; words = w; number = n }
+
+-- a store of that shape, with these words, claimants and records in it
+abbrev filled : Lending → ℕ → ℕ → ℕ → ℕ → Session → Store
+filled r set claimant mark word x =
+    record {
+      lent = record {
+        values = r .values;
+        classes = r .classes;
+        locks = record { readers = replicate (r .readers) set; claimants = replicate (r .claimants) claimant; exclusives = replicate (r .exclusives) mark };
+        logs = replicate (r .words) word;
+      };
+      sessions = record { records = replicate 16 x };
+    }
+
+abbrev used : Lending → Store
+used r = filled r 5 2 1 7 (session 3 9 1)
+
+-- set-up's answer and all that it leaves, and what a begin of session 16 answers on the same buffers
+pub record Started : Type 0 where
+  pub setUp : Result
+  pub begin : ℕ
+
+unfoldable pub startedBy : Lending → Started
+startedBy r = record { setUp = result (setUpAnswer (used r .lent)) (setUp (used r)); begin = number (reply (Begin 16) (used r)) }
+
+-- 100: sessions idle, locks empty, log words 0, values and classes as before; else all as before. The begin is 7 where lengths are wrong, else 1
+unfoldable pub startsBy : Lending → Started
+startsBy r =
+    record {
+      setUp = record { number = r .number; value = 0; store = cond (eqb (r .number) 100) (filled r 0 16 0 0 (session 0 0 0)) (used r) };
+      begin = cond (eqb (r .number) 7) 7 1;
+    }
+
+unfoldable pub lendings : List Lending
+lendings =
+    lending (3 ∷ 4 ∷ []) (2 ∷ 3 ∷ []) 2 2 2 2048 100
+    -- 8: a class byte above 15; a value above its cap; of any cell
+    ∷ lending (0 ∷ []) (16 ∷ []) 1 1 1 2048 8 ∷ lending (0 ∷ []) (255 ∷ []) 1 1 1 2048 8
+    ∷ lending (3 ∷ 9 ∷ []) (2 ∷ 2 ∷ []) 2 2 2 2048 8 ∷ lending (9 ∷ 3 ∷ []) (2 ∷ 2 ∷ []) 2 2 2 2048 8
+    -- 7: n outside 1 to 1,024; classes or locks not n long; logs not 2,048 words; before 8
+    ∷ lending (replicate 1024 1) (replicate 1024 0) 1024 1024 1024 2048 100
+    ∷ lending [] [] 0 0 0 2048 7 ∷ lending (replicate 1025 1) (replicate 1025 0) 1025 1025 1025 2048 7
+    ∷ lending (9 ∷ []) (2 ∷ 2 ∷ []) 1 1 1 2048 7 ∷ lending (9 ∷ []) [] 1 1 1 2048 7
+    ∷ lending (9 ∷ []) (2 ∷ []) 2 1 1 2048 7 ∷ lending (9 ∷ []) (2 ∷ []) 0 1 1 2048 7
+    ∷ lending (9 ∷ []) (2 ∷ []) 1 2 1 2048 7 ∷ lending (9 ∷ []) (2 ∷ []) 1 0 1 2048 7
+    ∷ lending (9 ∷ []) (2 ∷ []) 1 1 2 2048 7 ∷ lending (9 ∷ []) (2 ∷ []) 1 1 0 2048 7
+    ∷ lending (9 ∷ []) (2 ∷ []) 1 1 1 2049 7 ∷ lending (9 ∷ []) (2 ∷ []) 1 1 1 2047 7
+    ∷ []
+
+-- ---- caps
+
+pub record Cap : Type 0 where
+  pub class : ℕ
+  pub most : ℕ
+
+-- one cell of a class with a value; its session 0 runs
+abbrev cellOf : ℕ → ℕ → Store
+cellOf k v = filled (lending (v ∷ []) (k ∷ []) 1 1 1 2048 0) 0 16 0 0 (session 1 0 0)
+
+-- what set-up answers to a value, and a write to it
+unfoldable pub judged : ℕ → ℕ → List ℕ
+judged k v = number (setUpAnswer (cellOf k v .lent)) ∷ number (reply (Write 0 0 v) (cellOf k 0)) ∷ []
+
+abbrev cap : ℕ → ℕ → Cap
+cap k m = record { class = k; most = m }
+
+-- caps by class 0 to 15
+unfoldable pub caps : List Cap
+caps =
+    cap 0 1 ∷ cap 1 6 ∷ cap 2 8 ∷ cap 3 10 ∷ cap 4 12 ∷ cap 5 15 ∷ cap 6 18 ∷ cap 7 21 ∷ cap 8 24 ∷ cap 9 27 ∷ cap 10 30 ∷ cap 11 36 ∷ cap 12 42 ∷ cap 13 48
+    ∷ cap 14 60 ∷ cap 15 4294967295 ∷ []
