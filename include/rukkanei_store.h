@@ -11,8 +11,13 @@
  *
  * The records of all sixteen sessions are passed in by value, and handed back. Every call answers for every content of what is lent: *number
  * is one of the numbers below, *value is 0 except with 101. A refusal other than 6 leaves everything as before and hands the records back as
- * they came; 6 has rolled the session back. Of the pointers a call asks this: none is NULL, each points to as many elements as the length
- * after it says, and no two buffers overlap. Calls run one after the other: whoever has several threads puts a lock around them. */
+ * they came; 6 has rolled the session back.
+ *
+ * A call asks this of its caller, and nothing else:
+ *   - no pointer is NULL, not even with a length of 0, and each is aligned for its type;
+ *   - a buffer has as many elements as the length after it says;
+ *   - what a call may write, a buffer that is not const and each of *number, *value and *index, overlaps nothing else that the call is lent;
+ *   - nobody else writes what is lent while the call runs: whoever has several threads puts a lock around the calls. */
 #ifndef RUKKANEI_STORE_H
 #define RUKKANEI_STORE_H
 
@@ -34,7 +39,8 @@ extern "C" {
 /* Refusals, in the order in which they are tested. */
 #define RUKKANEI_WRONG_LENGTHS 7    /* n outside 1 to 1,024, classes or locks not n long, logs not 2,048 words */
 #define RUKKANEI_NO_SUCH_SESSION 1  /* session above 15 */
-#define RUKKANEI_DAMAGED_RECORD 9   /* a record or log that no call leaves */
+#define RUKKANEI_DAMAGED_RECORD 9   /* phase above 4; in phases 1 to 4 a count above 32 or an entered cell not below n;
+                                       in phases 2 to 4 no written cell at or above next */
 #define RUKKANEI_WRONG_PHASE 2      /* the call does not fit the session's phase */
 #define RUKKANEI_NO_SUCH_CELL 3     /* cell not below n */
 #define RUKKANEI_NO_SUCH_CLASS 8    /* class above 15; at set-up also a value above its cap */
@@ -104,8 +110,9 @@ rukkanei_sessions rukkanei_peek_number(rukkanei_sessions sessions, const uint32_
 #define RUKKANEI_IN_VALUES 1
 #define RUKKANEI_IN_LOGS 2
 
-/* The word that a running session's peek shows: the store's own, `values[*index]`, of a cell that it has not written, or the log's own,
-   `logs[*index]`, of one that it has. 0, with *index as before, where the peek is refused; rukkanei_peek_number tells why. */
+/* The word that a running session's peek shows, in place of the part that a peek hands back: the store's own, `values[*index]`, of a cell that
+   it has not written, or the log's own, `logs[*index]`, of one that it has. 0, with *index as before, where the peek is refused;
+   rukkanei_peek_number tells why. */
 uint8_t rukkanei_peek_place(rukkanei_sessions sessions, const uint32_t *values, size_t values_len, const uint8_t *classes, size_t classes_len,
                             const uint16_t *readers, size_t readers_len, const uint8_t *claimants, size_t claimants_len, const uint8_t *exclusives,
                             size_t exclusives_len, const uint32_t *logs, size_t logs_len, uint8_t session, uint32_t cell, size_t *index);
