@@ -2,13 +2,13 @@
 use native.Mathlib.Omega.{arith}
 use mathlib.Core.Path.{_≡_, refl, sym, ap, subst, _∙_}
 use mathlib.Core.Bool.{true}
-use mathlib.Core.List.{List, reverse}
+use mathlib.Core.List.{List, [], _∷_, reverse}
 use Rattle.model.specs.declared.Call.{Call}
 use Rattle.model.specs.declared.Answer.{Answer}
 use Rattle.model.specs.Buffers.{Buffers, Store, allFit, lengthsFit, fresh}
 use Rattle.model.specs.History.{Event, run, history}
 use Rattle.model.specs.Isolation.{Demand3, Ran, none, then, Demand3OfCode}
-use Rattle.model.specs.Step.{Outcome, outcome, number, taken, setUpTaken, step, setUpAnswer, setUp}
+use Rattle.model.specs.Step.{Outcome, outcome, number, taken, setUpTaken, step, reply, setUpAnswer, setUp}
 use Rattle.model.proofs.Invariant.{Inv}
 use Rattle.model.proofs.Ledger.{blank}
 use Rattle.model.proofs.Runs.{inv-fresh}
@@ -46,6 +46,12 @@ ran-is σ (then r k a y e) =
     let f = ap (λ (o : Outcome). o .answer) e in
     let g = ap (λ (o : Outcome). o .store) e in
     (rw (f, i .0, i .1), g ∙ ap (step k) (i .1))
+
+-- and every list of calls can be so made
+pub ran-history : (σ : Store) (ks : List Call) → Ran σ ks (history σ ks) (run σ ks)
+unfolding history run taken
+ran-history σ [] = none
+ran-history σ (k ∷ ks) = then (ran-history σ ks) k (reply k (run σ ks)) (step k (run σ ks)) refl
 
 -- demand 3 of code: a set-up that kept its contract and answered 100 left σ, and the calls kept theirs
 pub demand3-of-code : (φ σ : Store) (a : Answer) → outcome a σ ≡ setUpTaken φ → number a ≡ 100
