@@ -1,5 +1,5 @@
--- Worked fields in three tables, with document 01's numbers as numerals: a row, or a few, for each line that document 01 has on fields. A new
--- line adds its row here; proofs/Worked.antt proves each table by computation.
+-- Worked fields in three tables, each number of document 01 as a numeral: the rows under a comment show the line of document 01 that it
+-- cites. A new tag or refusal adds its rows here; proofs/Worked.antt proves each table by computation.
 -- Assumes nothing.
 use Prim.Native.Nat.{ℕ, _-_}
 use mathlib.Core.List.{List, [], _∷_, _++_}
@@ -16,7 +16,7 @@ use Rattle.field.specs.Exported.{Lent, lent, Handed, handed, handing}
 abbrev pub before : Lent
 before = lent 21 22 23 24 25 26
 
--- ---- fields, in both directions
+-- ---- fields in both directions (document 01, "Call fields")
 
 -- The bytes of a field, what is read from them and handed to C, and what is written into twelve bytes 0xee.
 pub record FieldRow : Type 0 where
@@ -26,8 +26,8 @@ pub record FieldRow : Type 0 where
   pub handed : Handed
   pub wrote : Wrote
 
--- A row from the kind, the bytes, the call that is read from them and their count. The writer is given all numbers: those that the tag does
--- not carry are ignored, and read back as 0. None is judged: the session, the class and the cell are larger than any that the store takes.
+-- A row from kind, bytes, the call that is read from them and the field's length. The writer is given all numbers: those that the tag does
+-- not carry are ignored, and read back as 0. Session, class and cell are larger than any that the store takes: none is judged.
 abbrev pub fieldRow : Kind → List ℕ → Call → ℕ → FieldRow
 fieldRow k b c n =
     record {
@@ -50,7 +50,7 @@ fields =
     fieldRow Begin (0x01 ∷ 0x01 ∷ 0x00 ∷ 0xb2 ∷ []) (call 0x01 0xb2 0 0 0) 4
     -- 02 read, session and two-byte cell
     ∷ fieldRow Read (0x02 ∷ 0x03 ∷ 0x00 ∷ 0xb2 ∷ 0x21 ∷ 0x43 ∷ []) (call 0x02 0xb2 0 0x4321 0) 6
-    -- 03 write, session, two-byte cell, four-byte figure
+    -- 03 write, session, two-byte cell, four-byte figure; multi-byte numbers are little-endian
     ∷ fieldRow Write (0x03 ∷ 0x07 ∷ 0x00 ∷ 0xb2 ∷ 0x21 ∷ 0x43 ∷ 0xef ∷ 0xcd ∷ 0xab ∷ 0x89 ∷ []) (call 0x03 0xb2 0 0x4321 0x89abcdef) 10
     -- 04 seal, 05 advance, 06 abandon, each with a session byte
     ∷ fieldRow Seal (0x04 ∷ 0x01 ∷ 0x00 ∷ 0xb2 ∷ []) (call 0x04 0xb2 0 0 0) 4
@@ -60,7 +60,7 @@ fields =
     ∷ fieldRow StartingCell (0x08 ∷ 0x05 ∷ 0x00 ∷ 0xa1 ∷ 0xef ∷ 0xcd ∷ 0xab ∷ 0x89 ∷ []) (call 0x08 0 0xa1 0 0x89abcdef) 8
     ∷ []
 
--- ---- the reader's answers, in the order of its tests
+-- ---- the reader's answers, in order (document 01, "When a call is turned down")
 
 -- Bytes, a place, what is read there, and what the exported reader answers and leaves.
 pub data ReadRow : Type 0 where
@@ -99,12 +99,12 @@ readings =
     -- then a short body 10: its last byte is missing, or all of it
     ∷ refusedRow (0x03 ∷ 0x07 ∷ 0x00 ∷ 0x02 ∷ 0x05 ∷ 0x00 ∷ 0x2a ∷ 0x00 ∷ 0x00 ∷ []) 0 10
     ∷ refusedRow (0xff ∷ 0xff ∷ 0x01 ∷ 0x01 ∷ 0x00 ∷ []) 2 10
-    -- else 100, whatever stands around the field
+    -- else 100, with bytes before and after the field
     ∷ readRow (0xff ∷ 0x03 ∷ 0x07 ∷ 0x00 ∷ 0x02 ∷ 0x05 ∷ 0x00 ∷ 0x2a ∷ 0x00 ∷ 0x00 ∷ 0x00 ∷ 0xff ∷ []) 1 (Field Write (call 3 2 0 5 42) 10)
     (handed 100 (lent 3 2 0 5 42 10))
     ∷ []
 
--- ---- the writer's answers, in the order of its tests
+-- ---- the writer's answers, in order (the same section)
 
 -- A target, a call, and what is answered and left.
 pub data WriteRow : Type 0 where
@@ -116,17 +116,17 @@ writtenThere (writeRow t c w) = writeRow t c (writing t c)
 
 unfoldable pub writings : List WriteRow
 writings =
-    -- an unknown tag is 11, with 0 in place of the length
+    -- an unknown tag is 11, with 0 in place of the length and the target as before
     writeRow (replicate 12 0xee) (call 0 2 0 0 0) (wrote 11 0 (replicate 12 0xee))
     ∷ writeRow (replicate 12 0xee) (call 7 2 0 0 0) (wrote 11 0 (replicate 12 0xee))
     ∷ writeRow (replicate 12 0xee) (call 9 2 0 0 0) (wrote 11 0 (replicate 12 0xee))
     -- tested before 13
     ∷ writeRow [] (call 7 2 0 0 0) (wrote 11 0 [])
     ∷ writeRow (replicate 2 0xee) (call 7 2 0 0 0) (wrote 11 0 (replicate 2 0xee))
-    -- a target shorter than the field is 13, with 0 in place of the length
+    -- a target shorter than the field is 13, with 0 in place of the length and the target as before
     ∷ writeRow [] (call 1 2 0 0 0) (wrote 13 0 [])
     ∷ writeRow (replicate 3 0xee) (call 1 2 0 0 0) (wrote 13 0 (replicate 3 0xee))
     ∷ writeRow (replicate 9 0xee) (call 3 2 0 5 42) (wrote 13 0 (replicate 9 0xee))
-    -- else 100 with the field's length, also where the target has just that length
+    -- else 100 with the field's length, here in a target of just that length
     ∷ writeRow (replicate 10 0xee) (call 3 2 0 5 42) (wrote 100 10 (0x03 ∷ 0x07 ∷ 0x00 ∷ 0x02 ∷ 0x05 ∷ 0x00 ∷ 0x2a ∷ 0x00 ∷ 0x00 ∷ 0x00 ∷ []))
     ∷ []
