@@ -13,9 +13,16 @@
  *
  * No session, class, cell or value is judged here: the store does that.
  *
- * Both functions answer for every number and every content of the bytes. Of the pointers they ask this: none is NULL, not even with a length
- * of 0; `bytes` and `target` point to as many bytes as the length after them says; the numbers that are lent to be written, and a target,
- * do not overlap each other or the bytes that are read. The functions keep no pointer, call nothing and allocate nothing. */
+ * Both functions answer for every number and every content of the bytes. They keep no pointer, call nothing and allocate nothing. The caller
+ * sees to it that
+ *
+ *   - no pointer is NULL, not even with a length of 0;
+ *   - `bytes` and `target` point to as many bytes as the length after them says;
+ *   - the numbers that are lent (*tag, *session, *cell_class, *cell, *value and *length) lie apart from each other, from the bytes that are
+ *     read and from the target;
+ *   - *cell, *value and *length are aligned for their types;
+ *   - while the call runs, nothing else (a thread, an interrupt handler) writes the bytes that are read, or reads or writes the target and the
+ *     lent numbers. */
 #ifndef RUKKANEI_H
 #define RUKKANEI_H
 
@@ -57,8 +64,9 @@ extern "C" {
  *   100  the field was read
  *
  * With 100, *tag, *session, *cell_class, *cell and *value hold the call's numbers, those that the tag does not carry as 0, and *length holds
- * the field's length: the next field starts at `place + *length`. With any other answer all six are as before, and the field that was refused
- * starts at `place`. The bytes are never written. */
+ * the field's length: the next field starts at `place + *length`. With any other answer all six are as before. A refused field's place, its
+ * first byte, is always the `place` that was passed, so it is not handed back (`refused-where-asked`, crates/field/proofs/Readings.antt).
+ * The bytes are never written. */
 uint8_t rukkanei_field_read(const uint8_t *bytes, size_t bytes_len, size_t place, uint8_t *tag, uint8_t *session, uint8_t *cell_class,
                             uint16_t *cell, uint32_t *value, size_t *length);
 

@@ -1,4 +1,5 @@
--- Laws that the proofs of the functions cite (up to `Writings`), and the theorems on fields (`RoundTrip`, `Files`, `Worked`).
+-- Laws that the proofs of the functions cite (up to `Writings`), and the theorems on fields (`RoundTrip`, `Files`, `Worked`, and in `Readings`
+-- that on a refusal's place).
 pub mod Numbers
 pub mod Rows
 pub mod Readings

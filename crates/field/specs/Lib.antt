@@ -5,3 +5,4 @@ pub mod Answer
 pub mod Field
 pub mod Exported
 pub mod RoundTrip
+pub mod Worked
