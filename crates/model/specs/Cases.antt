@@ -243,7 +243,7 @@ logged count next words p = state (session p count next) words two (0 ∷ 0 ∷ 
 unfoldable pub damaged : List Phased
 damaged =
     -- a count above 32
-    phased (logged 33 0 (replicate 128 1)) (Begin 1) (100 ∷ 9 ∷ 9 ∷ 9 ∷ 9 ∷ 9 ∷ [])
+    phased (logged 33 0 (replicate 132 1)) (Begin 1) (100 ∷ 9 ∷ 9 ∷ 9 ∷ 9 ∷ 9 ∷ [])
     -- an entered cell not below n, the first or the last of three; words past the count are not judged
     ∷ phased (logged 3 0 (enters 2 5 6 1 (enters 1 5 6 1 (enters 0 5 6 1 [])))) (Begin 1) (100 ∷ 9 ∷ 9 ∷ 9 ∷ 9 ∷ 9 ∷ [])
     ∷ phased (logged 3 0 (enters 0 5 6 1 (enters 1 5 6 1 (enters 2 5 6 1 [])))) (Begin 1) (100 ∷ 9 ∷ 9 ∷ 9 ∷ 9 ∷ 9 ∷ [])
@@ -272,12 +272,13 @@ handed r = shown (sessionOf (r .call)) (planOf (r .call) (storeWith (sessionOf (
 unfoldable pub parts : List Peeked
 parts =
     -- the store's own word of an entry not written, the log's present word of a written one, in the session's own part; refused, no word
-    peeked (logged 2 0 (enters 1 5 6 6 (entry 1)) 1) (Peek 1 1) (storeWord 1)
-    ∷ peeked (logged 2 0 (enters 1 5 6 6 (entry 1)) 1) (Peek 1 0) (logWord 134)
-    ∷ peeked (logged 1 0 (entry 9) 1) (Peek 15 0) (logWord 1922)
-    ∷ peeked (logged 1 0 (enters 1 5 6 6 (entry 1)) 1) (Peek 1 0) noWord
-    ∷ peeked (logged 2 0 (enters 1 5 6 6 (entry 1)) 2) (Peek 1 0) noWord
-    ∷ peeked (logged 2 0 (enters 1 5 6 6 (entry 1)) 1) (Peek 1 2) noWord
+    peeked (logged 2 0 (entry 6 ++ enters 1 5 6 1 []) 1) (Peek 1 0) (storeWord 0)
+    ∷ peeked (logged 2 0 (entry 6 ++ enters 1 5 6 1 []) 1) (Peek 1 1) (logWord 134)
+    ∷ peeked (logged 2 0 (entry 9 ++ enters 1 5 6 6 []) 1) (Peek 15 0) (logWord 1922)
+    ∷ peeked (logged 2 0 (entry 9 ++ enters 1 5 6 6 []) 1) (Peek 15 1) (storeWord 1)
+    ∷ peeked (logged 1 0 (entry 6 ++ enters 1 5 6 1 []) 1) (Peek 1 1) noWord
+    ∷ peeked (logged 2 0 (entry 6 ++ enters 1 5 6 1 []) 2) (Peek 1 1) noWord
+    ∷ peeked (logged 2 0 (entry 6 ++ enters 1 5 6 1 []) 1) (Peek 1 2) noWord
     ∷ []
 
 -- ---- set-up
