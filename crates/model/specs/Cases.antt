@@ -1,11 +1,10 @@
 -- Single calls, on buffers that no list of calls need have left: for each step of document 01 ("The steps") and each line of its table of refusals ("When a
 -- call is turned down") a row, in numerals, with what the call answers and all that it leaves. proofs/Cases.antt proves the tables by computation.
-use Prim.Native.Nat.{ℕ, suc, _*_}
+use Prim.Native.Nat.{ℕ, _+_, _*_, _-_}
 use mathlib.Core.Bool.{cond}
 use mathlib.Core.List.{List, [], _∷_, _++_, map}
 use lib.Dec.{eqb}
 use lib.ListN.{length, set, replicate}
-use lib.Seq.{sets}
 use Rattle.model.specs.declared.Session.{Session}
 use Rattle.model.specs.declared.Call.{Call}
 use Rattle.model.specs.declared.Call.the-variants.{Begin, Read, Write, Seal, Advance, Abandon, Peek}
@@ -38,7 +37,7 @@ storeWith s x =
         values = x .values;
         classes = 2 ∷ 16 ∷ [];
         locks = record { readers = x .readers; claimants = x .claimants; exclusives = x .exclusives };
-        logs = sets (replicate 2048 9) (128 * s) (x .words);
+        logs = replicate (128 * s) 9 ++ (x .words ++ replicate (2048 - (128 * s + length (x .words))) 9);
       };
       sessions = record { records = set (replicate 16 (session 3 9 1)) s (x .mine) };
     }
@@ -167,7 +166,7 @@ unfoldable pub refusals : List Case
 refusals =
     -- 1: session above 15, of each call
     refused (empty 1) (Begin 16) 1 ∷ refused (empty 1) (Read 16 0) 1 ∷ refused (empty 1) (Write 16 0 1) 1 ∷ refused (empty 1) (Seal 16) 1
-    ∷ refused (empty 1) (Advance 16) 1 ∷ refused (empty 1) (Abandon 16) 1 ∷ refused (empty 1) (Peek 255 0) 1
+    ∷ refused (empty 1) (Advance 16) 1 ∷ refused (empty 1) (Abandon 16) 1 ∷ refused (empty 1) (Peek 16 0) 1
     -- 2: the call does not fit the phase: the table `phases` has each call in each phase
     ∷ refused (writing 3) (Abandon 1) 2
     -- 3: cell not below n
