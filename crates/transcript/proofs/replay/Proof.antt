@@ -9,6 +9,9 @@ use Rattle.transcript.proofs.replay.Tie as tie
 returns : tie.Need-returns
 returns c = (short _ _ (c .if1 .taken), λ h. absurd (omega (arith, c .if1 .taken)))
 
+print-requires : tie.Need-print-requires
+print-requires c κs = search needs
+
 returns-2 : tie.Need-returns-2
 returns-2 c =
     let text = c .before .before .before .before .before .before .before .before .print .ensures in
@@ -19,4 +22,4 @@ replay-spec =
     tie.close
     (tie.spec
     returns (λ c. search needs) (λ c. search needs) (λ c. search needs) (λ c. search needs) (λ c. search needs) (λ c. search needs)
-    (λ c κs. search needs) (λ c. search needs) returns-2)
+    print-requires (λ c. search needs) returns-2)
