@@ -8,6 +8,7 @@ use Rattle.transcript.specs.declared.Printed.{Printed}
 use Rattle.transcript.specs.declared.Printed.the-variants.{Bytes, Short}
 use Rattle.transcript.specs.Transcript.{transcript}
 
+-- the answer, and the output afterwards
 pub record Replayed : Type 0 where
   pub answer : Printed
   pub output : List ℕ
