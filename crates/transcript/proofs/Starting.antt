@@ -2,24 +2,24 @@
 use Prim.Native.Nat.{ℕ, _+_, _≤_, _<_}
 use native.Mathlib.Omega.{arith}
 use mathlib.Core.Path.{_≡_, refl, sym, _∙_, ap}
-use mathlib.Core.Bool.{Bool, true, false, and-false}
+use mathlib.Core.Bool.{false, and-false}
 use mathlib.Core.List.{List, _++_}
 use lib.Dec.{leb}
 use lib.ListN.{length, take, drop, length-replicate, length-append}
 use lib.Seq.{sets, sets-eq, length-take-le}
-use borrow.Author.Tests.{le-leb, lt-leb, eq-eqb, ne-eqb, leb-true}
+use borrow.Author.Tests.{le-leb, lt-leb, eq-eqb, ne-eqb}
 use Rattle.model.specs.declared.Answer.{Answer}
 use Rattle.model.specs.declared.Sessions.{Sessions}
 use Rattle.model.specs.Buffers.{Store, size, lengthsFit, fresh}
 use Rattle.model.specs.Step.{number, Outcome, outcome, setUpAnswer, setUp, setUpTaken}
 use Rattle.model.proofs.Demand3.{set-up-fresh}
-use Rattle.model.proofs.Tools.{clash, both-l, both-r}
+use Rattle.model.proofs.Tools.{test}
 use Rattle.store.specs.Lent.{storeOf}
 use Rattle.transcript.specs.declared.Printed.{Printed}
 use Rattle.transcript.specs.declared.Printed.the-variants.{Bytes, Short}
 use Rattle.transcript.specs.Items.{Item, itemsAt, values, classes}
 use Rattle.transcript.specs.Lines.{sizeLine, setUpLine}
-use Rattle.transcript.specs.Replay.{longEnough, Replayed, replayed, replaying}
+use Rattle.transcript.specs.Replay.{Replayed, replayed, replaying}
 use Rattle.transcript.specs.Output.{Out, out, put, Leading, Fitted, Roomy}
 use Rattle.transcript.specs.Transcript.{given, callsText, afterSetUp, setUpText, itemsText, transcript}
 use Rattle.transcript.proofs.Puts.{ends-at}
@@ -105,47 +105,35 @@ fitted vs ks readers claimants exclusives logs n o h r =
       logged = length-take-le 2048 logs (r .logs);
     }
 
-pub roomy : (o v k r c e l : ℕ) → longEnough o v k r c e l ≡ true → Roomy o v k r c e l
-unfolding longEnough
-roomy o v k r c e l h =
-    let from-v = both-r (leb 409600 o) _ h in
-    let from-k = both-r (leb 1024 v) _ from-v in
-    let from-r = both-r (leb 1024 k) _ from-k in
-    let from-c = both-r (leb 1024 r) _ from-r in
-    let from-e = both-r (leb 1024 c) _ from-c in
-    record {
-      output = leb-true _ _ (both-l _ _ h);
-      values = leb-true _ _ (both-l _ _ from-v);
-      classes = leb-true _ _ (both-l _ _ from-k);
-      readers = leb-true _ _ (both-l _ _ from-r);
-      claimants = leb-true _ _ (both-l _ _ from-c);
-      exclusives = leb-true _ _ (both-l _ _ from-e);
-      logs = leb-true _ _ (both-r (leb 1024 e) _ from-e);
-    }
+-- ---- the whole answer
 
 -- the text at the front of an output that is long enough
-pub printed-text : (input o : List ℕ) {a : ℕ} {p : List ℕ} (b : Bool) → b ≡ true → a ≤ length o → out a p ≡ put o 0 (transcript input) → replayed (Bytes a) p ≡ replaying b input o
+pub printed-text : (input o : List ℕ) {a : ℕ} {p : List ℕ} → 409600 ≤ length o → a ≤ 409600 → out a p ≡ put o 0 (transcript input) → replayed (Bytes a) p ≡ replaying input o
 unfolding put replaying
-printed-text input o {a} {p} true t h e =
+printed-text input o {a} {p} h b e =
     let none : 0 + length (transcript input) ≡ length (transcript input) = omega arith in
     let place : a ≡ length (transcript input) = ends-at o 0 (transcript input) e ∙ none in
     let text : p ≡ sets o 0 (transcript input) = ap (λ (x : Out). x .output) e in
-    ap (λ (n : ℕ). replayed (Bytes n) p) place ∙ ap (replayed (Bytes (length (transcript input)))) (text ∙ sets-eq (transcript input) o 0 (omega arith) ∙ ap (λ (n : ℕ). transcript input ++ drop n o) none)
-printed-text input o false t h e = absurd (clash false t refl)
+    ap (λ (n : ℕ). replayed (Bytes n) p) place
+    ∙ ap (replayed (Bytes (length (transcript input)))) (text ∙ sets-eq (transcript input) o 0 (omega arith) ∙ ap (λ (n : ℕ). transcript input ++ drop n o) none)
+    ∙ rw (le-leb _ _ h)
 
--- too little lent
-pub short : (input o : List ℕ) (b : Bool) → b ≡ false → replayed Short o ≡ replaying b input o
+-- a shorter one
+pub short : (input o : List ℕ) → length o < 409600 → replayed Short o ≡ replaying input o
 unfolding replaying
-short input o b f = rw f
+short input o h = rw (lt-leb _ _ h)
 
 -- what was printed lies inside the output
-pub within : (b : Bool) (input o p : List ℕ) (r : Printed) (n : ℕ) → replayed r p ≡ replaying b input o → r ≡ Bytes n → n ≤ length p
+pub within : (input o p : List ℕ) (r : Printed) (n : ℕ) → replayed r p ≡ replaying input o → r ≡ Bytes n → n ≤ length p
 unfolding replaying
-within true input o p r n e h =
-    let text : p ≡ transcript input ++ drop (length (transcript input)) o = ap (λ (x : Replayed). x .output) e in
-    let said : r ≡ Bytes (length (transcript input)) = ap (λ (x : Replayed). x .answer) e in
+within input o p r n e h =
+    test (leb 409600 (length o))
+    (λ t.
+    let full : replayed r p ≡ replayed (Bytes (length (transcript input))) (transcript input ++ drop (length (transcript input)) o) = e ∙ simp t in
+    let said : r ≡ Bytes (length (transcript input)) = ap (λ (x : Replayed). x .answer) full in
     let many : n ≡ length (transcript input) = cc in
-    omega (arith, simp length-append at (ap length text))
-within false input o p r n e h =
-    let said : r ≡ Short = ap (λ (x : Replayed). x .answer) e in
-    absurd (let z : _≡_ {A = ℕ} 0 1 = cc in omega arith)
+    omega (arith, simp length-append at (ap (λ (x : Replayed). length (x .output)) full)))
+    (λ t.
+    let none : replayed r p ≡ replayed Short o = e ∙ simp t in
+    let said : r ≡ Short = ap (λ (x : Replayed). x .answer) none in
+    absurd (let z : _≡_ {A = ℕ} 0 1 = cc in omega arith))

@@ -1,4 +1,4 @@
--- What the inner functions leave: a text put into the output, one call with its line, the cells that were read, and what is lent to set-up.
+-- What the inner functions leave: a text put into the output, one call with its line, the cells that were read, and what is lent on to set-up.
 -- Nothing here is part of what `replay` promises.
 use Prim.Native.Nat.{ℕ, _+_, _≤_}
 use mathlib.Core.Path.{_≡_}
@@ -75,9 +75,9 @@ pub record Fitted (vs ks readers claimants exclusives logs : List ℕ) : Type 0 
   pub marked : length exclusives ≡ length vs
   pub logged : length logs ≡ 2048
 
--- ---- what is lent
+-- ---- the room for a whole text
 
--- `longEnough` as facts
+-- as much output, cells and log words as serve every input
 pub record Roomy (o v k r c e l : ℕ) : Type 0 where
   pub output : 409600 ≤ o
   pub values : 1024 ≤ v

@@ -1,16 +1,18 @@
--- Worked inputs with what the replay prints, byte by byte: the listing of document 01, "Call fields", and inputs that print `setup` and `field` lines.
+-- Worked inputs with what the replay prints, byte by byte (document 01, "Call fields"). A new row is written here and nowhere else: that the definitions
+-- print it is found by computation (proofs/Worked.antt: worked-print).
 use Prim.Native.Nat.{ℕ}
 use mathlib.Core.List.{List, [], _∷_}
+use lib.ListN.{replicate}
 use Rattle.transcript.specs.Transcript.{transcript}
 
--- an input, a row for each field, and its output, a row for each line
+-- an input, laid out by its fields, and its output, laid out by its lines
 pub record Worked : Type 0 where
   pub input : List ℕ
   pub output : List ℕ
 
--- two cells of class 2 with values 3 and 5, and thirteen calls of two sessions that write one cell
-unfoldable pub listing : Worked
-listing =
+unfoldable pub worked : List Worked
+worked =
+    -- document 01's listing: two cells of class 2 with values 3 and 5, and thirteen calls of two sessions that write one cell
     record {
       input =
           8 ∷ 5 ∷ 0 ∷ 2 ∷ 3 ∷ 0 ∷ 0 ∷ 0
@@ -45,32 +47,87 @@ listing =
           ∷ 99 ∷ 32 ∷ 48 ∷ 32 ∷ 52 ∷ 10
           ∷ 99 ∷ 32 ∷ 49 ∷ 32 ∷ 53 ∷ 10 ∷ [];
     }
-
--- a call before any cell: set-up is refused first, and nothing else is said
-unfoldable pub noCells : Worked
-noCells =
-    record {
+    -- an abandon: the session can begin again, and another session reads the starting value and finds no other reader
+    ∷ record {
+      input =
+          8 ∷ 5 ∷ 0 ∷ 2 ∷ 3 ∷ 0 ∷ 0 ∷ 0
+          ∷ 1 ∷ 1 ∷ 0 ∷ 0
+          ∷ 3 ∷ 7 ∷ 0 ∷ 0 ∷ 0 ∷ 0 ∷ 4 ∷ 0 ∷ 0 ∷ 0
+          ∷ 6 ∷ 1 ∷ 0 ∷ 0
+          ∷ 1 ∷ 1 ∷ 0 ∷ 0
+          ∷ 1 ∷ 1 ∷ 0 ∷ 1
+          ∷ 2 ∷ 3 ∷ 0 ∷ 1 ∷ 0 ∷ 0
+          ∷ 3 ∷ 7 ∷ 0 ∷ 1 ∷ 0 ∷ 0 ∷ 5 ∷ 0 ∷ 0 ∷ 0
+          ∷ 4 ∷ 1 ∷ 0 ∷ 1
+          ∷ 5 ∷ 1 ∷ 0 ∷ 1 ∷ [];
+      output =
+          49 ∷ 32 ∷ 49 ∷ 48 ∷ 48 ∷ 10
+          ∷ 50 ∷ 32 ∷ 49 ∷ 48 ∷ 48 ∷ 10
+          ∷ 51 ∷ 32 ∷ 49 ∷ 48 ∷ 48 ∷ 10
+          ∷ 52 ∷ 32 ∷ 49 ∷ 48 ∷ 48 ∷ 10
+          ∷ 53 ∷ 32 ∷ 49 ∷ 48 ∷ 48 ∷ 10
+          ∷ 54 ∷ 32 ∷ 49 ∷ 48 ∷ 49 ∷ 32 ∷ 51 ∷ 10
+          ∷ 55 ∷ 32 ∷ 49 ∷ 48 ∷ 48 ∷ 10
+          ∷ 56 ∷ 32 ∷ 49 ∷ 48 ∷ 50 ∷ 10
+          ∷ 57 ∷ 32 ∷ 49 ∷ 48 ∷ 51 ∷ 10
+          ∷ 99 ∷ 32 ∷ 48 ∷ 32 ∷ 51 ∷ 10 ∷ [];
+    }
+    -- values of one digit and of three
+    ∷ record {
+      input =
+          8 ∷ 5 ∷ 0 ∷ 15 ∷ 0 ∷ 0 ∷ 0 ∷ 0
+          ∷ 8 ∷ 5 ∷ 0 ∷ 15 ∷ 1 ∷ 2 ∷ 0 ∷ 0
+          ∷ 1 ∷ 1 ∷ 0 ∷ 0
+          ∷ 2 ∷ 3 ∷ 0 ∷ 0 ∷ 0 ∷ 0
+          ∷ 2 ∷ 3 ∷ 0 ∷ 0 ∷ 1 ∷ 0 ∷ [];
+      output =
+          49 ∷ 32 ∷ 49 ∷ 48 ∷ 48 ∷ 10
+          ∷ 50 ∷ 32 ∷ 49 ∷ 48 ∷ 49 ∷ 32 ∷ 48 ∷ 10
+          ∷ 51 ∷ 32 ∷ 49 ∷ 48 ∷ 49 ∷ 32 ∷ 53 ∷ 49 ∷ 51 ∷ 10
+          ∷ 99 ∷ 32 ∷ 48 ∷ 32 ∷ 48 ∷ 10
+          ∷ 99 ∷ 32 ∷ 49 ∷ 32 ∷ 53 ∷ 49 ∷ 51 ∷ 10 ∷ [];
+    }
+    -- refused calls: a second begin (2), a cell not below n (3), a value above its cap (4), a session above 15 (1)
+    ∷ record {
+      input =
+          8 ∷ 5 ∷ 0 ∷ 2 ∷ 3 ∷ 0 ∷ 0 ∷ 0
+          ∷ 1 ∷ 1 ∷ 0 ∷ 0
+          ∷ 1 ∷ 1 ∷ 0 ∷ 0
+          ∷ 2 ∷ 3 ∷ 0 ∷ 0 ∷ 1 ∷ 0
+          ∷ 3 ∷ 7 ∷ 0 ∷ 0 ∷ 0 ∷ 0 ∷ 9 ∷ 0 ∷ 0 ∷ 0
+          ∷ 1 ∷ 1 ∷ 0 ∷ 16 ∷ [];
+      output =
+          49 ∷ 32 ∷ 49 ∷ 48 ∷ 48 ∷ 10
+          ∷ 50 ∷ 32 ∷ 50 ∷ 10
+          ∷ 51 ∷ 32 ∷ 51 ∷ 10
+          ∷ 52 ∷ 32 ∷ 52 ∷ 10
+          ∷ 53 ∷ 32 ∷ 49 ∷ 10
+          ∷ 99 ∷ 32 ∷ 48 ∷ 32 ∷ 51 ∷ 10 ∷ [];
+    }
+    -- a call before any cell: set-up is refused first, and nothing else is said
+    ∷ record {
       input =
           1 ∷ 1 ∷ 0 ∷ 0 ∷ [];
       output =
           115 ∷ 101 ∷ 116 ∷ 117 ∷ 112 ∷ 32 ∷ 55 ∷ 10 ∷ [];
     }
-
--- a cell of class 0 with value 2, and a field cut short: set-up runs before the field is reported
-unfoldable pub overCap : Worked
-overCap =
-    record {
+    -- a cell of class 0 with value 2, and a field cut short: set-up runs before the field is reported
+    ∷ record {
       input =
           8 ∷ 5 ∷ 0 ∷ 0 ∷ 2 ∷ 0 ∷ 0 ∷ 0
           ∷ 1 ∷ [];
       output =
           115 ∷ 101 ∷ 116 ∷ 117 ∷ 112 ∷ 32 ∷ 56 ∷ 10 ∷ [];
     }
-
--- a starting cell after a call is no call
-unfoldable pub lateCell : Worked
-lateCell =
-    record {
+    -- a class above 15
+    ∷ record {
+      input =
+          8 ∷ 5 ∷ 0 ∷ 16 ∷ 0 ∷ 0 ∷ 0 ∷ 0 ∷ [];
+      output =
+          115 ∷ 101 ∷ 116 ∷ 117 ∷ 112 ∷ 32 ∷ 56 ∷ 10 ∷ [];
+    }
+    -- a starting cell after a call is no call
+    ∷ record {
       input =
           8 ∷ 5 ∷ 0 ∷ 14 ∷ 60 ∷ 0 ∷ 0 ∷ 0
           ∷ 1 ∷ 1 ∷ 0 ∷ 16
@@ -80,11 +137,38 @@ lateCell =
           ∷ 102 ∷ 105 ∷ 101 ∷ 108 ∷ 100 ∷ 32 ∷ 49 ∷ 50 ∷ 32 ∷ 49 ∷ 49 ∷ 10
           ∷ 99 ∷ 32 ∷ 48 ∷ 32 ∷ 54 ∷ 48 ∷ 10 ∷ [];
     }
-
--- a field cut short closes the cells and is reported after set-up
-unfoldable pub cutShort : Worked
-cutShort =
-    record {
+    -- a starting cell after calls ends them: the writer that was sealed before it is not advanced after it
+    ∷ record {
+      input =
+          8 ∷ 5 ∷ 0 ∷ 2 ∷ 3 ∷ 0 ∷ 0 ∷ 0
+          ∷ 1 ∷ 1 ∷ 0 ∷ 0
+          ∷ 3 ∷ 7 ∷ 0 ∷ 0 ∷ 0 ∷ 0 ∷ 4 ∷ 0 ∷ 0 ∷ 0
+          ∷ 4 ∷ 1 ∷ 0 ∷ 0
+          ∷ 8 ∷ 5 ∷ 0 ∷ 2 ∷ 5 ∷ 0 ∷ 0 ∷ 0
+          ∷ 5 ∷ 1 ∷ 0 ∷ 0
+          ∷ 5 ∷ 1 ∷ 0 ∷ 0
+          ∷ 5 ∷ 1 ∷ 0 ∷ 0 ∷ [];
+      output =
+          49 ∷ 32 ∷ 49 ∷ 48 ∷ 48 ∷ 10
+          ∷ 50 ∷ 32 ∷ 49 ∷ 48 ∷ 48 ∷ 10
+          ∷ 51 ∷ 32 ∷ 49 ∷ 48 ∷ 50 ∷ 10
+          ∷ 102 ∷ 105 ∷ 101 ∷ 108 ∷ 100 ∷ 32 ∷ 50 ∷ 54 ∷ 32 ∷ 49 ∷ 49 ∷ 10
+          ∷ 99 ∷ 32 ∷ 48 ∷ 32 ∷ 51 ∷ 10 ∷ [];
+    }
+    -- an unknown tag ends the calls
+    ∷ record {
+      input =
+          8 ∷ 5 ∷ 0 ∷ 2 ∷ 3 ∷ 0 ∷ 0 ∷ 0
+          ∷ 1 ∷ 1 ∷ 0 ∷ 0
+          ∷ 7 ∷ 1 ∷ 0 ∷ 0
+          ∷ 1 ∷ 1 ∷ 0 ∷ 1 ∷ [];
+      output =
+          49 ∷ 32 ∷ 49 ∷ 48 ∷ 48 ∷ 10
+          ∷ 102 ∷ 105 ∷ 101 ∷ 108 ∷ 100 ∷ 32 ∷ 49 ∷ 50 ∷ 32 ∷ 49 ∷ 49 ∷ 10
+          ∷ 99 ∷ 32 ∷ 48 ∷ 32 ∷ 51 ∷ 10 ∷ [];
+    }
+    -- a field cut short closes the cells and is reported after set-up
+    ∷ record {
       input =
           8 ∷ 5 ∷ 0 ∷ 2 ∷ 3 ∷ 0 ∷ 0 ∷ 0
           ∷ 1 ∷ 1 ∷ [];
@@ -92,11 +176,8 @@ cutShort =
           102 ∷ 105 ∷ 101 ∷ 108 ∷ 100 ∷ 32 ∷ 56 ∷ 32 ∷ 49 ∷ 48 ∷ 10
           ∷ 99 ∷ 32 ∷ 48 ∷ 32 ∷ 51 ∷ 10 ∷ [];
     }
-
--- a length not the tag's own ends the calls
-unfoldable pub wrongLength : Worked
-wrongLength =
-    record {
+    -- a length not the tag's own ends the calls
+    ∷ record {
       input =
           8 ∷ 5 ∷ 0 ∷ 2 ∷ 3 ∷ 0 ∷ 0 ∷ 0
           ∷ 1 ∷ 1 ∷ 0 ∷ 0
@@ -107,9 +188,27 @@ wrongLength =
           ∷ 102 ∷ 105 ∷ 101 ∷ 108 ∷ 100 ∷ 32 ∷ 49 ∷ 50 ∷ 32 ∷ 49 ∷ 50 ∷ 10
           ∷ 99 ∷ 32 ∷ 48 ∷ 32 ∷ 51 ∷ 10 ∷ [];
     }
-
-unfoldable pub worked : List Worked
-worked = listing ∷ noCells ∷ overCap ∷ lateCell ∷ cutShort ∷ wrongLength ∷ []
+    -- 65,536 bytes are taken: a cell, a call, and 65,524 bytes whose first is an unknown tag
+    ∷ record {
+      input =
+          8 ∷ 5 ∷ 0 ∷ 2 ∷ 3 ∷ 0 ∷ 0 ∷ 0
+          ∷ 1 ∷ 1 ∷ 0 ∷ 0
+          ∷ replicate 65524 0;
+      output =
+          49 ∷ 32 ∷ 49 ∷ 48 ∷ 48 ∷ 10
+          ∷ 102 ∷ 105 ∷ 101 ∷ 108 ∷ 100 ∷ 32 ∷ 49 ∷ 50 ∷ 32 ∷ 49 ∷ 49 ∷ 10
+          ∷ 99 ∷ 32 ∷ 48 ∷ 32 ∷ 51 ∷ 10 ∷ [];
+    }
+    -- one byte more is too many
+    ∷ record {
+      input =
+          8 ∷ 5 ∷ 0 ∷ 2 ∷ 3 ∷ 0 ∷ 0 ∷ 0
+          ∷ 1 ∷ 1 ∷ 0 ∷ 0
+          ∷ replicate 65525 0;
+      output =
+          115 ∷ 105 ∷ 122 ∷ 101 ∷ 10 ∷ [];
+    }
+    ∷ []
 
 -- a row with what the definition prints
 unfoldable pub replayed : Worked → Worked
