@@ -63,9 +63,12 @@ pub record Case : Type 0 where
 abbrev case : State → Call → ℕ → ℕ → State → Case
 case x k n v y = record { given = x; call = k; number = n; value = v; left = y }
 
--- turned down: the number, value 0, and all as before
+-- all as before; and turned down, with value 0
+abbrev unchanged : State → Call → ℕ → ℕ → Case
+unchanged x k n v = case x k n v x
+
 abbrev refused : State → Call → ℕ → Case
-refused x k n = case x k n 0 x
+refused x k n = unchanged x k n 0
 
 unfoldable pub actual : Case → Result
 actual r = let σ = storeWith (sessionOf (r .call)) (r .given) in result (reply (r .call) σ) (step (r .call) σ)
@@ -73,93 +76,86 @@ actual r = let σ = storeWith (sessionOf (r .call)) (r .given) in result (reply 
 unfoldable pub expected : Case → Result
 expected r = record { number = r .number; value = r .value; store = storeWith (sessionOf (r .call)) (r .left) }
 
--- two cells with values 3 and 5; a log with cell 0: found 8, present 4, and a fourth word
-abbrev two : List ℕ
-two = 3 ∷ 5 ∷ []
+-- one number for each of the two cells
+abbrev cells : ℕ → ℕ → List ℕ
+cells a b = a ∷ b ∷ []
 
-abbrev entry : ℕ → List ℕ
-entry fourth = 0 ∷ 8 ∷ 4 ∷ fourth ∷ []
-
--- an entry of a cell, with the value found, the present value and the fourth word, before others
-abbrev enters : ℕ → ℕ → ℕ → ℕ → List ℕ → List ℕ
-enters c f p w rest = c ∷ f ∷ p ∷ w ∷ rest
+-- an entry of the log: cell, value found, present value, fourth word
+abbrev entry : ℕ → ℕ → ℕ → ℕ → List ℕ
+entry c f p w = c ∷ f ∷ p ∷ w ∷ []
 
 unfoldable pub steps : List Case
 steps =
     -- begin: running, with count 0 and next 0, whatever an idle record's count is; log words stay
-    case (state (session 0 33 7) (entry 1) two (7 ∷ 6 ∷ []) (1 ∷ 9 ∷ []) (1 ∷ 0 ∷ [])) (Begin 1) 100 0
-    (state (session 1 0 0) (entry 1) two (7 ∷ 6 ∷ []) (1 ∷ 9 ∷ []) (1 ∷ 0 ∷ []))
-    ∷ case (state (session 0 0 0) [] two (0 ∷ 0 ∷ []) (16 ∷ 16 ∷ []) (0 ∷ 0 ∷ [])) (Begin 15) 100 0
-    (state (session 1 0 0) [] two (0 ∷ 0 ∷ []) (16 ∷ 16 ∷ []) (0 ∷ 0 ∷ []))
+    case (state (session 0 33 7) (entry 0 8 4 1) (cells 3 5) (cells 7 6) (cells 1 9) (cells 1 0)) (Begin 1) 100 0
+    (state (session 1 0 0) (entry 0 8 4 1) (cells 3 5) (cells 7 6) (cells 1 9) (cells 1 0))
+    ∷ case (state (session 0 0 0) [] (cells 3 5) (cells 0 0) (cells 16 16) (cells 0 0)) (Begin 15) 100 0
+    (state (session 1 0 0) [] (cells 3 5) (cells 0 0) (cells 16 16) (cells 0 0))
     -- read of a cell in the log: its present value, though the lock is claimed; of two entries the first counts
-    ∷ case (state (session 1 1 7) (entry 2) two (7 ∷ 6 ∷ []) (9 ∷ 16 ∷ []) (1 ∷ 0 ∷ [])) (Read 1 0) 101 4
-    (state (session 1 1 7) (entry 2) two (7 ∷ 6 ∷ []) (9 ∷ 16 ∷ []) (1 ∷ 0 ∷ []))
-    ∷ case (state (session 1 2 0) (enters 0 3 4 6 (enters 0 3 6 7 [])) two (1 ∷ 0 ∷ []) (16 ∷ 16 ∷ []) (0 ∷ 0 ∷ [])) (Read 0 0) 101 4
-    (state (session 1 2 0) (enters 0 3 4 6 (enters 0 3 6 7 [])) two (1 ∷ 0 ∷ []) (16 ∷ 16 ∷ []) (0 ∷ 0 ∷ []))
+    ∷ unchanged (state (session 1 1 7) (entry 0 8 4 2) (cells 3 5) (cells 7 6) (cells 9 16) (cells 1 0)) (Read 1 0) 101 4
+    ∷ unchanged (state (session 1 2 0) (entry 0 3 4 6 ++ entry 0 3 6 7) (cells 3 5) (cells 1 0) (cells 16 16) (cells 0 0)) (Read 0 0) 101 4
     -- read of a new cell: among the readers, and entered with the store's value, not written; also as the 32nd entry
-    ∷ case (state (session 1 1 7) (entry 3) two (7 ∷ 4 ∷ []) (9 ∷ 16 ∷ []) (1 ∷ 1 ∷ [])) (Read 1 1) 101 5
-    (state (session 1 2 7) (entry 3 ++ enters 1 5 5 0 []) two (7 ∷ 6 ∷ []) (9 ∷ 16 ∷ []) (1 ∷ 1 ∷ []))
-    ∷ case (state (session 1 31 0) (replicate 124 0) two (0 ∷ 0 ∷ []) (16 ∷ 16 ∷ []) (0 ∷ 0 ∷ [])) (Read 1 1) 101 5
-    (state (session 1 32 0) (replicate 124 0 ++ enters 1 5 5 0 []) two (0 ∷ 2 ∷ []) (16 ∷ 16 ∷ []) (0 ∷ 0 ∷ []))
+    ∷ case (state (session 1 1 7) (entry 0 8 4 3) (cells 3 5) (cells 7 4) (cells 9 16) (cells 1 1)) (Read 1 1) 101 5
+    (state (session 1 2 7) (entry 0 8 4 3 ++ entry 1 5 5 0) (cells 3 5) (cells 7 6) (cells 9 16) (cells 1 1))
+    ∷ case (state (session 1 31 0) (replicate 124 0) (cells 3 5) (cells 0 0) (cells 16 16) (cells 0 0)) (Read 1 1) 101 5
+    (state (session 1 32 0) (replicate 124 0 ++ entry 1 5 5 0) (cells 3 5) (cells 0 2) (cells 16 16) (cells 0 0))
     -- write of a cell in the log: present and written, the value found stays, though the lock is claimed; of two entries the first
-    ∷ case (state (session 1 1 7) (entry 2) two (5 ∷ 4 ∷ []) (200 ∷ 16 ∷ []) (1 ∷ 0 ∷ [])) (Write 1 0 6) 100 0
-    (state (session 1 1 7) (enters 0 8 6 1 []) two (5 ∷ 4 ∷ []) (200 ∷ 16 ∷ []) (1 ∷ 0 ∷ []))
-    ∷ case (state (session 1 2 0) (enters 0 3 4 0 (enters 0 3 5 0 [])) two (1 ∷ 0 ∷ []) (16 ∷ 16 ∷ []) (0 ∷ 0 ∷ [])) (Write 0 0 8) 100 0
-    (state (session 1 2 0) (enters 0 3 8 1 (enters 0 3 5 0 [])) two (1 ∷ 0 ∷ []) (16 ∷ 16 ∷ []) (0 ∷ 0 ∷ []))
+    ∷ case (state (session 1 1 7) (entry 0 8 4 2) (cells 3 5) (cells 5 4) (cells 200 16) (cells 1 0)) (Write 1 0 6) 100 0
+    (state (session 1 1 7) (entry 0 8 6 1) (cells 3 5) (cells 5 4) (cells 200 16) (cells 1 0))
+    ∷ case (state (session 1 2 0) (entry 0 3 4 0 ++ entry 0 3 5 0) (cells 3 5) (cells 1 0) (cells 16 16) (cells 0 0)) (Write 0 0 8) 100 0
+    (state (session 1 2 0) (entry 0 3 8 1 ++ entry 0 3 5 0) (cells 3 5) (cells 1 0) (cells 16 16) (cells 0 0))
     -- write of a new cell: locked and entered as by read, then written; an equal value is written too
-    ∷ case (state (session 1 0 7) [] two (5 ∷ 4 ∷ []) (16 ∷ 16 ∷ []) (1 ∷ 1 ∷ [])) (Write 1 0 6) 100 0
-    (state (session 1 1 7) (enters 0 3 6 1 []) two (7 ∷ 4 ∷ []) (16 ∷ 16 ∷ []) (1 ∷ 1 ∷ []))
-    ∷ case (state (session 1 0 0) [] two (0 ∷ 0 ∷ []) (16 ∷ 16 ∷ []) (0 ∷ 0 ∷ [])) (Write 2 0 3) 100 0
-    (state (session 1 1 0) (enters 0 3 3 1 []) two (4 ∷ 0 ∷ []) (16 ∷ 16 ∷ []) (0 ∷ 0 ∷ []))
+    ∷ case (state (session 1 0 7) [] (cells 3 5) (cells 5 4) (cells 16 16) (cells 1 1)) (Write 1 0 6) 100 0
+    (state (session 1 1 7) (entry 0 3 6 1) (cells 3 5) (cells 7 4) (cells 16 16) (cells 1 1))
+    ∷ case (state (session 1 0 0) [] (cells 3 5) (cells 0 0) (cells 16 16) (cells 0 0)) (Write 2 0 3) 100 0
+    (state (session 1 1 0) (entry 0 3 3 1) (cells 3 5) (cells 4 0) (cells 16 16) (cells 0 0))
     -- seal with nothing written: off the readers of every cell entered, idle; claims, marks and log words stay
-    ∷ case (state (session 1 2 7) (entry 2 ++ enters 1 5 6 0 []) two (7 ∷ 6 ∷ []) (1 ∷ 9 ∷ []) (1 ∷ 1 ∷ [])) (Seal 1) 105 0
-    (state (session 0 0 0) (entry 2 ++ enters 1 5 6 0 []) two (5 ∷ 4 ∷ []) (1 ∷ 9 ∷ []) (1 ∷ 1 ∷ []))
-    ∷ case (state (session 1 2 0) (enters 0 3 4 6 (enters 0 3 5 7 [])) two (1 ∷ 1 ∷ []) (16 ∷ 16 ∷ []) (0 ∷ 0 ∷ [])) (Seal 0) 105 0
-    (state (session 0 0 0) (enters 0 3 4 6 (enters 0 3 5 7 [])) two (0 ∷ 1 ∷ []) (16 ∷ 16 ∷ []) (0 ∷ 0 ∷ []))
+    ∷ case (state (session 1 2 7) (entry 0 8 4 2 ++ entry 1 5 6 0) (cells 3 5) (cells 7 6) (cells 1 9) (cells 1 1)) (Seal 1) 105 0
+    (state (session 0 0 0) (entry 0 8 4 2 ++ entry 1 5 6 0) (cells 3 5) (cells 5 4) (cells 1 9) (cells 1 1))
+    ∷ case (state (session 1 2 0) (entry 0 3 4 6 ++ entry 0 3 5 7) (cells 3 5) (cells 1 1) (cells 16 16) (cells 0 0)) (Seal 0) 105 0
+    (state (session 0 0 0) (entry 0 3 4 6 ++ entry 0 3 5 7) (cells 3 5) (cells 0 1) (cells 16 16) (cells 0 0))
     -- seal with a cell written: off the readers of the others; phase 2, next 0
-    ∷ case (state (session 1 2 7) (entry 2 ++ enters 1 5 6 3 []) two (7 ∷ 6 ∷ []) (1 ∷ 9 ∷ []) (1 ∷ 1 ∷ [])) (Seal 1) 102 0
-    (state (session 2 2 0) (entry 2 ++ enters 1 5 6 3 []) two (5 ∷ 6 ∷ []) (1 ∷ 9 ∷ []) (1 ∷ 1 ∷ []))
-    ∷ case (state (session 1 2 0) (enters 0 3 4 7 (enters 0 3 5 6 [])) two (1 ∷ 1 ∷ []) (16 ∷ 16 ∷ []) (0 ∷ 0 ∷ [])) (Seal 0) 102 0
-    (state (session 2 2 0) (enters 0 3 4 7 (enters 0 3 5 6 [])) two (1 ∷ 1 ∷ []) (16 ∷ 16 ∷ []) (0 ∷ 0 ∷ []))
+    ∷ case (state (session 1 2 7) (entry 0 8 4 2 ++ entry 1 5 6 3) (cells 3 5) (cells 7 6) (cells 1 9) (cells 1 1)) (Seal 1) 102 0
+    (state (session 2 2 0) (entry 0 8 4 2 ++ entry 1 5 6 3) (cells 3 5) (cells 5 6) (cells 1 9) (cells 1 1))
+    ∷ case (state (session 1 2 0) (entry 0 3 4 7 ++ entry 0 3 5 6) (cells 3 5) (cells 1 1) (cells 16 16) (cells 0 0)) (Seal 0) 102 0
+    (state (session 2 2 0) (entry 0 3 4 7 ++ entry 0 3 5 6) (cells 3 5) (cells 1 1) (cells 16 16) (cells 0 0))
     -- advance, phase 2: claimant, and waiting while anybody else reads, the own bit left aside; next, mark and readers stay
-    ∷ case (state (session 2 1 0) (entry 1) two (6 ∷ 6 ∷ []) (16 ∷ 9 ∷ []) (0 ∷ 1 ∷ [])) (Advance 1) 104 0
-    (state (session 2 1 0) (entry 1) two (6 ∷ 6 ∷ []) (1 ∷ 9 ∷ []) (0 ∷ 1 ∷ []))
-    ∷ case (state (session 2 1 0) (entry 1) two (4 ∷ 6 ∷ []) (1 ∷ 9 ∷ []) (1 ∷ 1 ∷ [])) (Advance 1) 104 0
-    (state (session 2 1 0) (entry 1) two (4 ∷ 6 ∷ []) (1 ∷ 9 ∷ []) (1 ∷ 1 ∷ []))
+    ∷ case (state (session 2 1 0) (entry 0 8 4 1) (cells 3 5) (cells 6 6) (cells 16 9) (cells 0 1)) (Advance 1) 104 0
+    (state (session 2 1 0) (entry 0 8 4 1) (cells 3 5) (cells 6 6) (cells 1 9) (cells 0 1))
+    ∷ unchanged (state (session 2 1 0) (entry 0 8 4 1) (cells 3 5) (cells 4 6) (cells 1 9) (cells 1 1)) (Advance 1) 104 0
     -- promoted: claimant with mark 1; the lowest cell first, next one above it; after the last phase 3, next 0
-    ∷ case (state (session 2 2 0) (enters 1 5 6 1 (entry 1)) two (2 ∷ 6 ∷ []) (16 ∷ 9 ∷ []) (0 ∷ 0 ∷ [])) (Advance 1) 103 0
-    (state (session 2 2 1) (enters 1 5 6 1 (entry 1)) two (2 ∷ 6 ∷ []) (1 ∷ 9 ∷ []) (1 ∷ 0 ∷ []))
-    ∷ case (state (session 2 2 1) (enters 1 5 6 1 (entry 1)) two (2 ∷ 0 ∷ []) (1 ∷ 1 ∷ []) (1 ∷ 0 ∷ [])) (Advance 1) 103 0
-    (state (session 3 2 0) (enters 1 5 6 1 (entry 1)) two (2 ∷ 0 ∷ []) (1 ∷ 1 ∷ []) (1 ∷ 1 ∷ []))
+    ∷ case (state (session 2 2 0) (entry 1 5 6 1 ++ entry 0 8 4 1) (cells 3 5) (cells 2 6) (cells 16 9) (cells 0 0)) (Advance 1) 103 0
+    (state (session 2 2 1) (entry 1 5 6 1 ++ entry 0 8 4 1) (cells 3 5) (cells 2 6) (cells 1 9) (cells 1 0))
+    ∷ case (state (session 2 2 1) (entry 1 5 6 1 ++ entry 0 8 4 1) (cells 3 5) (cells 2 0) (cells 1 1) (cells 1 0)) (Advance 1) 103 0
+    (state (session 3 2 0) (entry 1 5 6 1 ++ entry 0 8 4 1) (cells 3 5) (cells 2 0) (cells 1 1) (cells 1 1))
     -- published: the present value of the cell's first entry, whatever the cap; after the last phase 4, next 0
-    ∷ case (state (session 3 2 0) (entry 1 ++ enters 1 5 6 1 []) two (2 ∷ 2 ∷ []) (1 ∷ 1 ∷ []) (1 ∷ 1 ∷ [])) (Advance 1) 103 0
-    (state (session 3 2 1) (entry 1 ++ enters 1 5 6 1 []) (4 ∷ 5 ∷ []) (2 ∷ 2 ∷ []) (1 ∷ 1 ∷ []) (1 ∷ 1 ∷ []))
-    ∷ case (state (session 3 2 1) (enters 1 5 60 1 (enters 1 5 7 1 [])) two (0 ∷ 4 ∷ []) (16 ∷ 9 ∷ []) (1 ∷ 1 ∷ [])) (Advance 1) 103 0
-    (state (session 4 2 0) (enters 1 5 60 1 (enters 1 5 7 1 [])) (3 ∷ 60 ∷ []) (0 ∷ 4 ∷ []) (16 ∷ 9 ∷ []) (1 ∷ 1 ∷ []))
+    ∷ case (state (session 3 2 0) (entry 0 8 4 1 ++ entry 1 5 6 1) (cells 3 5) (cells 2 2) (cells 1 1) (cells 1 1)) (Advance 1) 103 0
+    (state (session 3 2 1) (entry 0 8 4 1 ++ entry 1 5 6 1) (cells 4 5) (cells 2 2) (cells 1 1) (cells 1 1))
+    ∷ case (state (session 3 2 1) (entry 1 5 60 1 ++ entry 1 5 7 1) (cells 3 5) (cells 0 4) (cells 16 9) (cells 1 1)) (Advance 1) 103 0
+    (state (session 4 2 0) (entry 1 5 60 1 ++ entry 1 5 7 1) (cells 3 60) (cells 0 4) (cells 16 9) (cells 1 1))
     -- released: off the readers, claimant 16 whoever it was, mark 0; after the last idle, 105
-    ∷ case (state (session 4 2 0) (entry 1 ++ enters 1 5 6 1 []) two (7 ∷ 7 ∷ []) (1 ∷ 1 ∷ []) (1 ∷ 1 ∷ [])) (Advance 1) 103 0
-    (state (session 4 2 1) (entry 1 ++ enters 1 5 6 1 []) two (5 ∷ 7 ∷ []) (16 ∷ 1 ∷ []) (0 ∷ 1 ∷ []))
-    ∷ case (state (session 4 1 0) (entry 1) two (7 ∷ 7 ∷ []) (9 ∷ 9 ∷ []) (1 ∷ 1 ∷ [])) (Advance 1) 105 0
-    (state (session 0 0 0) (entry 1) two (5 ∷ 7 ∷ []) (16 ∷ 9 ∷ []) (0 ∷ 1 ∷ []))
+    ∷ case (state (session 4 2 0) (entry 0 8 4 1 ++ entry 1 5 6 1) (cells 3 5) (cells 7 7) (cells 1 1) (cells 1 1)) (Advance 1) 103 0
+    (state (session 4 2 1) (entry 0 8 4 1 ++ entry 1 5 6 1) (cells 3 5) (cells 5 7) (cells 16 1) (cells 0 1))
+    ∷ case (state (session 4 1 0) (entry 0 8 4 1) (cells 3 5) (cells 7 7) (cells 9 9) (cells 1 1)) (Advance 1) 105 0
+    (state (session 0 0 0) (entry 0 8 4 1) (cells 3 5) (cells 5 7) (cells 16 9) (cells 0 1))
     -- abandon, phases 1 and 2: off the readers of each entry's cell, its own claims and their marks gone, idle; log words stay
-    ∷ case (state (session 1 2 7) (entry 0 ++ enters 1 5 6 1 []) two (7 ∷ 7 ∷ []) (1 ∷ 9 ∷ []) (1 ∷ 1 ∷ [])) (Abandon 1) 100 0
-    (state (session 0 0 0) (entry 0 ++ enters 1 5 6 1 []) two (5 ∷ 5 ∷ []) (16 ∷ 9 ∷ []) (0 ∷ 1 ∷ []))
-    ∷ case (state (session 2 1 0) (entry 1) two (7 ∷ 7 ∷ []) (1 ∷ 1 ∷ []) (1 ∷ 1 ∷ [])) (Abandon 1) 100 0
-    (state (session 0 0 0) (entry 1) two (5 ∷ 7 ∷ []) (16 ∷ 1 ∷ []) (0 ∷ 1 ∷ []))
+    ∷ case (state (session 1 2 7) (entry 0 8 4 0 ++ entry 1 5 6 1) (cells 3 5) (cells 7 7) (cells 1 9) (cells 1 1)) (Abandon 1) 100 0
+    (state (session 0 0 0) (entry 0 8 4 0 ++ entry 1 5 6 1) (cells 3 5) (cells 5 5) (cells 16 9) (cells 0 1))
+    ∷ case (state (session 2 1 0) (entry 0 8 4 1) (cells 3 5) (cells 7 7) (cells 1 1) (cells 1 1)) (Abandon 1) 100 0
+    (state (session 0 0 0) (entry 0 8 4 1) (cells 3 5) (cells 5 7) (cells 16 1) (cells 0 1))
     -- peek's twin: nothing changes
-    ∷ case (state (session 1 1 7) (entry 1) two (7 ∷ 6 ∷ []) (9 ∷ 9 ∷ []) (1 ∷ 1 ∷ [])) (Peek 1 0) 100 0
-    (state (session 1 1 7) (entry 1) two (7 ∷ 6 ∷ []) (9 ∷ 9 ∷ []) (1 ∷ 1 ∷ []))
+    ∷ unchanged (state (session 1 1 7) (entry 0 8 4 1) (cells 3 5) (cells 7 6) (cells 9 9) (cells 1 1)) (Peek 1 0) 100 0
     ∷ []
 
--- a session in a phase, with nothing entered; with cell 0 written; with 32 entries, all of cell 0
+-- a session in a phase, with nothing entered; with cell 0 written; with 32 entries, all of cell 0, and a claimant of cell 1
 abbrev empty : ℕ → State
-empty p = state (session p 0 0) [] two (7 ∷ 6 ∷ []) (16 ∷ 16 ∷ []) (1 ∷ 1 ∷ [])
+empty p = state (session p 0 0) [] (cells 3 5) (cells 7 6) (cells 16 16) (cells 1 1)
 
 abbrev writing : ℕ → State
-writing p = state (session p 1 0) (entry 1) two (2 ∷ 2 ∷ []) (16 ∷ 16 ∷ []) (0 ∷ 0 ∷ [])
+writing p = state (session p 1 0) (entry 0 8 4 1) (cells 3 5) (cells 2 2) (cells 16 16) (cells 0 0)
 
 abbrev full : ℕ → State
-full claimant = state (session 1 32 0) (replicate 128 0) two (7 ∷ 6 ∷ []) (16 ∷ claimant ∷ []) (1 ∷ 1 ∷ [])
+full claimant = state (session 1 32 0) (replicate 128 0) (cells 3 5) (cells 7 6) (cells 16 claimant) (cells 1 1)
 
 -- the table of refusals, in the order of its numbers; 7 and set-up's 8 are below, 10 to 13 are the fields'
 unfoldable pub refusals : List Case
@@ -175,19 +171,19 @@ refusals =
     ∷ refused (empty 1) (Write 1 0 9) 4 ∷ refused (writing 1) (Write 1 0 9) 4
     -- 5: a new cell with 32 entries
     ∷ refused (full 16) (Read 1 1) 5
-    ∷ refused (state (session 1 32 0) (replicate 124 1 ++ enters 1 5 5 0 []) two (7 ∷ 6 ∷ []) (16 ∷ 16 ∷ []) (1 ∷ 1 ∷ [])) (Write 1 0 1) 5
+    ∷ refused (state (session 1 32 0) (replicate 124 1 ++ entry 1 5 5 0) (cells 3 5) (cells 7 6) (cells 16 16) (cells 1 1)) (Write 1 0 1) 5
     -- 6: lock claimed, on read and write by anyone, on advance by another; rolled back: own claims and their marks alone are gone
-    ∷ case (state (session 1 1 7) (entry 0) two (7 ∷ 7 ∷ []) (1 ∷ 1 ∷ []) (1 ∷ 1 ∷ [])) (Read 1 1) 6 0
-    (state (session 0 0 0) (entry 0) two (5 ∷ 7 ∷ []) (16 ∷ 1 ∷ []) (0 ∷ 1 ∷ []))
-    ∷ case (state (session 1 1 7) (enters 1 5 6 1 []) two (7 ∷ 7 ∷ []) (200 ∷ 9 ∷ []) (1 ∷ 1 ∷ [])) (Write 1 0 4) 6 0
-    (state (session 0 0 0) (enters 1 5 6 1 []) two (7 ∷ 5 ∷ []) (200 ∷ 9 ∷ []) (1 ∷ 1 ∷ []))
-    ∷ case (state (session 2 2 1) (entry 1 ++ enters 1 5 6 1 []) two (7 ∷ 2 ∷ []) (1 ∷ 200 ∷ []) (1 ∷ 1 ∷ [])) (Advance 1) 6 0
-    (state (session 0 0 0) (entry 1 ++ enters 1 5 6 1 []) two (5 ∷ 0 ∷ []) (16 ∷ 200 ∷ []) (0 ∷ 1 ∷ []))
+    ∷ case (state (session 1 1 7) (entry 0 8 4 0) (cells 3 5) (cells 7 7) (cells 1 1) (cells 1 1)) (Read 1 1) 6 0
+    (state (session 0 0 0) (entry 0 8 4 0) (cells 3 5) (cells 5 7) (cells 16 1) (cells 0 1))
+    ∷ case (state (session 1 1 7) (entry 1 5 6 1) (cells 3 5) (cells 7 7) (cells 200 9) (cells 1 1)) (Write 1 0 4) 6 0
+    (state (session 0 0 0) (entry 1 5 6 1) (cells 3 5) (cells 7 5) (cells 200 9) (cells 1 1))
+    ∷ case (state (session 2 2 1) (entry 0 8 4 1 ++ entry 1 5 6 1) (cells 3 5) (cells 7 2) (cells 1 200) (cells 1 1)) (Advance 1) 6 0
+    (state (session 0 0 0) (entry 0 8 4 1 ++ entry 1 5 6 1) (cells 3 5) (cells 5 0) (cells 16 200) (cells 0 1))
     -- 8: the class byte of a written cell above 15
     ∷ refused (empty 1) (Write 1 1 0) 8
     -- 9: the table `damaged` has each cause in each phase
-    ∷ refused (state (session 5 1 0) (entry 1) two (7 ∷ 7 ∷ []) (1 ∷ 1 ∷ []) (1 ∷ 1 ∷ [])) (Advance 1) 9
-    ∷ refused (state (session 255 0 0) [] two (7 ∷ 7 ∷ []) (1 ∷ 1 ∷ []) (1 ∷ 1 ∷ [])) (Begin 1) 9
+    ∷ refused (state (session 5 1 0) (entry 0 8 4 1) (cells 3 5) (cells 7 7) (cells 1 1) (cells 1 1)) (Advance 1) 9
+    ∷ refused (state (session 255 0 0) [] (cells 3 5) (cells 7 7) (cells 1 1) (cells 1 1)) (Begin 1) 9
     -- 14: peeked cell not in the log
     ∷ refused (writing 1) (Peek 1 1) 14
     ∷ []
@@ -196,18 +192,18 @@ refusals =
 unfoldable pub order : List Case
 order =
     -- 9 before 2; 2 before 3, before 8 and 4, before 14 and 5
-    refused (state (session 2 33 0) [] two (7 ∷ 6 ∷ []) (16 ∷ 16 ∷ []) (1 ∷ 1 ∷ [])) (Read 1 7) 9
+    refused (state (session 2 33 0) [] (cells 3 5) (cells 7 6) (cells 16 16) (cells 1 1)) (Read 1 7) 9
     ∷ refused (writing 2) (Read 1 7) 2 ∷ refused (writing 2) (Write 1 1 9) 2 ∷ refused (writing 2) (Write 1 0 9) 2 ∷ refused (writing 2) (Peek 1 1) 2
     -- 3 before 14 and before 5 (a cell that is not there has no class and no lock)
     ∷ refused (empty 1) (Peek 1 2) 3 ∷ refused (full 16) (Read 1 2) 3
     -- 8 before 4, before 5 and before 6; 4 before 5 and before 6
     ∷ refused (empty 1) (Write 1 1 4294967295) 8 ∷ refused (full 3) (Write 1 1 0) 8
-    ∷ refused (state (session 1 32 0) (replicate 124 1 ++ enters 1 5 5 0 []) two (7 ∷ 6 ∷ []) (3 ∷ 16 ∷ []) (1 ∷ 1 ∷ [])) (Write 1 0 9) 4
-    ∷ refused (state (session 1 0 0) [] two (7 ∷ 6 ∷ []) (3 ∷ 16 ∷ []) (1 ∷ 1 ∷ [])) (Write 1 0 9) 4
+    ∷ refused (state (session 1 32 0) (replicate 124 1 ++ entry 1 5 5 0) (cells 3 5) (cells 7 6) (cells 3 16) (cells 1 1)) (Write 1 0 9) 4
+    ∷ refused (state (session 1 0 0) [] (cells 3 5) (cells 7 6) (cells 3 16) (cells 1 1)) (Write 1 0 9) 4
     -- 5 before 6; a known cell is neither
     ∷ refused (full 3) (Read 1 1) 5
-    ∷ refused (state (session 1 32 0) (replicate 124 1 ++ enters 1 5 5 0 []) two (7 ∷ 6 ∷ []) (3 ∷ 16 ∷ []) (1 ∷ 1 ∷ [])) (Write 1 0 1) 5
-    ∷ case (full 3) (Read 1 0) 101 0 (full 3)
+    ∷ refused (state (session 1 32 0) (replicate 124 1 ++ entry 1 5 5 0) (cells 3 5) (cells 7 6) (cells 3 16) (cells 1 1)) (Write 1 0 1) 5
+    ∷ unchanged (full 3) (Read 1 0) 101 0
     ∷ []
 
 -- ---- what a call answers in phases 0 to 4, and 5, which is none
@@ -236,7 +232,7 @@ phases =
 
 -- a log of these words, with a count and a next cell
 abbrev logged : ℕ → ℕ → List ℕ → ℕ → State
-logged count next words p = state (session p count next) words two (0 ∷ 0 ∷ []) (16 ∷ 16 ∷ []) (0 ∷ 0 ∷ [])
+logged count next words p = state (session p count next) words (cells 3 5) (cells 0 0) (cells 16 16) (cells 0 0)
 
 -- refusal 9, by what begin answers: 100 in phase 0, which judges neither count nor log; 2 in the others where the record and the log pass
 unfoldable pub damaged : List Phased
@@ -244,15 +240,15 @@ damaged =
     -- a count above 32
     phased (logged 33 0 (replicate 132 1)) (Begin 1) (100 ∷ 9 ∷ 9 ∷ 9 ∷ 9 ∷ 9 ∷ [])
     -- an entered cell not below n, the first or the last of three; words past the count are not judged
-    ∷ phased (logged 3 0 (enters 2 5 6 1 (enters 1 5 6 1 (enters 0 5 6 1 [])))) (Begin 1) (100 ∷ 9 ∷ 9 ∷ 9 ∷ 9 ∷ 9 ∷ [])
-    ∷ phased (logged 3 0 (enters 0 5 6 1 (enters 1 5 6 1 (enters 2 5 6 1 [])))) (Begin 1) (100 ∷ 9 ∷ 9 ∷ 9 ∷ 9 ∷ 9 ∷ [])
-    ∷ phased (logged 2 0 (enters 0 5 6 1 (enters 1 5 6 1 (enters 2 5 6 1 [])))) (Begin 1) (100 ∷ 2 ∷ 2 ∷ 2 ∷ 2 ∷ 9 ∷ [])
+    ∷ phased (logged 3 0 (entry 2 5 6 1 ++ entry 1 5 6 1 ++ entry 0 5 6 1)) (Begin 1) (100 ∷ 9 ∷ 9 ∷ 9 ∷ 9 ∷ 9 ∷ [])
+    ∷ phased (logged 3 0 (entry 0 5 6 1 ++ entry 1 5 6 1 ++ entry 2 5 6 1)) (Begin 1) (100 ∷ 9 ∷ 9 ∷ 9 ∷ 9 ∷ 9 ∷ [])
+    ∷ phased (logged 2 0 (entry 0 5 6 1 ++ entry 1 5 6 1 ++ entry 2 5 6 1)) (Begin 1) (100 ∷ 2 ∷ 2 ∷ 2 ∷ 2 ∷ 9 ∷ [])
     -- in phases 2 to 4 no written cell at or above next: none there, none written, or the cell's first entry is not
-    ∷ phased (logged 1 0 (entry 1)) (Begin 1) (100 ∷ 2 ∷ 2 ∷ 2 ∷ 2 ∷ 9 ∷ [])
-    ∷ phased (logged 1 1 (entry 1)) (Begin 1) (100 ∷ 2 ∷ 9 ∷ 9 ∷ 9 ∷ 9 ∷ [])
-    ∷ phased (logged 1 0 (entry 2)) (Begin 1) (100 ∷ 2 ∷ 9 ∷ 9 ∷ 9 ∷ 9 ∷ [])
-    ∷ phased (logged 2 0 (enters 0 5 6 0 (enters 0 5 6 1 []))) (Begin 1) (100 ∷ 2 ∷ 9 ∷ 9 ∷ 9 ∷ 9 ∷ [])
-    ∷ phased (logged 0 0 (entry 1)) (Begin 1) (100 ∷ 2 ∷ 9 ∷ 9 ∷ 9 ∷ 9 ∷ [])
+    ∷ phased (logged 1 0 (entry 0 8 4 1)) (Begin 1) (100 ∷ 2 ∷ 2 ∷ 2 ∷ 2 ∷ 9 ∷ [])
+    ∷ phased (logged 1 1 (entry 0 8 4 1)) (Begin 1) (100 ∷ 2 ∷ 9 ∷ 9 ∷ 9 ∷ 9 ∷ [])
+    ∷ phased (logged 1 0 (entry 0 8 4 2)) (Begin 1) (100 ∷ 2 ∷ 9 ∷ 9 ∷ 9 ∷ 9 ∷ [])
+    ∷ phased (logged 2 0 (entry 0 5 6 0 ++ entry 0 5 6 1)) (Begin 1) (100 ∷ 2 ∷ 9 ∷ 9 ∷ 9 ∷ 9 ∷ [])
+    ∷ phased (logged 0 0 (entry 0 8 4 1)) (Begin 1) (100 ∷ 2 ∷ 9 ∷ 9 ∷ 9 ∷ 9 ∷ [])
     ∷ []
 
 -- ---- the part that peek hands back
@@ -271,13 +267,13 @@ handed r = shown (sessionOf (r .call)) (planOf (r .call) (storeWith (sessionOf (
 unfoldable pub parts : List Peeked
 parts =
     -- the store's own word of an entry not written, the log's present word of a written one, in the session's own part; refused, no word
-    peeked (logged 2 0 (entry 6 ++ enters 1 5 6 1 []) 1) (Peek 1 0) (storeWord 0)
-    ∷ peeked (logged 2 0 (entry 6 ++ enters 1 5 6 1 []) 1) (Peek 1 1) (logWord 134)
-    ∷ peeked (logged 2 0 (entry 9 ++ enters 1 5 6 6 []) 1) (Peek 15 0) (logWord 1922)
-    ∷ peeked (logged 2 0 (entry 9 ++ enters 1 5 6 6 []) 1) (Peek 15 1) (storeWord 1)
-    ∷ peeked (logged 1 0 (entry 6 ++ enters 1 5 6 1 []) 1) (Peek 1 1) noWord
-    ∷ peeked (logged 2 0 (entry 6 ++ enters 1 5 6 1 []) 2) (Peek 1 1) noWord
-    ∷ peeked (logged 2 0 (entry 6 ++ enters 1 5 6 1 []) 1) (Peek 1 2) noWord
+    peeked (logged 2 0 (entry 0 8 4 6 ++ entry 1 5 6 1) 1) (Peek 1 0) (storeWord 0)
+    ∷ peeked (logged 2 0 (entry 0 8 4 6 ++ entry 1 5 6 1) 1) (Peek 1 1) (logWord 134)
+    ∷ peeked (logged 2 0 (entry 0 8 4 9 ++ entry 1 5 6 6) 1) (Peek 15 0) (logWord 1922)
+    ∷ peeked (logged 2 0 (entry 0 8 4 9 ++ entry 1 5 6 6) 1) (Peek 15 1) (storeWord 1)
+    ∷ peeked (logged 1 0 (entry 0 8 4 6 ++ entry 1 5 6 1) 1) (Peek 1 1) noWord
+    ∷ peeked (logged 2 0 (entry 0 8 4 6 ++ entry 1 5 6 1) 2) (Peek 1 1) noWord
+    ∷ peeked (logged 2 0 (entry 0 8 4 6 ++ entry 1 5 6 1) 1) (Peek 1 2) noWord
     ∷ []
 
 -- ---- set-up
