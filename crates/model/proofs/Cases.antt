@@ -1,11 +1,12 @@
--- Single calls answer and leave what the tables of specs/Cases.antt say, by computation over the step definitions.
+-- Single calls and set-up answer and leave what the tables of specs/Cases.antt and specs/SetUpCases.antt say, by computation over the step definitions.
 use Prim.Native.Nat.{ℕ, suc}
 use mathlib.Core.Path.{_≡_, refl}
 use mathlib.Core.List.{List, [], _∷_, map}
 use lib.ListN.{replicate}
 use Rattle.model.specs.Computing.{computing}
 use Rattle.model.specs.Step.{Part}
-use Rattle.model.specs.Cases.{storeWith, Result, Case, actual, expected, steps, refusals, order, Phased, answered, phases, damaged, Peeked, handed, parts, Lending, Started, startedBy, startsBy, lendings, Cap, judged, caps}
+use Rattle.model.specs.Cases.{storeWith, Result, Case, actual, expected, steps, refusals, order, Phased, answered, phases, damaged, Peeked, handed, parts}
+use Rattle.model.specs.SetUpCases.{Lending, Started, startedBy, startsBy, lendings, Cap, judged, caps}
 
 -- the answer, in numbers, and every lent word and record
 pub steps-hold : map {B = Result} actual steps ≡ map {B = Result} expected steps

@@ -8,4 +8,5 @@ pub mod Isolation
 pub mod Companions
 pub mod Orders
 pub mod Cases
+pub mod SetUpCases
 pub mod Histories
