@@ -29,7 +29,19 @@ EDITS = [
      "    if (lent->claimants[cell] != PLAIN_NOBODY) {\n", "    if (1) {\n"),
     ("104 before looking at the readers", REPLAY,
      "        if (lent->readers[cell] & ~(1u << session)) {", "        if (claimant == PLAIN_NOBODY || lent->readers[cell] & ~(1u << session)) {"),
-    ("everything published at the first promotion", REPLAY,
+    ("everything published at the first promotion, and phase 3 a pretence", REPLAY,
+     "        lent->exclusives[cell] = 1;\n    } else if (record->phase == PUBLISHING) {\n        lent->values[cell] = entry[CURRENT_VALUE];\n",
+     "        lent->exclusives[cell] = 1;\n"
+     "        const uint32_t *log = entry_at(lent, session, 0);\n"
+     "        for (uint32_t i = 0; record->next == 0 && i < record->count; i++) {\n"
+     "            const uint32_t *e = entry_at(lent, session, i);\n"
+     "            if (e[DIRTY] & 1 && is_first(log, i)) {\n"
+     "                lent->values[e[CELL]] = e[CURRENT_VALUE];\n"
+     "            }\n"
+     "        }\n"
+     "    } else if (record->phase == PUBLISHING) {\n"
+     "        ;\n"),
+    ("each value published with its promotion", REPLAY,
      "        lent->exclusives[cell] = 1;\n", "        lent->exclusives[cell] = 1;\n        lent->values[cell] = entry[CURRENT_VALUE];\n"),
     ("105 with values unpublished", REPLAY,
      "        lent->values[cell] = entry[CURRENT_VALUE];\n", "        ;\n"),

@@ -310,11 +310,11 @@ module _ (v w : RefT (List ℕ)) (k m : ℕ) (ss : Sessions) (s c : ℕ) (p : Pl
   log-there {i} h = peek-logged (σ (replicate k 0) (replicate m free)) s c p at-one i h
 
   pub gives-store : {i : ℕ} (γ : GName) → p ≡ ShowStore i → HandsBack v k m w ss s c (slPart v (bySize 4 c (v .ptr .1)) c (c + 1) γ)
-  gives-store {i} γ h cs L j q = hands-store (σ cs L) s c p (f (v .now) cs L refl j q) v w i h γ
+  gives-store {i} γ h cs L j q = hands-store (σ cs L) s c p (f (v .now) cs L refl j q) v w refl i h γ
 
   pub gives-log : {i : ℕ} (γ : GName) → p ≡ ShowLog i
       → HandsBack v k m w ss s c (slPart w (bySize 4 (128 * s + (4 * i + 2)) (w .ptr .1)) (128 * s + (4 * i + 2)) (128 * s + (4 * i + 2) + 1) γ)
-  gives-log {i} γ h cs L j q = hands-log (σ cs L) s c p (f (v .now) cs L refl j q) v w i h γ
+  gives-log {i} γ h cs L j q = hands-log (σ cs L) s c p (f (v .now) cs L refl j q) v w refl i h γ
 
   pub gives-nothing : Passed 14 p → Passed 15 p → (r : RefT (List ℕ)) → r .now ≡ [] → HandsBack v k m w ss s c r
   gives-nothing a b r n cs L j q = hands-nothing (σ cs L) s c p (f (v .now) cs L refl j q) v w a b r n

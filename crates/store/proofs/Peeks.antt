@@ -11,7 +11,7 @@ use borrow.Rule.Slice.Shared.{bySize}
 use base.Fml.{GName}
 use denote.Ref.{RefT}
 use lib.Dec.{T, ltb, eqb}
-use lib.ListN.{length, take, drop}
+use lib.ListN.{length, take, drop, length-take, length-drop}
 use Rattle.model.specs.Buffers.{Store, size, sessionAt, entryAt, slotIn, lengthsFit}
 use Rattle.model.specs.Step.{outcome, taken, planOf, recordOf, recordFits, guard, known, peekPlan, plan, shown}
 use Rattle.model.specs.declared.Call.the-variants.{Peek}
@@ -100,11 +100,16 @@ module _ {σ : Store} {s c : ℕ} {p : Plan} where
 
 -- ---- what each hands back and answers
 
--- one word from place i, as the code takes it, is the slice's own
-one : (v : RefT (List ℕ)) (i : ℕ) (γ : GName) → PartOf v i 1 (slPart v (bySize 4 i (v .ptr .1)) i (i + 1) γ)
-one v i γ =
+-- one word from a place i inside, as the code takes it, is the slice's own
+one : (v : RefT (List ℕ)) (i : ℕ) → i + 1 ≤ length (v .now) → (γ : GName) → PartOf v i 1 (slPart v (bySize 4 i (v .ptr .1)) i (i + 1) γ)
+one v i h γ =
     let e : i + 1 - i ≡ 1 = omega arith in
-    record { block = refl; offset = omega arith; words = ap (λ (n : ℕ). take n (drop i (v .now))) e }
+    record {
+      block = refl;
+      offset = omega arith;
+      words = ap (λ (n : ℕ). take n (drop i (v .now))) e;
+      long = simp (length-take, length-drop) (omega arith);
+    }
 
 -- the code's plan p
 module _ (σ : Store) (s c : ℕ) (p : Plan) (e : p ≡ planOf (Peek s c) σ) where
@@ -129,14 +134,14 @@ module _ (σ : Store) (s c : ℕ) (p : Plan) (e : p ≡ planOf (Peek s c) σ) wh
   peek-neither = of-neither way
 
   module _ (v logs : RefT (List ℕ)) where
-    pub hands-store : (k : ℕ) → p ≡ ShowStore k → (γ : GName) → Handed v logs (shown s (planOf (Peek s c) σ)) (slPart v (bySize 4 c (v .ptr .1)) c (c + 1) γ)
+    pub hands-store : σ .lent .values ≡ v .now → (k : ℕ) → p ≡ ShowStore k → (γ : GName) → Handed v logs (shown s (planOf (Peek s c) σ)) (slPart v (bySize 4 c (v .ptr .1)) c (c + 1) γ)
     unfolding shown
-    hands-store k f γ = rw (← e, of-store way k f) (one v c γ)
+    hands-store i k f γ = rw (← e, of-store way k f) (one v c (rw i at (peek-inside (ShowStore k) tt f)) γ)
 
-    pub hands-log : (k : ℕ) → p ≡ ShowLog k → (γ : GName)
+    pub hands-log : σ .lent .logs ≡ logs .now → (k : ℕ) → p ≡ ShowLog k → (γ : GName)
         → Handed v logs (shown s (planOf (Peek s c) σ)) (slPart logs (bySize 4 (128 * s + (4 * k + 2)) (logs .ptr .1)) (128 * s + (4 * k + 2)) (128 * s + (4 * k + 2) + 1) γ)
     unfolding shown
-    hands-log k f γ = rw (← e, f) (one logs (128 * s + (4 * k + 2)) γ)
+    hands-log i k f γ = rw (← e, f) (one logs (128 * s + (4 * k + 2)) (rw i at (peek-logged k f)) γ)
 
     pub hands-nothing : Passed 14 p → Passed 15 p → (r : RefT (List ℕ)) → r .now ≡ [] → Handed v logs (shown s (planOf (Peek s c) σ)) r
     unfolding shown

@@ -3,7 +3,7 @@ use mathlib.Core.Path.{_≡_}
 use mathlib.Core.Bool.{true}
 use Prim.Native.Nat.{ℕ, _+_, _*_, _≤_, _<_}
 use mathlib.Core.List.{List, []}
-use lib.ListN.{take, drop}
+use lib.ListN.{length, take, drop}
 use denote.Ref.{RefT}
 use Rattle.model.specs.Search.{below}
 use Rattle.model.specs.Buffers.{Store, size, sessionAt, cellAt, lengthsFit}
@@ -34,13 +34,14 @@ pub record Admitted (σ : Store) (s : ℕ) : Type 0 where
   pub count : sessionAt (σ .sessions) s .count ≤ 32
   pub cells : below (size (σ .lent)) (cellAt (σ .lent .logs) s) (sessionAt (σ .sessions) s .count) ≡ true
 
--- r is the part of s that is n words of 4 bytes from place i: the words themselves, and not a copy
+-- r is the part of s that is n words of 4 bytes from place i: the words themselves, and not a copy; none of the n is missing
 pub record PartOf (s : RefT (List ℕ)) (i n : ℕ) (r : RefT (List ℕ)) : Type 0 where
   pub block : r .ptr .0 ≡ s .ptr .0
   pub offset : r .ptr .1 ≡ s .ptr .1 + i * 4
   pub words : r .now ≡ take n (drop i (s .now))
+  pub long : length (r .now) ≡ n
 
--- what is handed back for a part: one word of the values, one word of the logs, or nothing
+-- what is handed back for a part: exactly one word of the values, exactly one word of the logs, or no word
 abbrev pub Handed : RefT (List ℕ) → RefT (List ℕ) → Part → RefT (List ℕ) → Type 0
 Handed values logs (storeWord i) r = PartOf values i 1 r
 Handed values logs (logWord i) r = PartOf logs i 1 r

@@ -9,13 +9,13 @@ part-result-end : tie.Need-part-result-end
 part-result-end c = peek-inside _ _ _ _ (c .before .before .peek-plan .ensures) _ tt (c .enum-told .given .1)
 
 returns : tie.Need-returns
-returns c = hands-store _ _ _ _ (c .before .before .before .peek-plan .ensures) _ _ _ (c .before .enum-told .given .1) _
+returns c = hands-store _ _ _ _ (c .before .before .before .peek-plan .ensures) _ _ refl _ (c .before .enum-told .given .1) _
 
 part-result-end-2 : tie.Need-part-result-end-2
 part-result-end-2 c = peek-logged _ _ _ _ (c .before .before .before .before .peek-plan .ensures) _ (c .before .p .given .1)
 
 returns-2 : tie.Need-returns-2
-returns-2 c = hands-log _ _ _ _ (c .before .before .before .before .before .peek-plan .ensures) _ _ _ (c .before .before .p .given .1) _
+returns-2 c = hands-log _ _ _ _ (c .before .before .before .before .before .peek-plan .ensures) _ _ refl _ (c .before .before .p .given .1) _
 
 returns-3 : tie.Need-returns-3
 returns-3 c = hands-nothing _ _ _ _ (c .before .before .before .peek-plan .ensures) _ _ (c .before .before .match .keys2) (c .before .match2 .keys2) _ refl
