@@ -17,7 +17,8 @@
  *   - no pointer is NULL, not even with a length of 0, and each is aligned for its type;
  *   - a buffer has as many elements as the length after it says;
  *   - what a call may write, a buffer that is not const and each of *number, *value and *index, overlaps nothing else that the call is lent;
- *   - nobody else writes what is lent while the call runs: whoever has several threads puts a lock around the calls. */
+ *   - while the call runs, nothing else writes what is lent, or reads what the call may write: whoever has several threads puts a lock around
+ *     the calls. */
 #ifndef RUKKANEI_STORE_H
 #define RUKKANEI_STORE_H
 
