@@ -1,6 +1,6 @@
 -- Laws of the tests, and one law for each way through a decision.
 use mathlib.Core.Path.{_≡_, refl, sym, ap, _∙_}
-use mathlib.Core.Bool.{Bool, true, false, not, _&&_}
+use mathlib.Core.Bool.{Bool, true, false, cond, not, _&&_}
 use mathlib.Core.Logic.{_⊎_, ⊎-elim}
 use mathlib.Core.Option.{Option, none, some}
 use mathlib.Core.List.{List}
@@ -13,7 +13,7 @@ use lib.ListN.{length, getD}
 use Rattle.model.specs.Search.{some?, below}
 use Rattle.model.specs.Readers.{otherReaders}
 use Rattle.model.specs.Buffers.{idle, moveTo, cellAt, entryAt, slotIn, targetIn, cap}
-use Rattle.model.specs.Step.{claimed, newCell, sealPlan, promotePlan}
+use Rattle.model.specs.Step.{claimed, newCell, sealPlan, promotePlan, known, entriesFit, recordFits, guard, readPlan, readOn, writeSlot, writePlan, writeOn, sealOn, peekPlan, peekOn}
 use Rattle.model.specs.declared.Session.{Session}
 use Rattle.model.specs.declared.Lock.{Lock}
 use Rattle.model.specs.declared.Answer.the-variants.{Moved, Committed}
@@ -22,7 +22,7 @@ use Rattle.model.specs.declared.Plan.the-variants.{Refuse, Tell, Enter, Update,
 use Rattle.model.proofs.Tools.{test, which, clash, both-l, both-r, and-false}
 use Rattle.log.specs.Slots.{found, slotOf, targetSlot}
 use Rattle.log.proofs.Targets.{written-first, slot-some, target-some}
-use Rattle.decide.specs.Own.{entriesOn, recordOn, tested, guardOn, readSlot, readOn, writeSlot, writeCapped, writeOn, sealOn, dueAt, dueOn, advanceOn, handledOn, peekSlot, peekOn}
+use Rattle.decide.specs.Own.{tested, dueAt, dueOn, advanceOn, handledOn}
 use Rattle.decide.specs.declared.Due.the-variants.{Refused, Slot}
 
 -- ---- places that a search answers
@@ -37,8 +37,8 @@ unfolding found
 found-nowhere m k o e h = sym (rw (le-ltb k m h) at e)
 
 -- the lowest written cell has a first entry
-pub target-slot : (log : List ℕ) (m from : ℕ) {c : ℕ} → targetIn log 0 m from ≡ some c
-    → (k : ℕ) × (slotIn log 0 m c ≡ some k) × (k < m) × (cellAt log 0 k ≡ c)
+pub target-slot : (log : List ℕ) (m from : ℕ) {c : ℕ} → targetIn log m from ≡ some c
+    → (k : ℕ) × (slotIn log m c ≡ some k) × (k < m) × (cellAt log k ≡ c)
 target-slot log m from {c} e =
     let k = written-first log m c (target-some log m from e .1) in
     let s = slot-some log m c (k .1) in
@@ -49,10 +49,10 @@ found-test : (m k : ℕ) → ltb k m ≡ some? (found m k)
 unfolding found
 found-test m k = test (ltb k m) (λ h. rw h) (λ h. rw h)
 
-pub target-there : (log : List ℕ) (m from k : ℕ) → found m k ≡ targetSlot log m from → ltb k m ≡ some? (targetIn log 0 m from)
+pub target-there : (log : List ℕ) (m from k : ℕ) → found m k ≡ targetSlot log m from → ltb k m ≡ some? (targetIn log m from)
 unfolding targetSlot slotOf
 target-there log m from k e =
-    found-test m k ∙ ap some? e ∙ which (targetIn log 0 m from) (λ p. rw p) (λ c p. rw (p, target-slot log m from p .1))
+    found-test m k ∙ ap some? e ∙ which (targetIn log m from) (λ p. rw p) (λ c p. rw (p, target-slot log m from p .1))
 
 -- a seal with a written cell, and with none
 seal-some : (o : Option ℕ) → some? o ≡ true → BeginPromotion ≡ sealPlan o
@@ -76,8 +76,8 @@ passes false true h = absurd (omega arith)
 passes false false h = absurd (omega arith)
 
 -- any other number is the plan's refusal, whatever the plan
-pub turned : (whole fit : Bool) (r : ℕ) (p : Plan) → r ≡ tested whole fit → (r ≡ 0 → ⊥) → Refuse r ≡ guardOn whole fit p
-unfolding tested guardOn
+pub turned : (whole fit : Bool) (r : ℕ) (p : Plan) → r ≡ tested whole fit → (r ≡ 0 → ⊥) → Refuse r ≡ cond whole (cond fit p (Refuse 2)) (Refuse 9)
+unfolding tested
 turned true true r p e h = absurd (h e)
 turned true false r p e h = ap Refuse e
 turned false true r p e h = ap Refuse e
@@ -86,39 +86,39 @@ turned false false r p e h = ap Refuse e
 -- a session's entries past phase 0: at most 32, each of a cell below n
 pub record Entries (n : ℕ) (log : List ℕ) (x : Session) : Type 0 where
   pub count : x .count ≤ 32
-  pub cells : below n (cellAt log 0) (x .count) ≡ true
+  pub cells : below n (cellAt log) (x .count) ≡ true
 
 module _ (n : ℕ) (log : List ℕ) (x : Session) where
-  pub entries-of : entriesOn n log x ≡ true → (x .phase ≡ 0 → ⊥) → Entries n log x
-  unfolding entriesOn
+  pub entries-of : entriesFit n log x ≡ true → (x .phase ≡ 0 → ⊥) → Entries n log x
+  unfolding entriesFit
   entries-of h ne =
-      let r : (leb (x .count) 32 && below n (cellAt log 0) (x .count)) ≡ true = rw (ne-eqb (x .phase) 0 ne) at (both-r (leb (x .phase) 4) _ h) in
+      let r : (leb (x .count) 32 && below n (cellAt log) (x .count)) ≡ true = rw (ne-eqb (x .phase) 0 ne) at (both-r (leb (x .phase) 4) _ h) in
       record { count = leb-true (x .count) 32 (both-l (leb (x .count) 32) _ r); cells = both-r (leb (x .count) 32) _ r }
 
-  pub record-entries : recordOn n log x ≡ true → (x .phase ≡ 0 → ⊥) → Entries n log x
-  unfolding recordOn
-  record-entries h ne = entries-of (both-l (entriesOn n log x) _ h) ne
+  pub record-entries : recordFits n log x ≡ true → (x .phase ≡ 0 → ⊥) → Entries n log x
+  unfolding recordFits
+  record-entries h ne = entries-of (both-l (entriesFit n log x) _ h) ne
 
-  pub entries-idle : x .phase ≡ 0 → true ≡ entriesOn n log x
-  unfolding entriesOn
+  pub entries-idle : x .phase ≡ 0 → true ≡ entriesFit n log x
+  unfolding entriesFit
   entries-idle e = simp (eq-eqb (x .phase) 0 e, le-leb (x .phase) 4 (omega arith))
 
-  pub entries-phase : 4 < x .phase → false ≡ entriesOn n log x
-  unfolding entriesOn
+  pub entries-phase : 4 < x .phase → false ≡ entriesFit n log x
+  unfolding entriesFit
   entries-phase h = simp (lt-leb (x .phase) 4 h)
 
-  pub entries-many : (x .phase ≡ 0 → ⊥) → 32 < x .count → false ≡ entriesOn n log x
-  unfolding entriesOn
+  pub entries-many : (x .phase ≡ 0 → ⊥) → 32 < x .count → false ≡ entriesFit n log x
+  unfolding entriesFit
   entries-many ne h = simp (ne-eqb (x .phase) 0 ne, lt-leb (x .count) 32 h, and-false)
 
-  pub entries-cells : (x .phase ≡ 0 → ⊥) → x .phase ≤ 4 → x .count ≤ 32 → (b : Bool) → b ≡ below n (cellAt log 0) (x .count) → b ≡ entriesOn n log x
-  unfolding entriesOn
+  pub entries-cells : (x .phase ≡ 0 → ⊥) → x .phase ≤ 4 → x .count ≤ 32 → (b : Bool) → b ≡ below n (cellAt log) (x .count) → b ≡ entriesFit n log x
+  unfolding entriesFit
   entries-cells ne p h b e = simp (ne-eqb (x .phase) 0 ne, le-leb (x .phase) 4 p, le-leb (x .count) 32 h, e)
 
   -- b is what the test of the entries answered
-  module _ (b : Bool) (e : b ≡ entriesOn n log x) where
-    pub record-odd : b ≡ false → false ≡ recordOn n log x
-    unfolding recordOn
+  module _ (b : Bool) (e : b ≡ entriesFit n log x) where
+    pub record-odd : b ≡ false → false ≡ recordFits n log x
+    unfolding recordFits
     record-odd h = simp (sym e ∙ h)
 
     pub due-odd : b ≡ false → Refused 9 ≡ dueOn n log x
@@ -126,8 +126,8 @@ module _ (n : ℕ) (log : List ℕ) (x : Session) where
     due-odd h = simp (sym e ∙ h)
 
     module _ (h : b ≡ true) where
-      pub record-early : x .phase < 2 → true ≡ recordOn n log x
-      unfolding recordOn
+      pub record-early : x .phase < 2 → true ≡ recordFits n log x
+      unfolding recordFits
       record-early l = simp (sym e ∙ h, le-leb (x .phase) 1 (omega arith))
 
       pub due-early : x .phase < 2 → Refused 2 ≡ dueOn n log x
@@ -140,8 +140,8 @@ module _ (n : ℕ) (log : List ℕ) (x : Session) where
 
         -- k is the place that the search for the lowest written cell answered
         module _ (k : ℕ) (t : found (x .count) k ≡ targetSlot log (x .count) (x .next)) where
-          pub record-late : ltb k (x .count) ≡ recordOn n log x
-          unfolding recordOn
+          pub record-late : ltb k (x .count) ≡ recordFits n log x
+          unfolding recordFits
           record-late = simp (sym e ∙ h, lt-leb (x .phase) 1 l) (target-there log (x .count) (x .next) k t)
 
           pub due-none : x .count ≤ k → Refused 9 ≡ dueOn n log x
@@ -153,12 +153,12 @@ module _ (n : ℕ) (log : List ℕ) (x : Session) where
           due-some i = simp (sym e ∙ h, le-leb 2 (x .phase) l, found-here (x .count) k _ t i)
 
   -- a running session: r is the number that the tests answered
-  module _ (r : ℕ) (e : r ≡ tested (recordOn n log x) (eqb (x .phase) 1)) (z : r ≡ 0) where
-    whole : recordOn n log x ≡ true
+  module _ (r : ℕ) (e : r ≡ tested (recordFits n log x) (eqb (x .phase) 1)) (z : r ≡ 0) where
+    whole : recordFits n log x ≡ true
     whole = passes _ _ (sym e ∙ z) .0
 
     runs : eqb (x .phase) 1 ≡ true
-    runs = passes (recordOn n log x) _ (sym e ∙ z) .1
+    runs = passes (recordFits n log x) _ (sym e ∙ z) .1
 
     pub few : x .count ≤ 32
     few = let one = eqb-true (x .phase) 1 runs in record-entries whole (omega arith) .count
@@ -174,81 +174,81 @@ module _ (n : ℕ) (log : List ℕ) (x : Session) where
 
     module _ (l : Lock) (c : ℕ) where
       pub read-outside : n ≤ c → Refuse 3 ≡ readOn n log x l c
-      unfolding readOn guardOn
+      unfolding guard known readOn
       read-outside h = simp (whole, runs, le-ltb c n h)
 
       -- k is the place that the search for the cell answered
-      module _ (h : c < n) (k : ℕ) (s : found (x .count) k ≡ slotIn log 0 (x .count) c) where
-        pub read-known : k < x .count → (v : ℕ) → v ≡ entryAt log 0 k .current → Tell v ≡ readOn n log x l c
-        unfolding readOn guardOn readSlot
+      module _ (h : c < n) (k : ℕ) (s : found (x .count) k ≡ slotIn log (x .count) c) where
+        pub read-known : k < x .count → (v : ℕ) → v ≡ entryAt log k .current → Tell v ≡ readOn n log x l c
+        unfolding guard readPlan known readOn
         read-known i v q = simp (whole, runs, lt-ltb c n h, found-here (x .count) k _ s i, q)
 
         pub read-new : x .count ≤ k → (p : Plan) → p ≡ newCell x l (Enter c) → p ≡ readOn n log x l c
-        unfolding readOn guardOn readSlot
+        unfolding guard readPlan known readOn
         read-new i p q = simp (whole, runs, lt-ltb c n h, found-nowhere (x .count) k _ s i, q)
 
       -- ---- write
 
       module _ (classes : List ℕ) (v : ℕ) where
         pub write-outside : n ≤ c → Refuse 3 ≡ writeOn classes n log x l c v
-        unfolding writeOn guardOn
+        unfolding guard known writeOn
         write-outside h = simp (whole, runs, le-ltb c n h)
 
         pub write-odd : c < n → 15 < getD classes c 0 → Refuse 8 ≡ writeOn classes n log x l c v
-        unfolding writeOn guardOn
+        unfolding guard known writeOn
         write-odd h i = simp (whole, runs, lt-ltb c n h, le-ltb (getD classes c 0) 16 i)
 
-        pub write-class : c < n → getD classes c 0 ≤ 15 → (m : ℕ) → m ≡ cap (getD classes c 0) → (p : Plan) → p ≡ writeCapped log x l c v m → p ≡ writeOn classes n log x l c v
-        unfolding writeOn guardOn
+        pub write-class : c < n → getD classes c 0 ≤ 15 → (m : ℕ) → m ≡ cap (getD classes c 0) → (p : Plan) → p ≡ writePlan log x l c v m → p ≡ writeOn classes n log x l c v
+        unfolding guard known writeOn
         write-class h i m q p w = simp (whole, runs, lt-ltb c n h, lt-ltb (getD classes c 0) 16 (omega arith), ← q, w)
 
     -- ---- seal
 
     -- b is whether a cell is written
-    module _ (b : Bool) (w : b ≡ some? (targetIn log 0 (x .count) 0)) where
+    module _ (b : Bool) (w : b ≡ some? (targetIn log (x .count) 0)) where
       pub seal-writes : b ≡ true → BeginPromotion ≡ sealOn n log x
-      unfolding sealOn guardOn
+      unfolding guard known sealOn
       seal-writes h = simp (whole, runs) (seal-some _ (sym w ∙ h))
 
       pub seal-reads : b ≡ false → CommitReads ≡ sealOn n log x
-      unfolding sealOn guardOn
+      unfolding guard known sealOn
       seal-reads h = simp (whole, runs) (seal-none _ (sym w ∙ h))
 
     -- ---- peek
 
     module _ (c : ℕ) where
       pub peek-outside : n ≤ c → Refuse 3 ≡ peekOn n log x c
-      unfolding peekOn guardOn
+      unfolding guard known peekOn
       peek-outside h = simp (whole, runs, le-ltb c n h)
 
-      module _ (h : c < n) (k : ℕ) (s : found (x .count) k ≡ slotIn log 0 (x .count) c) where
+      module _ (h : c < n) (k : ℕ) (s : found (x .count) k ≡ slotIn log (x .count) c) where
         pub peek-new : x .count ≤ k → Refuse 14 ≡ peekOn n log x c
-        unfolding peekOn guardOn peekSlot
+        unfolding guard peekPlan known peekOn
         peek-new i = simp (whole, runs, lt-ltb c n h, found-nowhere (x .count) k _ s i)
 
-        module _ (i : k < x .count) (b : Bool) (d : b ≡ entryAt log 0 k .dirty) where
+        module _ (i : k < x .count) (b : Bool) (d : b ≡ entryAt log k .dirty) where
           pub peek-written : b ≡ true → ShowLog k ≡ peekOn n log x c
-          unfolding peekOn guardOn peekSlot
+          unfolding guard peekPlan known peekOn
           peek-written g = simp (whole, runs, lt-ltb c n h, found-here (x .count) k _ s i, sym d ∙ g)
 
           pub peek-read : b ≡ false → ShowStore c ≡ peekOn n log x c
-          unfolding peekOn guardOn peekSlot
+          unfolding guard peekPlan known peekOn
           peek-read g = simp (whole, runs, lt-ltb c n h, found-here (x .count) k _ s i, sym d ∙ g)
 
 -- ---- write, once the cap is known
 
 module _ (log : List ℕ) (x : Session) (l : Lock) (c v m : ℕ) where
-  pub write-above : m < v → Refuse 4 ≡ writeCapped log x l c v m
-  unfolding writeCapped
+  pub write-above : m < v → Refuse 4 ≡ writePlan log x l c v m
+  unfolding writePlan
   write-above h = simp (lt-leb v m h)
 
-  module _ (h : v ≤ m) (k : ℕ) (s : found (x .count) k ≡ slotIn log 0 (x .count) c) where
-    pub write-known : k < x .count → Update k v ≡ writeCapped log x l c v m
-    unfolding writeCapped writeSlot
+  module _ (h : v ≤ m) (k : ℕ) (s : found (x .count) k ≡ slotIn log (x .count) c) where
+    pub write-known : k < x .count → Update k v ≡ writePlan log x l c v m
+    unfolding writePlan writeSlot
     write-known i = simp (le-leb v m h, found-here (x .count) k _ s i)
 
-    pub write-new : x .count ≤ k → (p : Plan) → p ≡ newCell x l (EnterUpdate c v) → p ≡ writeCapped log x l c v m
-    unfolding writeCapped writeSlot
+    pub write-new : x .count ≤ k → (p : Plan) → p ≡ newCell x l (EnterUpdate c v) → p ≡ writePlan log x l c v m
+    unfolding writePlan writeSlot
     write-new i p q = simp (le-leb v m h, found-nowhere (x .count) k _ s i, q)
 
 -- ---- advance
@@ -273,13 +273,13 @@ module _ (s c : ℕ) (l : Lock) where
     promote-waits g = simp (unclaimed, sym e ∙ g)
 
 -- d is the cell of entry k
-module _ (log : List ℕ) (x : Session) (l : Lock) (s k d : ℕ) (e : d ≡ cellAt log 0 k) where
+module _ (log : List ℕ) (x : Session) (l : Lock) (s k d : ℕ) (e : d ≡ cellAt log k) where
   pub advance-promotes : x .phase ≡ 2 → (p : Plan) → p ≡ promotePlan s d l → p ≡ advanceOn log x l s k
   unfolding advanceOn
   advance-promotes h p q = simp (eq-eqb (x .phase) 2 h, ← e, q)
 
   module _ (h : x .phase ≡ 2 → ⊥) where
-    pub advance-publishes : x .phase ≡ 3 → (v : ℕ) → v ≡ entryAt log 0 k .current → Publish d v ≡ advanceOn log x l s k
+    pub advance-publishes : x .phase ≡ 3 → (v : ℕ) → v ≡ entryAt log k .current → Publish d v ≡ advanceOn log x l s k
     unfolding advanceOn
     advance-publishes i v q = simp (ne-eqb (x .phase) 2 h, eq-eqb (x .phase) 3 i, e, q)
 
@@ -289,7 +289,7 @@ module _ (log : List ℕ) (x : Session) (l : Lock) (s k d : ℕ) (e : d ≡ cell
 
 -- k is the place that the search above cell c answered, y the record that is handed back
 module _ (log : List ℕ) (x : Session) (c k : ℕ) (t : found (x .count) k ≡ targetSlot log (x .count) (c + 1)) (y : Session) where
-  left : ltb k (x .count) ≡ some? (targetIn log 0 (x .count) (suc c))
+  left : ltb k (x .count) ≡ some? (targetIn log (x .count) (suc c))
   left = rw add-one at (target-there log (x .count) (c + 1) k t)
 
   pub handle-next : k < x .count → y ≡ moveTo (x .phase) (c + 1) x → record { session = y; answer = Moved } ≡ handledOn log x c

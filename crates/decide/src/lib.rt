@@ -6,8 +6,8 @@ ghost use Prim.Native.Nat.{_+_, _*_, _<_, _≤_};
 ghost use lib.ListN.{length};
 ghost use Rattle.model.specs.Search.{below};
 ghost use Rattle.model.specs.Buffers.{cellAt, cap, fits, allFit};
-ghost use Rattle.model.specs.Step.{newCell, promotePlan};
-ghost use Rattle.decide.specs.Own.{lengthsOn, entriesOn, recordOn, tested, readOn, writeCapped, writeOn, sealOn, dueOn, advanceOn, handledOn, peekOn};
+ghost use Rattle.model.specs.Step.{newCell, promotePlan, entriesFit, recordFits, readOn, writePlan, writeOn, sealOn, peekOn};
+ghost use Rattle.decide.specs.Own.{lengthsOn, tested, dueOn, advanceOn, handledOn};
 use model::Answer;
 use model::Lock;
 use model::Plan;
@@ -104,7 +104,7 @@ pub fn lengths_fit(
 // Phase at most 4; in phases 1 to 4 at most 32 entries, each of a cell below n.
 fn entries_fit(log: &[u32], n: usize, x: Session) -> bool
     requires { ⌜ (length (now log) ≡ 128) × (n ≤ 1024) ⌝ }
-    ensures { λ r. ⌜ r ≡ entriesOn n (now (log .entry)) x ⌝ }
+    ensures { λ r. ⌜ r ≡ entriesFit n (now (log .entry)) x ⌝ }
 {
     let phase = x.phase;
     let count = x.count;
@@ -123,7 +123,7 @@ fn entries_fit(log: &[u32], n: usize, x: Session) -> bool
 // The same, and in phases 2 to 4 a written cell not below next.
 fn record_fits(log: &[u32], n: usize, x: Session) -> bool
     requires { ⌜ (length (now log) ≡ 128) × (n ≤ 1024) ⌝ }
-    ensures { λ r. ⌜ r ≡ recordOn n (now (log .entry)) x ⌝ }
+    ensures { λ r. ⌜ r ≡ recordFits n (now (log .entry)) x ⌝ }
 {
     let phase = x.phase;
     let count = x.count as usize;
@@ -140,7 +140,7 @@ fn record_fits(log: &[u32], n: usize, x: Session) -> bool
 // 9, or 2 where the call does not fit the phase, or 0.
 pub fn tests(log: &[u32], n: usize, x: Session, fit: bool) -> u8
     requires { ⌜ (length (now log) ≡ 128) × (n ≤ 1024) ⌝ }
-    ensures { λ r. ⌜ r ≡ tested (recordOn n (now (log .entry)) x) fit ⌝ }
+    ensures { λ r. ⌜ r ≡ tested (recordFits n (now (log .entry)) x) fit ⌝ }
 {
     if !record_fits(log, n, x) {
         return 9;
@@ -192,7 +192,7 @@ pub fn read(log: &[u32], n: usize, x: Session, l: Lock, cell: u32) -> Plan
 // A value above the cap is 4; a new cell is entered as by read, then the entry is updated.
 fn write_capped(log: &[u32], x: Session, l: Lock, cell: u32, value: u32, most: u32) -> Plan
     requires { ⌜ (length (now log) ≡ 128) × (x .count ≤ 32) ⌝ }
-    ensures { λ r. ⌜ r ≡ writeCapped (now (log .entry)) x l cell value most ⌝ }
+    ensures { λ r. ⌜ r ≡ writePlan (now (log .entry)) x l cell value most ⌝ }
 {
     let count = x.count as usize;
     if most < value {
@@ -317,7 +317,7 @@ pub struct Handled {
 
 // Next is one above the cell; where no written cell is left there the phase rises, and out of phase 4 the session is idle.
 pub fn handle(log: &[u32], n: usize, x: Session, cell: u32) -> Handled
-    requires { ⌜ (length (now log) ≡ 128) × (n ≤ 1024) × (x .count ≤ 32) × (x .phase ≤ 4) × (cell < n) × (below n (cellAt (now log) 0) (x .count) ≡ true) ⌝ }
+    requires { ⌜ (length (now log) ≡ 128) × (n ≤ 1024) × (x .count ≤ 32) × (x .phase ≤ 4) × (cell < n) × (below n (cellAt (now log)) (x .count) ≡ true) ⌝ }
     ensures { λ r. ⌜ r ≡ handledOn (now (log .entry)) x cell ⌝ }
 {
     let phase = x.phase;

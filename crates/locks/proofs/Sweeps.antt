@@ -10,6 +10,7 @@ use lib.ListN.{length, getD, set, length-set, replicate, getD-replicate, List·g
 use lib.Seq.{getD-set-same, set-getD}
 use borrow.Author.Tests.{eq-eqb, ne-eqb}
 use Rattle.model.specs.Buffers.{Locks, cellAt, entryAt, slotIn, publishes, publishesIn, lockAt, setLock, lockOn, sweep, leave, vacate, withdraw}
+use Rattle.model.specs.Step.{rolledBack}
 use Rattle.model.specs.Readers.{withoutReader}
 use Rattle.model.specs.Search.{some?, orElse, find}
 use Rattle.model.specs.declared.Lock.{Lock}
@@ -17,7 +18,7 @@ use Rattle.model.proofs.Laws.{Long, lock-sweep, leave-leave}
 use Rattle.model.proofs.Tools.{same, test, which, clash, orElse-none}
 use Rattle.log.proofs.Searches.{find-here, find-up}
 use Rattle.log.proofs.Targets.{first-judges}
-use Rattle.locks.specs.Sweeps.{locksOf, rolledBackIn, DroppedSoFar, marked, mark, droppedSeen, droppedAt}
+use Rattle.locks.specs.Sweeps.{locksOf, DroppedSoFar, marked, mark, droppedSeen, droppedAt}
 use Rattle.locks.proofs.Digits.{no-member, marked-same, marked-other}
 
 -- ---- one lock
@@ -63,36 +64,36 @@ put-same c L =
 -- ---- rolling back
 
 module _ (log : List ℕ) (s : ℕ) (L : Locks) where
-  pub roll-start : L ≡ rolledBackIn log 0 s L
-  unfolding rolledBackIn sweep
+  pub roll-start : L ≡ rolledBack log 0 s L
+  unfolding rolledBack sweep
   roll-start = refl
 
-  pub roll-more : (i c : ℕ) (K M : Locks) → c ≡ cellAt log 0 i → K ≡ rolledBackIn log i s L → M ≡ lockOn c (withdraw s) K
-      → M ≡ rolledBackIn log (i + 1) s L
-  unfolding rolledBackIn sweep
+  pub roll-more : (i c : ℕ) (K M : Locks) → c ≡ cellAt log i → K ≡ rolledBack log i s L → M ≡ lockOn c (withdraw s) K
+      → M ≡ rolledBack log (i + 1) s L
+  unfolding rolledBack sweep
   roll-more i c K M e k m = rw (add-one, m, k, e)
 
 -- ---- the cells seen
 
-module _ (log : List ℕ) (i : ℕ) (seen : List ℕ) (len : length seen ≡ 16) (lt : cellAt log 0 i < 1024)
-    (inv : (c : ℕ) → c < 1024 → marked seen c ≡ some? (slotIn log 0 i c)) where
-  slot-same : some? (slotIn log 0 (i + 1) (cellAt log 0 i)) ≡ true
+module _ (log : List ℕ) (i : ℕ) (seen : List ℕ) (len : length seen ≡ 16) (lt : cellAt log i < 1024)
+    (inv : (c : ℕ) → c < 1024 → marked seen c ≡ some? (slotIn log i c)) where
+  slot-same : some? (slotIn log (i + 1) (cellAt log i)) ≡ true
   unfolding slotIn find orElse
-  slot-same = rw (add-one, eq-eqb (cellAt log 0 i) (cellAt log 0 i) refl) (which (find (cellAt log 0) i (cellAt log 0 i)) (λ p. rw p) (λ k p. rw p))
+  slot-same = rw (add-one, eq-eqb (cellAt log i) (cellAt log i) refl) (which (find (cellAt log) i (cellAt log i)) (λ p. rw p) (λ k p. rw p))
 
-  slot-other : (d : ℕ) → (d ≡ cellAt log 0 i → ⊥) → slotIn log 0 (i + 1) d ≡ slotIn log 0 i d
+  slot-other : (d : ℕ) → (d ≡ cellAt log i → ⊥) → slotIn log (i + 1) d ≡ slotIn log i d
   unfolding slotIn find
-  slot-other d n = rw (add-one, ne-eqb (cellAt log 0 i) d (λ e. n (sym e)), orElse-none)
+  slot-other d n = rw (add-one, ne-eqb (cellAt log i) d (λ e. n (sym e)), orElse-none)
 
   module _ (seen′ : List ℕ) (got : seen′ ≡ droppedSeen log i seen) where
     pub seen-length : length seen′ ≡ 16
     unfolding droppedSeen mark
-    seen-length = rw got (test (marked seen (cellAt log 0 i)) (λ t. rw t len) (λ t. rw (t, length-set) len))
+    seen-length = rw got (test (marked seen (cellAt log i)) (λ t. rw t len) (λ t. rw (t, length-set) len))
 
-    pub seen-more : (d : ℕ) → d < 1024 → marked seen′ d ≡ some? (slotIn log 0 (i + 1) d)
+    pub seen-more : (d : ℕ) → d < 1024 → marked seen′ d ≡ some? (slotIn log (i + 1) d)
     unfolding droppedSeen
     seen-more d l =
-        let c = cellAt log 0 i in
+        let c = cellAt log i in
         rw got
         (test (marked seen c)
         (λ t. rw t (same d c (λ e. rw e (t ∙ sym slot-same)) (λ n. rw (slot-other d n) (inv d l))))
@@ -102,17 +103,17 @@ module _ (log : List ℕ) (i : ℕ) (seen : List ℕ) (len : length seen ≡ 16)
         (λ n. rw (slot-other d n) (marked-other seen c d (omega arith) n ∙ inv d l)))))
 
 -- the three ways through one entry, with its cell read
-module _ (log : List ℕ) (k s : ℕ) (seen R : List ℕ) (c : ℕ) (e : c ≡ cellAt log 0 k) where
+module _ (log : List ℕ) (k s : ℕ) (seen R : List ℕ) (c : ℕ) (e : c ≡ cellAt log k) where
   pub drop-seen : marked seen c ≡ true → (seen ≡ droppedSeen log k seen) × (R ≡ droppedAt log k s seen R)
   unfolding droppedSeen droppedAt
   drop-seen t = (rw (← e, t), rw (← e, t))
 
   module _ (t : marked seen c ≡ false) (seen′ : List ℕ) (got : seen′ ≡ mark seen c) where
-    pub drop-written : publishes (entryAt log 0 k) ≡ true → (seen′ ≡ droppedSeen log k seen) × (R ≡ droppedAt log k s seen R)
+    pub drop-written : publishes (entryAt log k) ≡ true → (seen′ ≡ droppedSeen log k seen) × (R ≡ droppedAt log k s seen R)
     unfolding droppedSeen droppedAt
     drop-written p = (rw (← e, t) got, rw (← e, t, p))
 
-    pub drop-left : publishes (entryAt log 0 k) ≡ false → (R′ : List ℕ) → R′ ≡ set R c (withoutReader s (getD R c 0))
+    pub drop-left : publishes (entryAt log k) ≡ false → (R′ : List ℕ) → R′ ≡ set R c (withoutReader s (getD R c 0))
         → (seen′ ≡ droppedSeen log k seen) × (R′ ≡ droppedAt log k s seen R)
     unfolding droppedSeen droppedAt
     drop-left p R′ r = (rw (← e, t) got, rw (← e, t, p) r)
@@ -120,7 +121,7 @@ module _ (log : List ℕ) (k s : ℕ) (seen R : List ℕ) (c : ℕ) (e : c ≡ c
 -- ---- sealing
 
 -- before the first entry nothing is seen and nothing is left
-pub seen-start : (log : List ℕ) (c : ℕ) → c < 1024 → marked (replicate 16 0) c ≡ some? (slotIn log 0 0 c)
+pub seen-start : (log : List ℕ) (c : ℕ) → c < 1024 → marked (replicate 16 0) c ≡ some? (slotIn log 0 c)
 unfolding marked slotIn find
 seen-start log c l = rw (getD-replicate {A = ℕ} 16 (c / 64) 0 0 (omega arith)) (no-member (c % 64))
 
@@ -128,59 +129,59 @@ pub drop-start : (log : List ℕ) (m s : ℕ) (R : List ℕ) → DroppedSoFar lo
 unfolding sweep
 drop-start log m s R C E p q = refl
 
-module _ (log : List ℕ) (m i s : ℕ) (seen R₀ R : List ℕ) (li : i < m) (lt : cellAt log 0 i < 1024) (lR : cellAt log 0 i < length R₀)
-    (inv : (c : ℕ) → c < 1024 → marked seen c ≡ some? (slotIn log 0 i c)) where
+module _ (log : List ℕ) (m i s : ℕ) (seen R₀ R : List ℕ) (li : i < m) (lt : cellAt log i < 1024) (lR : cellAt log i < length R₀)
+    (inv : (c : ℕ) → c < 1024 → marked seen c ≡ some? (slotIn log i c)) where
   -- a cell not seen: its entry is the first of the whole log, and says whether the cell is written
-  first-here : marked seen (cellAt log 0 i) ≡ false → publishesIn log 0 m (cellAt log 0 i) ≡ publishes (entryAt log 0 i)
+  first-here : marked seen (cellAt log i) ≡ false → publishesIn log m (cellAt log i) ≡ publishes (entryAt log i)
   unfolding slotIn
   first-here t =
-      let c = cellAt log 0 i in
-      which (slotIn log 0 i c)
-      (λ p. first-judges log m c (find-up (cellAt log 0) c (suc i) m (omega arith) (find-here (cellAt log 0) c i p refl)))
+      let c = cellAt log i in
+      which (slotIn log i c)
+      (λ p. first-judges log m c (find-up (cellAt log) c (suc i) m (omega arith) (find-here (cellAt log) c i p refl)))
       (λ k p. absurd (clash (marked seen c) (inv c lt ∙ ap some? p) t))
 
   module _ (C E : List ℕ) (eC : length C ≡ length R₀) (eE : length E ≡ length R₀) where
     abbrev unwritten : ℕ → Bool
-    unwritten c = not (publishesIn log 0 m c)
+    unwritten c = not (publishesIn log m c)
 
     abbrev before : Locks
-    before = sweep unwritten (leave s) (cellAt log 0) i (locksOf R₀ C E)
+    before = sweep unwritten (leave s) (cellAt log) i (locksOf R₀ C E)
 
     abbrev after : Locks
-    after = sweep unwritten (leave s) (cellAt log 0) (i + 1) (locksOf R₀ C E)
+    after = sweep unwritten (leave s) (cellAt log) (i + 1) (locksOf R₀ C E)
 
-    sweep-keeps : publishesIn log 0 m (cellAt log 0 i) ≡ true → after ≡ before
+    sweep-keeps : publishesIn log m (cellAt log i) ≡ true → after ≡ before
     unfolding sweep
     sweep-keeps h = rw (add-one, h)
 
-    sweep-leaves : publishesIn log 0 m (cellAt log 0 i) ≡ false → after ≡ lockOn (cellAt log 0 i) (leave s) before
+    sweep-leaves : publishesIn log m (cellAt log i) ≡ false → after ≡ lockOn (cellAt log i) (leave s) before
     unfolding sweep
     sweep-leaves h = rw (add-one, h)
 
     -- a cell seen was left before
-    left-before : marked seen (cellAt log 0 i) ≡ true → publishesIn log 0 m (cellAt log 0 i) ≡ false
-        → lockOn (cellAt log 0 i) (leave s) before ≡ before
+    left-before : marked seen (cellAt log i) ≡ true → publishesIn log m (cellAt log i) ≡ false
+        → lockOn (cellAt log i) (leave s) before ≡ before
     unfolding lockOn slotIn
     left-before t h =
-        let c = cellAt log 0 i in
+        let c = cellAt log i in
         let long : Long (length R₀) (locksOf R₀ C E) = record { readers = refl; claimants = eC; exclusives = eE } in
-        let f : some? (find (cellAt log 0) i c) ≡ true = sym (inv c lt) ∙ t in
+        let f : some? (find (cellAt log) i c) ≡ true = sym (inv c lt) ∙ t in
         let g : lockAt before c ≡ leave s (lockAt (locksOf R₀ C E) c) =
-        lock-sweep unwritten (leave s) (cellAt log 0) (locksOf R₀ C E) (length R₀) long (leave-leave s) c lR i ∙ rw (f, h) in
+        lock-sweep unwritten (leave s) (cellAt log) (locksOf R₀ C E) (length R₀) long (leave-leave s) c lR i ∙ rw (f, h) in
         let k : leave s (lockAt before c) ≡ lockAt before c = rw g (leave-leave s (lockAt (locksOf R₀ C E) c)) in
         ap (λ (l : Lock). setLock c l before) k ∙ put-same c before
 
   pub drop-more : DroppedSoFar log m i s R₀ R → (R′ : List ℕ) → R′ ≡ droppedAt log i s seen R → DroppedSoFar log m (i + 1) s R₀ R′
   unfolding droppedAt
   drop-more w R′ got C E eC eE =
-      let c = cellAt log 0 i in
+      let c = cellAt log i in
       let e = w C E eC eE in
       rw got
       (test (marked seen c)
       (λ t.
       rw t
-      (test (publishesIn log 0 m c) (λ h. e ∙ sym (sweep-keeps C E eC eE h)) (λ h. e ∙ sym (sweep-leaves C E eC eE h ∙ left-before C E eC eE t h))))
+      (test (publishesIn log m c) (λ h. e ∙ sym (sweep-keeps C E eC eE h)) (λ h. e ∙ sym (sweep-leaves C E eC eE h ∙ left-before C E eC eE t h))))
       (λ t.
       rw t
-      (test (publishes (entryAt log 0 i)) (λ p. rw p (e ∙ sym (sweep-keeps C E eC eE (first-here t ∙ p))))
+      (test (publishes (entryAt log i)) (λ p. rw p (e ∙ sym (sweep-keeps C E eC eE (first-here t ∙ p))))
       (λ p. rw p (leave-on R C E c s ∙ ap (lockOn c (leave s)) e ∙ sym (sweep-leaves C E eC eE (first-here t ∙ p)))))))

@@ -15,17 +15,13 @@ locksOf readers claimants exclusives = record { readers = readers; claimants = c
 pub record Swept (s : ℕ) (log : List ℕ) (m : ℕ) (n : ℕ) : Type 0 where
   pub session : s < 16
   pub count : 4 * m ≤ length log
-  pub cells : below n (cellAt log 0) m ≡ true
-
--- rolling back, on a part and m entries of it
-unfoldable pub rolledBackIn : List ℕ → ℕ → ℕ → Locks → Locks
-rolledBackIn log m s L = sweep (λ c. true) (withdraw s) (cellAt log 0) m L
+  pub cells : below n (cellAt log) m ≡ true
 
 -- the reader sets R' are those that the first k of m entries leave of R, whatever claimants and marks stand beside them; and that all m leave
 abbrev pub DroppedSoFar : List ℕ → ℕ → ℕ → ℕ → List ℕ → List ℕ → Type 0
 DroppedSoFar log m k s R R' =
     (C E : List ℕ) → length C ≡ length R → length E ≡ length R
-    → locksOf R' C E ≡ sweep (λ c. not (publishesIn log 0 m c)) (leave s) (cellAt log 0) k (locksOf R C E)
+    → locksOf R' C E ≡ sweep (λ c. not (publishesIn log m c)) (leave s) (cellAt log) k (locksOf R C E)
 
 abbrev pub DropsReads : List ℕ → ℕ → ℕ → List ℕ → List ℕ → Type 0
 DropsReads log m s R R' = DroppedSoFar log m m s R R'
@@ -39,9 +35,9 @@ mark seen c = set seen (c / 64) (withReader (c % 64) (getD seen (c / 64) 0))
 
 -- one entry of the sweep at sealing: a cell seen before is passed over; of the others those that publish keep their readers
 unfoldable pub droppedSeen : List ℕ → ℕ → List ℕ → List ℕ
-droppedSeen log k seen = cond (marked seen (cellAt log 0 k)) seen (mark seen (cellAt log 0 k))
+droppedSeen log k seen = cond (marked seen (cellAt log k)) seen (mark seen (cellAt log k))
 
 unfoldable pub droppedAt : List ℕ → ℕ → ℕ → List ℕ → List ℕ → List ℕ
 droppedAt log k s seen R =
-    cond (marked seen (cellAt log 0 k)) R
-    (cond (publishes (entryAt log 0 k)) R (set R (cellAt log 0 k) (withoutReader s (getD R (cellAt log 0 k) 0))))
+    cond (marked seen (cellAt log k)) R
+    (cond (publishes (entryAt log k)) R (set R (cellAt log k) (withoutReader s (getD R (cellAt log k) 0))))

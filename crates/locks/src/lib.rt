@@ -6,7 +6,8 @@ ghost use lib.Dec.{eqb};
 ghost use lib.ListN.{length, getD, set};
 ghost use Rattle.model.specs.Readers.{withReader, withoutReader, otherReaders};
 ghost use Rattle.model.specs.Buffers.{cellAt, publishes, lockAt, setLock, lockOn, join, leave, vacate, withdraw, claim, own};
-ghost use Rattle.locks.specs.Sweeps.{locksOf, Swept, rolledBackIn, DropsReads, marked, mark, droppedSeen, droppedAt};
+ghost use Rattle.model.specs.Step.{rolledBack};
+ghost use Rattle.locks.specs.Sweeps.{locksOf, Swept, DropsReads, marked, mark, droppedSeen, droppedAt};
 use model::Lock;
 
 // ---- reader sets
@@ -170,7 +171,7 @@ pub fn roll_back(
     session: u8,
 )
     requires { ⌜ (Swept session (now log) count (length (now readers))) × (length (now claimants) ≡ length (now readers)) × (length (now exclusives) ≡ length (now readers)) ⌝ }
-    ensures { λ _. ⌜ locksOf (now (readers .exit)) (now (claimants .exit)) (now (exclusives .exit)) ≡ rolledBackIn (now (log .entry)) count session (locksOf (now (readers .entry)) (now (claimants .entry)) (now (exclusives .entry))) ⌝ }
+    ensures { λ _. ⌜ locksOf (now (readers .exit)) (now (claimants .exit)) (now (exclusives .exit)) ≡ rolledBack (now (log .entry)) count session (locksOf (now (readers .entry)) (now (claimants .entry)) (now (exclusives .entry))) ⌝ }
 {
     let mut i = 0;
     while i < count {
@@ -214,7 +215,7 @@ fn leave_at(readers: &mut [u16], cell: u32, session: u8)
 
 // The session leaves the readers of entry k's cell where the entry is the first of its cell and does not publish.
 fn drop_at(log: &[u32], k: usize, readers: &mut [u16], seen: &mut [u64; 16], session: u8)
-    requires { ⌜ (session < 16) × (4 * k + 3 < length (now log)) × (cellAt (now log) 0 k < 1024) × (cellAt (now log) 0 k < length (now readers)) ⌝ }
+    requires { ⌜ (session < 16) × (4 * k + 3 < length (now log)) × (cellAt (now log) k < 1024) × (cellAt (now log) k < length (now readers)) ⌝ }
     ensures { λ _. ⌜ (now (seen .exit) ≡ droppedSeen (now (log .entry)) k (now (seen .entry))) × (now (readers .exit) ≡ droppedAt (now (log .entry)) k session (now (seen .entry)) (now (readers .entry))) ⌝ }
 {
     let cell = log::cell_at(log, k);

@@ -16,32 +16,30 @@ use Rattle.log.specs.Slots.{found}
 
 -- ---- the words of a part
 
-pub word-at : (log : List ℕ) (k j : ℕ) → word log 0 k j ≡ getD log (4 * k + j) 0
+pub word-at : (log : List ℕ) (k j : ℕ) → word log k j ≡ getD log (4 * k + j) 0
 unfolding word
 word-at log k j = ap (λ (i : ℕ). getD log i 0) (omega arith)
 
-pub cell-word : (log : List ℕ) (k : ℕ) → cellAt log 0 k ≡ getD log (4 * k) 0
+pub cell-word : (log : List ℕ) (k : ℕ) → cellAt log k ≡ getD log (4 * k) 0
 unfolding cellAt word
 cell-word log k = ap (λ (i : ℕ). getD log i 0) (omega arith)
 
 -- ---- the stores of an append and an update, at the code's indices
 
 pub append-stores : (log : List ℕ) (k c v : ℕ)
-    → set (set (set (set log (4 * k) c) (4 * k + 1) v) (4 * k + 2) v) (4 * k + 3) 0 ≡ appended log 0 k c v
+    → set (set (set (set log (4 * k) c) (4 * k + 1) v) (4 * k + 2) v) (4 * k + 3) 0 ≡ appended log k c v
 unfolding appended
 append-stores log k c v =
-    let e : 128 * 0 + 4 * k ≡ 4 * k = omega arith in
     let e₁ : 4 * k + 1 ≡ suc (4 * k) = omega arith in
     let e₂ : 4 * k + 2 ≡ suc (suc (4 * k)) = omega arith in
     let e₃ : 4 * k + 3 ≡ suc (suc (suc (4 * k))) = omega arith in
-    rw (e, e₁, e₂, e₃)
+    rw (e₁, e₂, e₃)
 
-pub update-stores : (log : List ℕ) (k v : ℕ) → set (set log (4 * k + 2) v) (4 * k + 2 + 1) 1 ≡ updated log 0 k v
+pub update-stores : (log : List ℕ) (k v : ℕ) → set (set log (4 * k + 2) v) (4 * k + 2 + 1) 1 ≡ updated log k v
 unfolding updated
 update-stores log k v =
-    let e : 128 * 0 + (4 * k + 2) ≡ 4 * k + 2 = omega arith in
     let e₁ : 4 * k + 2 + 1 ≡ suc (4 * k + 2) = omega arith in
-    rw (e, e₁)
+    rw e₁
 
 -- ---- find
 
@@ -86,19 +84,19 @@ below-more n cell k h l = simp (h, lt-ltb (cell k) n l)
 -- ---- how the loops end
 
 module _ (log : List ℕ) (count c : ℕ) where
-  pub slot-here : (i : ℕ) → slotIn log 0 i c ≡ none → cellAt log 0 i ≡ c → i < count → found count i ≡ slotIn log 0 count c
+  pub slot-here : (i : ℕ) → slotIn log i c ≡ none → cellAt log i ≡ c → i < count → found count i ≡ slotIn log count c
   unfolding slotIn found
   slot-here i h e l =
-      simp (lt-ltb i count l) (sym (find-up (cellAt log 0) c (suc i) count (omega arith) (find-here (cellAt log 0) c i h e)))
+      simp (lt-ltb i count l) (sym (find-up (cellAt log) c (suc i) count (omega arith) (find-here (cellAt log) c i h e)))
 
-  pub slot-nowhere : slotIn log 0 count c ≡ none → found count count ≡ slotIn log 0 count c
+  pub slot-nowhere : slotIn log count c ≡ none → found count count ≡ slotIn log count c
   unfolding found
   slot-nowhere h = simp (h, le-ltb count count (omega arith))
 
-pub slot-step : (log : List ℕ) (c i : ℕ) → slotIn log 0 i c ≡ none → (cellAt log 0 i ≡ c → ⊥) → slotIn log 0 (i + 1) c ≡ none
+pub slot-step : (log : List ℕ) (c i : ℕ) → slotIn log i c ≡ none → (cellAt log i ≡ c → ⊥) → slotIn log (i + 1) c ≡ none
 unfolding slotIn
-slot-step log c i h m = rw add-one (find-miss (cellAt log 0) c i h m)
+slot-step log c i h m = rw add-one (find-miss (cellAt log) c i h m)
 
-pub slot-start : (log : List ℕ) (c : ℕ) → slotIn log 0 0 c ≡ none
+pub slot-start : (log : List ℕ) (c : ℕ) → slotIn log 0 c ≡ none
 unfolding slotIn find
 slot-start log c = refl

@@ -33,33 +33,33 @@ found-some m k {i} h =
 module _ (log : List ℕ) where
   -- ---- a cell is written where its first entry publishes
 
-  pub first-judges : (m c : ℕ) {k : ℕ} → slotIn log 0 m c ≡ some k → publishesIn log 0 m c ≡ publishes (entryAt log 0 k)
+  pub first-judges : (m c : ℕ) {k : ℕ} → slotIn log m c ≡ some k → publishesIn log m c ≡ publishes (entryAt log k)
   unfolding publishesIn lookIn entryOf
   first-judges m c e = rw e
 
-  pub written-first : (m c : ℕ) → publishesIn log 0 m c ≡ true → (k : ℕ) × (slotIn log 0 m c ≡ some k) × (publishes (entryAt log 0 k) ≡ true)
+  pub written-first : (m c : ℕ) → publishesIn log m c ≡ true → (k : ℕ) × (slotIn log m c ≡ some k) × (publishes (entryAt log k) ≡ true)
   unfolding publishesIn lookIn entryOf
-  written-first m c h = which (slotIn log 0 m c) (λ p. absurd (clash false (rw p at h) refl)) (λ k p. (k, p, rw p at h))
+  written-first m c h = which (slotIn log m c) (λ p. absurd (clash false (rw p at h) refl)) (λ k p. (k, p, rw p at h))
 
-  pub slot-some : (m c : ℕ) {k : ℕ} → slotIn log 0 m c ≡ some k → (k < m) × (cellAt log 0 k ≡ c)
+  pub slot-some : (m c : ℕ) {k : ℕ} → slotIn log m c ≡ some k → (k < m) × (cellAt log k ≡ c)
   unfolding slotIn
-  slot-some m c e = find-some (cellAt log 0) c m e
+  slot-some m c e = find-some (cellAt log) c m e
 
-  pub slot-none : (m c : ℕ) → slotIn log 0 m c ≡ none → (j : ℕ) → j < m → cellAt log 0 j ≡ c → ⊥
+  pub slot-none : (m c : ℕ) → slotIn log m c ≡ none → (j : ℕ) → j < m → cellAt log j ≡ c → ⊥
   unfolding slotIn
-  slot-none m c e = find-none (cellAt log 0) c m e
+  slot-none m c e = find-none (cellAt log) c m e
 
   -- ---- the lowest cell of entries judged each by itself
 
   record LowestOwn (n from k r : ℕ) : Type 0 where
-    pub least : (j : ℕ) → j < k → from ≤ cellAt log 0 j → publishes (entryAt log 0 j) ≡ true → r ≤ cellAt log 0 j
-    pub place : r < n → (j : ℕ) × (j < k) × (cellAt log 0 j ≡ r) × (from ≤ r)
+    pub least : (j : ℕ) → j < k → from ≤ cellAt log j → publishes (entryAt log j) ≡ true → r ≤ cellAt log j
+    pub place : r < n → (j : ℕ) × (j < k) × (cellAt log j ≡ r) × (from ≤ r)
 
   own-step : (n from k held : ℕ) → LowestOwn n from k held → LowestOwn n from (suc k) (better log from k held)
   unfolding better
   own-step n from k held w =
-      let c = cellAt log 0 k in
-      let p = publishes (entryAt log 0 k) in
+      let c = cellAt log k in
+      let p = publishes (entryAt log k) in
       split (LowestOwn n from (suc k)) (leb from c && (ltb c held && p))
       (λ t.
       let u = leb-true from c (both-l (leb from c) (ltb c held && p) t) in
@@ -85,7 +85,7 @@ module _ (log : List ℕ) where
   lowest-own n from (suc k) = own-step n from k (lowestOwn log n from k) (lowest-own n from k)
 
   -- the four ways through one entry, with its cell read
-  module _ (from i held c : ℕ) (e : c ≡ cellAt log 0 i) where
+  module _ (from i held c : ℕ) (e : c ≡ cellAt log i) where
     pub lower-before : c < from → held ≡ better log from i held
     unfolding better
     lower-before h = rw (← e, lt-leb from c h)
@@ -94,11 +94,11 @@ module _ (log : List ℕ) where
     unfolding better
     lower-above h = rw (← e, le-ltb c held h, and-false)
 
-    pub lower-here : from ≤ c → c < held → publishes (entryAt log 0 i) ≡ true → c ≡ better log from i held
+    pub lower-here : from ≤ c → c < held → publishes (entryAt log i) ≡ true → c ≡ better log from i held
     unfolding better
     lower-here f h p = rw (← e, le-leb from c f, lt-ltb c held h, p)
 
-    pub lower-unwritten : publishes (entryAt log 0 i) ≡ false → held ≡ better log from i held
+    pub lower-unwritten : publishes (entryAt log i) ≡ false → held ≡ better log from i held
     unfolding better
     lower-unwritten p = rw (← e, p, and-false, and-false)
 
@@ -109,19 +109,19 @@ module _ (log : List ℕ) where
   -- ---- the model's target
 
   abbrev fit : ℕ → ℕ → ℕ → Bool
-  fit m from c = leb from c && publishesIn log 0 m c
+  fit m from c = leb from c && publishesIn log m c
 
-  target-is : (m from : ℕ) → Low (fit m from) (cellAt log 0) m (targetIn log 0 m from)
+  target-is : (m from : ℕ) → Low (fit m from) (cellAt log) m (targetIn log m from)
   unfolding targetIn
-  target-is m from = lowest-is (fit m from) (cellAt log 0) m
+  target-is m from = lowest-is (fit m from) (cellAt log) m
 
   -- a target is a written cell not below the start, and no such cell is lower
-  pub target-some : (m from : ℕ) {c : ℕ} → targetIn log 0 m from ≡ some c
-      → (from ≤ c) × (publishesIn log 0 m c ≡ true) × ((d : ℕ) → from ≤ d → publishesIn log 0 m d ≡ true → c ≤ d)
+  pub target-some : (m from : ℕ) {c : ℕ} → targetIn log m from ≡ some c
+      → (from ≤ c) × (publishesIn log m c ≡ true) × ((d : ℕ) → from ≤ d → publishesIn log m d ≡ true → c ≤ d)
   target-some m from {c} e =
-      let w = subst (Low (fit m from) (cellAt log 0) m) e (target-is m from) in (
-        leb-true from c (both-l (leb from c) (publishesIn log 0 m c) (w .fits)),
-        both-r (leb from c) (publishesIn log 0 m c) (w .fits),
+      let w = subst (Low (fit m from) (cellAt log) m) e (target-is m from) in (
+        leb-true from c (both-l (leb from c) (publishesIn log m c) (w .fits)),
+        both-r (leb from c) (publishesIn log m c) (w .fits),
         λ d l p.
             let k = written-first m d p in
             let s = slot-some m d (k .1) in
@@ -129,16 +129,16 @@ module _ (log : List ℕ) where
       )
 
   -- where there is none, no cell not below the start is written
-  pub target-none : (m from : ℕ) → targetIn log 0 m from ≡ none → (d : ℕ) → from ≤ d → publishesIn log 0 m d ≡ true → ⊥
+  pub target-none : (m from : ℕ) → targetIn log m from ≡ none → (d : ℕ) → from ≤ d → publishesIn log m d ≡ true → ⊥
   target-none m from e d l p =
-      let w = subst (Low (fit m from) (cellAt log 0) m) e (target-is m from) in
+      let w = subst (Low (fit m from) (cellAt log) m) e (target-is m from) in
       let k = written-first m d p in
       let s = slot-some m d (k .1) in
       clash (fit m from d) (simp (le-leb from d l, p)) (rw (s .1) at (w (k .0) (s .0)))
 
   -- a start may be raised past cells that are not written
-  target-later : (m from next : ℕ) → from ≤ next → ((d : ℕ) → from ≤ d → d < next → publishesIn log 0 m d ≡ true → ⊥)
-      → targetIn log 0 m from ≡ targetIn log 0 m next
+  target-later : (m from next : ℕ) → from ≤ next → ((d : ℕ) → from ≤ d → d < next → publishesIn log m d ≡ true → ⊥)
+      → targetIn log m from ≡ targetIn log m next
   unfolding targetIn
   target-later m from next l h =
       let fits : (d : ℕ) → fit m from d ≡ fit m next d = λ d.
@@ -147,10 +147,10 @@ module _ (log : List ℕ) where
       (λ t.
       test (fit m from d)
       (λ f.
-      absurd (h d (leb-true from d (both-l (leb from d) (publishesIn log 0 m d) f)) (leb-false next d t)
-      (both-r (leb from d) (publishesIn log 0 m d) f)))
+      absurd (h d (leb-true from d (both-l (leb from d) (publishesIn log m d) f)) (leb-false next d t)
+      (both-r (leb from d) (publishesIn log m d) f)))
       (λ f. f ∙ sym (simp t))) in
-      λ i. lowest (λ d. fits d i) (cellAt log 0) m
+      λ i. lowest (λ d. fits d i) (cellAt log) m
 
   -- ---- one turn of the search
 
@@ -159,27 +159,27 @@ module _ (log : List ℕ) where
     lowest-r = rw own (lowest-own n from m)
 
     -- the lowest cell is not above a written one
-    own-least : (d : ℕ) → from ≤ d → publishesIn log 0 m d ≡ true → r ≤ d
+    own-least : (d : ℕ) → from ≤ d → publishesIn log m d ≡ true → r ≤ d
     own-least d l p =
         let k = written-first m d p in
         let s = slot-some m d (k .1) in
         rw (s .1) at (lowest-r .least (k .0) (s .0) (rw (s .1) l) (k .2))
 
-    pub turn-ends : below n (cellAt log 0) m ≡ true → n ≤ r → found m m ≡ targetSlot log m from
+    pub turn-ends : below n (cellAt log) m ≡ true → n ≤ r → found m m ≡ targetSlot log m from
     unfolding found targetSlot slotOf
     turn-ends b h =
-        which (targetIn log 0 m from) (λ e. simp (e, le-ltb m m (omega arith)))
+        which (targetIn log m from) (λ e. simp (e, le-ltb m m (omega arith)))
         (λ c e.
         let t = target-some m from e in
         let k = written-first m c (t .1) in
         let s = slot-some m c (k .1) in
-        absurd (omega (arith, own-least c (t .0) (t .1), below-is n (cellAt log 0) m b (k .0) (s .0), s .1)))
+        absurd (omega (arith, own-least c (t .0) (t .1), below-is n (cellAt log) m b (k .0) (s .0), s .1)))
 
     -- the cell found is one of the log's, and not below the start
-    module _ (lt : r < n) (k : ℕ) (f : found m k ≡ slotIn log 0 m r) where
-      turn-slot : slotIn log 0 m r ≡ some k
+    module _ (lt : r < n) (k : ℕ) (f : found m k ≡ slotIn log m r) where
+      turn-slot : slotIn log m r ≡ some k
       turn-slot =
-          which (slotIn log 0 m r) (λ e. let p = lowest-r .place lt in absurd (slot-none m r e (p .0) (p .1) (p .2)))
+          which (slotIn log m r) (λ e. let p = lowest-r .place lt in absurd (slot-none m r e (p .0) (p .1) (p .2)))
           (λ i e. e ∙ ap some (sym (found-some m k (f ∙ e) .1)))
 
       pub turn-inside : k < m
@@ -188,51 +188,51 @@ module _ (log : List ℕ) where
       pub turn-from : from ≤ r
       turn-from = lowest-r .place lt .3
 
-      pub turn-here : publishes (entryAt log 0 k) ≡ true → found m k ≡ targetSlot log m from
+      pub turn-here : publishes (entryAt log k) ≡ true → found m k ≡ targetSlot log m from
       unfolding targetSlot slotOf
       turn-here p =
           let w = first-judges m r turn-slot ∙ p in
-          which (targetIn log 0 m from) (λ e. absurd (target-none m from e r turn-from w))
+          which (targetIn log m from) (λ e. absurd (target-none m from e r turn-from w))
           (λ c e.
           let t = target-some m from e in
           let q : r ≡ c = omega (arith, own-least c (t .0) (t .1), t .2 r turn-from w) in
           rw (e, ← q) f)
 
-      pub turn-next : publishes (entryAt log 0 k) ≡ false → targetSlot log m from ≡ targetSlot log m (r + 1)
+      pub turn-next : publishes (entryAt log k) ≡ false → targetSlot log m from ≡ targetSlot log m (r + 1)
       unfolding targetSlot
       turn-next p =
           ap (slotOf log m)
           (target-later m from (r + 1) (omega (arith, turn-from))
           (λ d a b w.
           let q : d ≡ r = omega (arith, own-least d a w) in
-          clash (publishesIn log 0 m r) (rw q at w) (first-judges m r turn-slot ∙ p)))
+          clash (publishesIn log m r) (rw q at w) (first-judges m r turn-slot ∙ p)))
 
   -- ---- whether there is a target
 
   module _ (m : ℕ) where
-    pub any-here : (i : ℕ) → i < m → firstPublishes log i ≡ true → true ≡ some? (targetIn log 0 m 0)
+    pub any-here : (i : ℕ) → i < m → firstPublishes log i ≡ true → true ≡ some? (targetIn log m 0)
     unfolding firstPublishes slotIn
     any-here i l h =
-        let c = cellAt log 0 i in
-        let a = both-l (publishes (entryAt log 0 i)) (not (some? (slotIn log 0 i c))) h in
-        let b = both-r (publishes (entryAt log 0 i)) (not (some? (slotIn log 0 i c))) h in
-        which (slotIn log 0 i c)
+        let c = cellAt log i in
+        let a = both-l (publishes (entryAt log i)) (not (some? (slotIn log i c))) h in
+        let b = both-r (publishes (entryAt log i)) (not (some? (slotIn log i c))) h in
+        which (slotIn log i c)
         (λ e.
-        let s = find-up (cellAt log 0) c (suc i) m (omega arith) (find-here (cellAt log 0) c i e refl) in
-        which (targetIn log 0 m 0) (λ t. absurd (target-none m 0 t c (omega arith) (first-judges m c s ∙ a))) (λ d t. rw t))
+        let s = find-up (cellAt log) c (suc i) m (omega arith) (find-here (cellAt log) c i e refl) in
+        which (targetIn log m 0) (λ t. absurd (target-none m 0 t c (omega arith) (first-judges m c s ∙ a))) (λ d t. rw t))
         (λ k e. absurd (clash false (rw e at b) refl))
 
-    pub any-nowhere : ((j : ℕ) → j < m → firstPublishes log j ≡ false) → false ≡ some? (targetIn log 0 m 0)
+    pub any-nowhere : ((j : ℕ) → j < m → firstPublishes log j ≡ false) → false ≡ some? (targetIn log m 0)
     unfolding firstPublishes slotIn
     any-nowhere h =
-        which (targetIn log 0 m 0) (λ t. rw t)
+        which (targetIn log m 0) (λ t. rw t)
         (λ c t.
         let k = written-first m c (target-some m 0 t .1) in
         let s = slot-some m c (k .1) in
-        let b = find-before (cellAt log 0) c m (k .1) in
+        let b = find-before (cellAt log) c m (k .1) in
         absurd (clash true refl (simp (s .1, b, k .2) at (h (k .0) (s .0)))))
 
-  pub first-found : (i r : ℕ) → found i r ≡ slotIn log 0 i (cellAt log 0 i) → publishes (entryAt log 0 i) ≡ true → leb i r ≡ firstPublishes log i
+  pub first-found : (i r : ℕ) → found i r ≡ slotIn log i (cellAt log i) → publishes (entryAt log i) ≡ true → leb i r ≡ firstPublishes log i
   unfolding firstPublishes
   first-found i r f p =
       which (found i r)

@@ -1,16 +1,11 @@
--- What the searches of one session's own part answer, in the model's terms. A part is a log of its own, whose session is 0.
-use Prim.Native.Nat.{ℕ, zero, suc, _*_}
+-- What the searches of one session's own part answer, in the model's terms.
+use Prim.Native.Nat.{ℕ, zero, suc}
 use mathlib.Core.Bool.{Bool, cond, not, _&&_}
 use mathlib.Core.Option.{Option, none, some}
 use mathlib.Core.List.{List}
 use lib.Dec.{leb, ltb}
-use lib.ListN.{take, drop}
 use Rattle.model.specs.Search.{some?}
 use Rattle.model.specs.Buffers.{cellAt, entryAt, slotIn, publishes, targetIn}
-
--- session s owns the 128 words from 128 × s
-unfoldable pub part : List ℕ → ℕ → List ℕ
-part logs s = take 128 (drop (128 * s) logs)
 
 -- the place k, where it is one of m; a search answers m where it finds nothing
 unfoldable pub found : ℕ → ℕ → Option ℕ
@@ -19,7 +14,7 @@ found m k = cond (ltb k m) (some k) none
 -- the lower of a cell so far and entry k's, where that is not below a cell and the entry publishes by itself
 unfoldable pub better : List ℕ → ℕ → ℕ → ℕ → ℕ
 better log from k held =
-    cond (leb from (cellAt log 0 k) && (ltb (cellAt log 0 k) held && publishes (entryAt log 0 k))) (cellAt log 0 k) held
+    cond (leb from (cellAt log k) && (ltb (cellAt log k) held && publishes (entryAt log k))) (cellAt log k) held
 
 -- the lowest such cell of k entries; n where there is none
 unfoldable pub lowestOwn : List ℕ → ℕ → ℕ → ℕ → ℕ
@@ -29,12 +24,12 @@ lowestOwn log n from (suc k) = better log from k (lowestOwn log n from k)
 -- the first entry of a cell, where there is a cell
 unfoldable pub slotOf : List ℕ → ℕ → Option ℕ → Option ℕ
 slotOf log m none = none
-slotOf log m (some c) = slotIn log 0 m c
+slotOf log m (some c) = slotIn log m c
 
 -- the first entry of the lowest written cell not below a cell
 unfoldable pub targetSlot : List ℕ → ℕ → ℕ → Option ℕ
-targetSlot log m from = slotOf log m (targetIn log 0 m from)
+targetSlot log m from = slotOf log m (targetIn log m from)
 
 -- entry i publishes and no entry before it has its cell
 unfoldable pub firstPublishes : List ℕ → ℕ → Bool
-firstPublishes log i = publishes (entryAt log 0 i) && not (some? (slotIn log 0 i (cellAt log 0 i)))
+firstPublishes log i = publishes (entryAt log i) && not (some? (slotIn log i (cellAt log i)))

@@ -11,7 +11,7 @@ ghost use Rattle.log.specs.Slots.{found, better, lowestOwn, targetSlot, 
 // The cell of entry k.
 pub fn cell_at(log: &[u32], k: usize) -> u32
     requires { ⌜ 4 * k + 3 < length (now log) ⌝ }
-    ensures { λ r. ⌜ r ≡ cellAt (now (log .entry)) 0 k ⌝ }
+    ensures { λ r. ⌜ r ≡ cellAt (now (log .entry)) k ⌝ }
 {
     log[4 * k]
 }
@@ -19,7 +19,7 @@ pub fn cell_at(log: &[u32], k: usize) -> u32
 // The present value of entry k.
 pub fn current(log: &[u32], k: usize) -> u32
     requires { ⌜ 4 * k + 3 < length (now log) ⌝ }
-    ensures { λ r. ⌜ r ≡ entryAt (now (log .entry)) 0 k .current ⌝ }
+    ensures { λ r. ⌜ r ≡ entryAt (now (log .entry)) k .current ⌝ }
 {
     log[4 * k + 2]
 }
@@ -27,7 +27,7 @@ pub fn current(log: &[u32], k: usize) -> u32
 // Whether entry k is written, by its fourth word's lowest bit.
 pub fn dirty(log: &[u32], k: usize) -> bool
     requires { ⌜ 4 * k + 3 < length (now log) ⌝ }
-    ensures { λ r. ⌜ r ≡ entryAt (now (log .entry)) 0 k .dirty ⌝ }
+    ensures { λ r. ⌜ r ≡ entryAt (now (log .entry)) k .dirty ⌝ }
 {
     log[4 * k + 3] % 2 == 1
 }
@@ -35,7 +35,7 @@ pub fn dirty(log: &[u32], k: usize) -> bool
 // Whether entry k counts as written from the seal on.
 pub fn publishes(log: &[u32], k: usize) -> bool
     requires { ⌜ 4 * k + 3 < length (now log) ⌝ }
-    ensures { λ r. ⌜ r ≡ publishes (entryAt (now (log .entry)) 0 k) ⌝ }
+    ensures { λ r. ⌜ r ≡ publishes (entryAt (now (log .entry)) k) ⌝ }
 {
     dirty(log, k)
 }
@@ -43,7 +43,7 @@ pub fn publishes(log: &[u32], k: usize) -> bool
 // The place of the first entry of a cell among the first count, or count where there is none.
 pub fn find(log: &[u32], count: usize, cell: u32) -> usize
     requires { ⌜ 4 * count ≤ length (now log) ⌝ }
-    ensures { λ r. ⌜ found count r ≡ slotIn (now (log .entry)) 0 count cell ⌝ }
+    ensures { λ r. ⌜ found count r ≡ slotIn (now (log .entry)) count cell ⌝ }
 {
     let mut i = 0;
     while i < count {
@@ -58,7 +58,7 @@ pub fn find(log: &[u32], count: usize, cell: u32) -> usize
 // Whether the cell of each of the first count entries is below n.
 pub fn all_below(log: &[u32], count: usize, n: u32) -> bool
     requires { ⌜ 4 * count ≤ length (now log) ⌝ }
-    ensures { λ r. ⌜ r ≡ below n (cellAt (now (log .entry)) 0) count ⌝ }
+    ensures { λ r. ⌜ r ≡ below n (cellAt (now (log .entry))) count ⌝ }
 {
     let mut i = 0;
     while i < count {
@@ -108,7 +108,7 @@ fn lowest_own(log: &[u32], count: usize, n: u32, from: u32) -> u32
 // The first entry of the lowest written cell not below from, or count where there is none: the entry that an advance handles.
 // A cell is found among the entries that publish by themselves. If its first entry does, that is the one; if not, the search goes on above it.
 pub fn target(log: &[u32], count: usize, n: u32, from: u32) -> usize
-    requires { ⌜ (4 * count ≤ length (now log)) × (n ≤ 1024) × (below n (cellAt (now log) 0) count ≡ true) ⌝ }
+    requires { ⌜ (4 * count ≤ length (now log)) × (n ≤ 1024) × (below n (cellAt (now log)) count ≡ true) ⌝ }
     ensures { λ r. ⌜ found count r ≡ targetSlot (now (log .entry)) count from ⌝ }
 {
     let mut start = from;
@@ -129,7 +129,7 @@ pub fn target(log: &[u32], count: usize, n: u32, from: u32) -> usize
 // Whether any cell is written: the first entry of some cell publishes.
 pub fn any_publishes(log: &[u32], count: usize) -> bool
     requires { ⌜ 4 * count ≤ length (now log) ⌝ }
-    ensures { λ r. ⌜ r ≡ some? (targetIn (now (log .entry)) 0 count 0) ⌝ }
+    ensures { λ r. ⌜ r ≡ some? (targetIn (now (log .entry)) count 0) ⌝ }
 {
     let mut i = 0;
     while i < count {
@@ -156,7 +156,7 @@ fn first_publishes(log: &[u32], i: usize) -> bool
 // A new entry at k: found and present are the value, not written.
 pub fn append(log: &mut [u32], k: usize, cell: u32, value: u32)
     requires { ⌜ 4 * k + 3 < length (now log) ⌝ }
-    ensures { λ _. ⌜ now (log .exit) ≡ appended (now (log .entry)) 0 k cell value ⌝ }
+    ensures { λ _. ⌜ now (log .exit) ≡ appended (now (log .entry)) k cell value ⌝ }
 {
     let i = 4 * k;
     log[i] = cell;
@@ -168,7 +168,7 @@ pub fn append(log: &mut [u32], k: usize, cell: u32, value: u32)
 // The present value of entry k, which is then written.
 pub fn update(log: &mut [u32], k: usize, value: u32)
     requires { ⌜ 4 * k + 3 < length (now log) ⌝ }
-    ensures { λ _. ⌜ now (log .exit) ≡ updated (now (log .entry)) 0 k value ⌝ }
+    ensures { λ _. ⌜ now (log .exit) ≡ updated (now (log .entry)) k value ⌝ }
 {
     let i = 4 * k + 2;
     log[i] = value;

@@ -15,7 +15,7 @@ use Rattle.model.specs.Buffers.{Locks, Store, idle, moveTo, cellAt, slot
 use Rattle.model.specs.Isolation.{at}
 use Rattle.model.specs.Readers.{member, otherReaders}
 use Rattle.model.specs.Search.{find, tally}
-use Rattle.model.specs.Step.{change, changeLocks, recordOf}
+use Rattle.model.specs.Step.{change, changeLocks, recordOf, logOf}
 use Rattle.model.proofs.Effects.{Acts, ses-same, frame, look-mine, role-gone, shaped, link-mine, locked-still, valued-still, look-is, slot-none, acts, amended}
 use Rattle.model.proofs.Invariant.{roleIn, roleOf, role, latest, Promoting, Finishing, Link, just-past, Inv, role-other, quiet, committing, ticks}
 use Rattle.model.proofs.Laws.{find-some, Low, lowest-is, Long, lock-same, lock-other, long-set, tally-flat, tally-more}
@@ -26,19 +26,19 @@ use Rattle.model.proofs.View.{slot, look, written, target}
 
 -- ---- the cell of an advance
 
-wrote-slot : (σ : Store) (s d : ℕ) → written σ s d ≡ true → (j : ℕ) × (j < recordOf σ s .count) × (cellAt (σ .lent .logs) s j ≡ d)
+wrote-slot : (σ : Store) (s d : ℕ) → written σ s d ≡ true → (j : ℕ) × (j < recordOf σ s .count) × (cellAt (logOf σ s) j ≡ d)
 unfolding written
 wrote-slot σ s d h =
-    which (find (cellAt (σ .lent .logs) s) (recordOf σ s .count) d)
+    which (find (cellAt (logOf σ s)) (recordOf σ s .count) d)
     (λ p. absurd (clash (isPublished (look σ s d)) h (rw (slot-none σ s d (unfold slot slotIn in p)))))
-    (λ j p. let w = find-some (cellAt (σ .lent .logs) s) d (recordOf σ s .count) p in (j, w .0, w .1))
+    (λ j p. let w = find-some (cellAt (logOf σ s)) d (recordOf σ s .count) p in (j, w .0, w .1))
 
 pub target-some : (σ : Store) (s from : ℕ) {c : ℕ} → target σ s from ≡ some c
     → (from ≤ c) × (written σ s c ≡ true) × ((d : ℕ) → written σ s d ≡ true → from ≤ d → c ≤ d)
 unfolding target targetIn publishesIn written look
 target-some σ s from {c} h =
     let f : ℕ → Bool = λ c. leb from c && written σ s c in
-    let l : Low f (cellAt (σ .lent .logs) s) (recordOf σ s .count) (some c) = rw h at (lowest-is f (cellAt (σ .lent .logs) s) (recordOf σ s .count)) in (
+    let l : Low f (cellAt (logOf σ s)) (recordOf σ s .count) (some c) = rw h at (lowest-is f (cellAt (logOf σ s)) (recordOf σ s .count)) in (
       leb-true from c (both-l (leb from c) (written σ s c) (l .fits)),
       both-r (leb from c) (written σ s c) (l .fits),
       λ d w q. let j = wrote-slot σ s d w in
@@ -49,7 +49,7 @@ pub target-none : (σ : Store) (s from : ℕ) → target σ s from ≡ none → 
 unfolding target targetIn publishesIn written look
 target-none σ s from h d w =
     let f : ℕ → Bool = λ c. leb from c && written σ s c in
-    let l : Low f (cellAt (σ .lent .logs) s) (recordOf σ s .count) none = rw h at (lowest-is f (cellAt (σ .lent .logs) s) (recordOf σ s .count)) in
+    let l : Low f (cellAt (logOf σ s)) (recordOf σ s .count) none = rw h at (lowest-is f (cellAt (logOf σ s)) (recordOf σ s .count)) in
     let j = wrote-slot σ s d w in
     test (leb from d) (λ q. absurd (clash (leb from d && written σ s d) (rw (q, w)) (rw (j .2) at (l (j .0) (j .1))))) (λ q. leb-false from d q)
 

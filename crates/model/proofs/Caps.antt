@@ -8,22 +8,22 @@ use mathlib.Core.Bool.{Bool, true, false, cond, not, _&&_, _||_}
 use mathlib.Core.List.{List, [], _∷_, reverse}
 use lib.Dec.{leb, ltb, eqb}
 use lib.ListN.{length, getD, set}
-use lib.Seq.{sets}
+use lib.Seq.{sets, length-sets}
 use borrow.Author.Tests.{eqb-true, leb-true}
 use Rattle.model.specs.declared.Session.{Session}
 use Rattle.model.specs.declared.Call.{Call}
 use Rattle.model.specs.declared.Call.the-variants.{Begin, Read, Write, Seal, Advance, Abandon, Peek}
 use Rattle.model.specs.declared.Plan.{Plan}
 use Rattle.model.specs.declared.Plan.the-variants.{Refuse, Start, Tell, Enter, Update, EnterUpdate, RollBack, Cancel, CommitReads, BeginPromotion, Wait, Own, Publish, Release, ShowStore, ShowLog}
-use Rattle.model.specs.Buffers.{Locks, Buffers, Store, idle, running, sessionAt, withSession, withEntry, moveTo, word, cellAt, entryAt, slotIn, entryOf, lookIn, targetIn, currentOf, appended, updated, lockAt, lockOn, join, cap, fits, allFit, lengthsFit, fresh}
+use Rattle.model.specs.Buffers.{Locks, Buffers, Store, idle, running, sessionAt, withSession, withEntry, moveTo, word, cellAt, entryAt, slotIn, entryOf, lookIn, targetIn, currentOf, appended, updated, lockAt, lockOn, join, cap, fits, allFit, lengthsFit, fresh, part, onPart, size}
 use Rattle.model.specs.Companions.{capOf, ReadWithin, WithinCaps}
 use Rattle.model.specs.History.{run, history, cellOf}
 use Rattle.model.specs.Isolation.{All}
 use Rattle.model.specs.Readers.{otherReaders}
 use Rattle.model.specs.Search.{some?, find}
-use Rattle.model.specs.Step.{number, valueOf, handled, change, changeLogs, recordOf, after, releasing, answer, guard, known, claimed, readPlan, writeSlot, writePlan, sealPlan, promotePlan, advancePlan, peekPlan, plan, sessionOf, planOf, step, reply, setUpAnswer, setUp}
+use Rattle.model.specs.Step.{number, valueOf, handled, change, changeLogs, recordOf, after, releasing, answer, guard, known, claimed, readPlan, writeSlot, writePlan, sealPlan, promotePlan, advancePlan, peekPlan, plan, sessionOf, planOf, step, reply, setUpAnswer, setUp, logOf, admit, readOn, writeOn, sealOn, peekOn}
 use Rattle.model.proofs.Demand3.{set-up-passed, set-up-fresh}
-use Rattle.model.proofs.Laws.{find-some, getD-sets-other, grown-word}
+use Rattle.model.proofs.Laws.{find-some, getD-sets-other, part-length, part-own, part-other, length-on, grown-word, grown-apart}
 use Rattle.model.proofs.Preservation.{choose, guarded, cell-known, cell-new}
 use Rattle.model.proofs.Runs.{first}
 use Rattle.model.proofs.Tools.{same, split, test, which, clash, both-l, both-r, and-false}
@@ -34,13 +34,13 @@ use Rattle.model.proofs.Tools.{same, split, test, which, clash, both-l,
 abbrev pub InUse : Session → ℕ → Type 0
 InUse x k = (x .phase ≡ 0 → ⊥) × (k < x .count)
 
--- the current value of entry k of session s is within the bound of its cell
-abbrev pub EntryWithin : (ℕ → ℕ) → List ℕ → ℕ → ℕ → Type 0
-EntryWithin bound logs s k = entryAt logs s k .current ≤ bound (cellAt logs s k)
+-- the current value of entry k of a part is within the bound of its cell
+abbrev pub EntryWithin : (ℕ → ℕ) → List ℕ → ℕ → Type 0
+EntryWithin bound log k = entryAt log k .current ≤ bound (cellAt log k)
 
 pub record Capped (σ : Store) : Type 0 where
   pub stored : (c : ℕ) → getD (σ .lent .values) c 0 ≤ capOf σ c
-  pub logged : (s k : ℕ) → InUse (recordOf σ s) k → EntryWithin (capOf σ) (σ .lent .logs) s k
+  pub logged : (s k : ℕ) → InUse (recordOf σ s) k → EntryWithin (capOf σ) (logOf σ s) k
 
 -- ---- lists and logs
 
@@ -52,67 +52,75 @@ set-either P (x ∷ l) zero (suc j) a d f h = h
 set-either P (x ∷ l) (suc i) zero a d f h = h
 set-either P (x ∷ l) (suc i) (suc j) a d f h = set-either P l i j a d (λ e. f (ap suc e)) h
 
--- entries lie one after the other through all the logs: entry j of session t is entry k of session s where 32 × t + j is 32 × s + k, and else has
--- none of its words; so no bound on the other sessions' counts is needed
-word-same : (logs : List ℕ) (s k t j i : ℕ) → 32 * t + j ≡ 32 * s + k → word logs t j i ≡ word logs s k i
-unfolding word
-word-same logs s k t j i e = ap (λ (p : ℕ). getD logs p 0) (let q : 128 * t + (4 * j + i) ≡ 128 * s + (4 * k + i) = omega arith in q)
-
-word-apart : (logs vs : List ℕ) (s k t j i : ℕ) → (32 * t + j ≡ 32 * s + k → ⊥) → i < 4 → length vs ≤ 4 → word (sets logs (128 * s + 4 * k) vs) t j i ≡ word logs t j i
-unfolding word
-word-apart logs vs s k t j i n l h = getD-sets-other vs logs (128 * s + 4 * k) (128 * t + (4 * j + i)) (λ m p e. n (omega arith))
-
-entered-cell : (logs : List ℕ) (s k c v : ℕ) → s < 16 → k < 32 → length logs ≡ 2048 → cellAt (appended logs s k c v) s k ≡ c
-unfolding cellAt appended
-entered-cell logs s k c v ls lk len = grown-word logs s k c v ls lk len 0 (omega arith)
-
-module _ (bound : ℕ → ℕ) (logs : List ℕ) (s k : ℕ) where
-  appended-within : (c v : ℕ) → s < 16 → k < 32 → length logs ≡ 2048 → v ≤ bound c
-      → (t j : ℕ) → ((32 * t + j ≡ 32 * s + k → ⊥) → EntryWithin bound logs t j) → EntryWithin bound (appended logs s k c v) t j
+module _ (bound : ℕ → ℕ) (log : List ℕ) (k : ℕ) where
+  appended-within : (c v : ℕ) → k < 32 → length log ≡ 128 → v ≤ bound c → (j : ℕ) → ((j ≡ k → ⊥) → EntryWithin bound log j) → EntryWithin bound (appended log k c v) j
   unfolding cellAt entryAt appended
-  appended-within c v ls lk len h t j f =
-      let vs = c ∷ v ∷ v ∷ 0 ∷ [] in
-      same (32 * t + j) (32 * s + k)
-      (λ e.
-      let new : (i : ℕ) → i < 4 → word (sets logs (128 * s + 4 * k) vs) t j i ≡ getD vs i 0 =
-      λ i l. word-same (sets logs (128 * s + 4 * k) vs) s k t j i e ∙ grown-word logs s k c v ls lk len i l in
-      rw (new 2 (omega arith), new 0 (omega arith)) h)
-      (λ n.
-      let old : (i : ℕ) → i < 4 → word (sets logs (128 * s + 4 * k) vs) t j i ≡ word logs t j i = λ i l. word-apart logs vs s k t j i n l (omega arith) in
-      rw (old 2 (omega arith), old 0 (omega arith)) (f n))
+  appended-within c v lk len h j f =
+      same j k
+      (λ e. rw e (rw (grown-word log k c v lk len 2 (omega arith), grown-word log k c v lk len 0 (omega arith)) h))
+      (λ n. rw (grown-apart log k c v lk len j 2 n (omega arith), grown-apart log k c v lk len j 0 n (omega arith)) (f n))
 
-  updated-within : (v : ℕ) → v ≤ bound (cellAt logs s k) → (t j : ℕ) → EntryWithin bound logs t j → EntryWithin bound (updated logs s k v) t j
+  updated-within : (v : ℕ) → v ≤ bound (cellAt log k) → (j : ℕ) → EntryWithin bound log j → EntryWithin bound (updated log k v) j
   unfolding cellAt entryAt updated word
-  updated-within v h t j old =
-      let q : getD (sets logs (128 * s + (4 * k + 2)) (v ∷ 1 ∷ [])) (128 * t + (4 * j + 0)) 0 ≡ getD logs (128 * t + (4 * j + 0)) 0 =
-      getD-sets-other (v ∷ 1 ∷ []) logs (128 * s + (4 * k + 2)) (128 * t + (4 * j + 0)) (λ m p e. omega arith) in
+  updated-within v h j old =
+      let q : getD (sets log (4 * k + 2) (v ∷ 1 ∷ [])) (4 * j + 0) 0 ≡ getD log (4 * j + 0) 0 =
+      getD-sets-other (v ∷ 1 ∷ []) log (4 * k + 2) (4 * j + 0) (λ m p e. omega arith) in
       rw q
-      (set-either (λ x. x ≤ bound (word logs t j 0)) (set logs (128 * s + (4 * k + 2)) v) (suc (128 * s + (4 * k + 2))) (128 * t + (4 * j + 2)) 1 0
+      (set-either (λ x. x ≤ bound (word log j 0)) (set log (4 * k + 2) v) (suc (4 * k + 2)) (4 * j + 2) 1 0
       (λ e. absurd (omega arith))
-      (set-either (λ x. x ≤ bound (word logs t j 0)) logs (128 * s + (4 * k + 2)) (128 * t + (4 * j + 2)) v 0
-      (λ e. rw (word-same logs s k t j 0 (omega arith)) h) old))
+      (set-either (λ x. x ≤ bound (word log j 0)) log (4 * k + 2) (4 * j + 2) v 0
+      (λ e. let w : j ≡ k = omega arith in rw w h) old))
+
+-- the entries where session s's part is changed by f: those of the changed part, and the other sessions' as before
+on-within : (bound : ℕ → ℕ) (s : ℕ) (logs : List ℕ) → s < 16 → length logs ≡ 2048 → (f : List ℕ → List ℕ) → length (f (part logs s)) ≡ 128 → (t j : ℕ)
+    → (t ≡ s → EntryWithin bound (f (part logs s)) j) → ((t ≡ s → ⊥) → EntryWithin bound (part logs t) j) → EntryWithin bound (part (onPart s f logs) t) j
+on-within bound s logs lt len f w t j new old =
+    same t s (λ e. rw e (rw (part-own s logs lt len f w) (new e))) (λ n. rw (part-other s logs lt len f w t n) (old n))
+
+module _ (s : ℕ) (logs : List ℕ) (k c v : ℕ) (lt : s < 16) (len : length logs ≡ 2048) where
+  grown-whole : length (appended (part logs s) k c v) ≡ 128
+  unfolding appended
+  grown-whole = length-sets (part logs s) (4 * k) (c ∷ v ∷ v ∷ 0 ∷ []) ∙ part-length logs s lt len
+
+  changed-whole : length (updated (part logs s) k v) ≡ 128
+  unfolding updated
+  changed-whole = length-sets (part logs s) (4 * k + 2) (v ∷ 1 ∷ []) ∙ part-length logs s lt len
+
+  entered-length : length (onPart s (λ log. appended log k c v) logs) ≡ 2048
+  entered-length = length-on s logs lt len (λ log. appended log k c v) grown-whole ∙ len
+
+  entered-cell : k < 32 → cellAt (part (onPart s (λ log. appended log k c v) logs) s) k ≡ c
+  unfolding cellAt
+  entered-cell lk =
+      rw (part-own s logs lt len (λ log. appended log k c v) grown-whole) (unfold appended in grown-word (part logs s) k c v lk (part-length logs s lt len) 0 (omega arith))
 
 -- ---- what a plan leaves
 
 -- session s acts: the values, the entries in use before, and those of its new record are within the caps
 change-keeps : (σ : Store) (s : ℕ) (L : Locks) (vs W : List ℕ) (x : Session) → ((c : ℕ) → getD vs c 0 ≤ capOf σ c)
-    → ((t k : ℕ) → InUse (recordOf σ t) k → EntryWithin (capOf σ) W t k) → ((k : ℕ) → InUse x k → EntryWithin (capOf σ) W s k)
+    → ((t k : ℕ) → InUse (recordOf σ t) k → EntryWithin (capOf σ) (part W t) k) → ((k : ℕ) → InUse x k → EntryWithin (capOf σ) (part W s) k)
     → Capped (change σ s L vs W x)
 unfolding sessionAt withSession
 change-keeps σ s L vs W x h old new =
     record {
       stored = h;
-      logged = λ t k. set-either (λ (y : Session). InUse y k → EntryWithin (capOf σ) W t k) (σ .sessions .records) s t x idle (λ e. rw e (new k)) (old t k);
+      logged = λ t k. set-either (λ (y : Session). InUse y k → EntryWithin (capOf σ) (part W t) k) (σ .sessions .records) s t x idle (λ e. rw e (new k)) (old t k);
     }
 
 -- a value written into an entry
-update-keeps : {σ : Store} → Capped σ → (s k v : ℕ) → v ≤ capOf σ (cellAt (σ .lent .logs) s k) → Capped (changeLogs σ (updated (σ .lent .logs) s k v))
-update-keeps {σ} I s k v h = record { stored = I .stored; logged = λ t j u. updated-within (capOf σ) (σ .lent .logs) s k v h t j (I .logged t j u) }
+update-keeps : {σ : Store} → Capped σ → (s k v : ℕ) → s < 16 → length (σ .lent .logs) ≡ 2048 → v ≤ capOf σ (cellAt (logOf σ s) k)
+    → Capped (changeLogs σ (onPart s (λ log. updated log k v) (σ .lent .logs)))
+update-keeps {σ} I s k v lt len h =
+    record {
+      stored = I .stored;
+      logged = λ t j u. on-within (capOf σ) s (σ .lent .logs) lt len (λ log. updated log k v) (changed-whole s (σ .lent .logs) k 0 v lt len) t j
+          (λ e. updated-within (capOf σ) (logOf σ s) k v h j (subst (λ (i : ℕ). EntryWithin (capOf σ) (logOf σ i) j) e (I .logged t j u))) (λ _. I .logged t j u);
+    }
 
-handled-in-use : (B : Buffers) (s c : ℕ) (x : Session) → (x .phase ≡ 0 → ⊥) → (k : ℕ) → InUse (handled B s c x) k → InUse x k
+handled-in-use : (log : List ℕ) (c : ℕ) (x : Session) → (x .phase ≡ 0 → ⊥) → (k : ℕ) → InUse (handled log c x) k → InUse x k
 unfolding handled
-handled-in-use B s c x n k =
-    split (λ (y : Session). InUse y k → InUse x k) (some? (targetIn (B .logs) s (x .count) (suc c))) (λ _ u. (n, u .1))
+handled-in-use log c x n k =
+    split (λ (y : Session). InUse y k → InUse x k) (some? (targetIn log (x .count) (suc c))) (λ _ u. (n, u .1))
     (λ _. split (λ (y : Session). InUse y k → InUse x k) (eqb (x .phase) 4) (λ _ u. absurd (u .0 refl)) (λ _ u. (n, u .1)))
 
 module _ {σ : Store} (I : Capped σ) (s : ℕ) where
@@ -125,27 +133,29 @@ module _ {σ : Store} (I : Capped σ) (s : ℕ) where
 
   module _ (n : recordOf σ s .phase ≡ 0 → ⊥) where
     -- what the log has for a cell
-    current-within : (c : ℕ) → currentOf (lookIn (σ .lent .logs) s (recordOf σ s .count) c) ≤ capOf σ c
+    current-within : (c : ℕ) → currentOf (lookIn (logOf σ s) (recordOf σ s .count) c) ≤ capOf σ c
     unfolding lookIn slotIn entryOf
     current-within c =
-        which (find (cellAt (σ .lent .logs) s) (recordOf σ s .count) c) (λ p. rw p (omega arith))
-        (λ k p. let f = find-some (cellAt (σ .lent .logs) s) c (recordOf σ s .count) p in rw p (rw (f .1) at (I .logged s k (n, f .0))))
+        which (find (cellAt (logOf σ s)) (recordOf σ s .count) c) (λ p. rw p (omega arith))
+        (λ k p. let f = find-some (cellAt (logOf σ s)) c (recordOf σ s .count) p in rw p (rw (f .1) at (I .logged s k (n, f .0))))
 
     enter-keeps : length (σ .lent .logs) ≡ 2048 → s < 16 → recordOf σ s .count < 32 → (c : ℕ) → Capped (after s (Enter c) σ)
     unfolding after
     enter-keeps len lt room c =
         let v = getD (σ .lent .values) c 0 in
         let m = recordOf σ s .count in
-        let w = appended-within (capOf σ) (σ .lent .logs) s m c v lt room len (I .stored c) in
-        change-keeps σ s (lockOn c (join s) (σ .lent .locks)) (σ .lent .values) (appended (σ .lent .logs) s m c v) (withEntry (recordOf σ s)) (I .stored)
-        (λ t j u. w t j (λ _. I .logged t j u)) (λ j u. w s j (λ ne. I .logged s j (n, omega (arith, u .1))))
+        let w = appended-within (capOf σ) (logOf σ s) m c v room (part-length (σ .lent .logs) s lt len) (I .stored c) in
+        let g = on-within (capOf σ) s (σ .lent .logs) lt len (λ log. appended log m c v) (grown-whole s (σ .lent .logs) m c v lt len) in
+        change-keeps σ s (lockOn c (join s) (σ .lent .locks)) (σ .lent .values) (onPart s (λ log. appended log m c v) (σ .lent .logs)) (withEntry (recordOf σ s)) (I .stored)
+        (λ t j u. g t j (λ e. w j (λ _. subst (λ (i : ℕ). EntryWithin (capOf σ) (logOf σ i) j) e (I .logged t j u))) (λ _. I .logged t j u))
+        (λ j u. g s j (λ _. w j (λ ne. I .logged s j (n, omega (arith, u .1)))) (λ ne. absurd (ne refl)))
 
     publish-keeps : (c v : ℕ) → v ≤ capOf σ c → Capped (after s (Publish c v) σ)
     unfolding after
     publish-keeps c v h =
-        change-keeps σ s (σ .lent .locks) (set (σ .lent .values) c v) (σ .lent .logs) (handled (σ .lent) s c (recordOf σ s))
+        change-keeps σ s (σ .lent .locks) (set (σ .lent .values) c v) (σ .lent .logs) (handled (logOf σ s) c (recordOf σ s))
         (λ d. set-either (λ x. x ≤ capOf σ d) (σ .lent .values) c d v 0 (λ e. rw e h) (I .stored d)) (I .logged)
-        (λ k u. I .logged s k (handled-in-use (σ .lent) s c (recordOf σ s) n k u))
+        (λ k u. I .logged s k (handled-in-use (logOf σ s) c (recordOf σ s) n k u))
 
 -- ---- the calls
 
@@ -156,7 +166,7 @@ logs-long B h =
 
 -- what `guarded` tells of a call that is not turned down, and the logs' length
 fitting {ℓ} : (P : Plan → Type ℓ) (B : Buffers) (s : ℕ) (x : Session) (fit : Bool) (p : Plan) → ((k : ℕ) → P (Refuse k))
-    → (length (B .logs) ≡ 2048 → s < 16 → fit ≡ true → P p) → P (guard B s x fit p)
+    → (length (B .logs) ≡ 2048 → s < 16 → fit ≡ true → P p) → P (admit B s (guard (size B) (part (B .logs) s) x fit p))
 unfolding guard
 fitting P B s x fit p r f =
     test (lengthsFit B)
@@ -179,82 +189,84 @@ module _ {σ : Store} (I : Capped σ) where
   -- a call of a running session on a cell
   on-cell : (k : Call) (p : Plan) → let s = sessionOf k in let c = cellOf k in
       (length (σ .lent .logs) ≡ 2048 → s < 16 → (recordOf σ s .phase ≡ 0 → ⊥) → Kept k p)
-      → Kept k (guard (σ .lent) s (recordOf σ s) (eqb (recordOf σ s .phase) 1) (known (σ .lent) c p))
+      → Kept k (admit (σ .lent) s (guard (size (σ .lent)) (logOf σ s) (recordOf σ s) (eqb (recordOf σ s .phase) 1) (known (size (σ .lent)) c p)))
   on-cell k p f =
       let s = sessionOf k in
-      fitting (Kept k) (σ .lent) s (recordOf σ s) (eqb (recordOf σ s .phase) 1) (known (σ .lent) (cellOf k) p) (keep-refusal k)
-      (λ len lt h. cell-known (Kept k) (σ .lent) (cellOf k) p (keep-refusal k 3) (λ _. f len lt (λ e. let w = eqb-true (recordOf σ s .phase) 1 h in omega arith)))
+      fitting (Kept k) (σ .lent) s (recordOf σ s) (eqb (recordOf σ s .phase) 1) (known (size (σ .lent)) (cellOf k) p) (keep-refusal k)
+      (λ len lt h. cell-known (Kept k) (size (σ .lent)) (cellOf k) p (keep-refusal k 3) (λ _. f len lt (λ e. let w = eqb-true (recordOf σ s .phase) 1 h in omega arith)))
 
-  keep-read : (s c : ℕ) → Kept (Read s c) (plan (Read s c) (σ .lent) (recordOf σ s))
-  unfolding plan readPlan after answer lookIn entryOf
+  keep-read : (s c : ℕ) → Kept (Read s c) (planOf (Read s c) σ)
+  unfolding planOf plan readOn writeOn sealOn peekOn readPlan after answer lookIn entryOf
   keep-read s c =
-      on-cell (Read s c) (readPlan (σ .lent) s (recordOf σ s) c (slotIn (σ .lent .logs) s (recordOf σ s .count) c))
+      on-cell (Read s c) (readPlan (logOf σ s) (recordOf σ s) (lockAt (σ .lent .locks) c) c (slotIn (logOf σ s) (recordOf σ s .count) c))
       (λ len lt n.
-      choose (Kept (Read s c)) (readPlan (σ .lent) s (recordOf σ s) c) (slotIn (σ .lent .logs) s (recordOf σ s .count) c)
+      choose (Kept (Read s c)) (readPlan (logOf σ s) (recordOf σ s) (lockAt (σ .lent .locks) c) c) (slotIn (logOf σ s) (recordOf σ s .count) c)
       (λ _. cell-new (Kept (Read s c)) (recordOf σ s) (lockAt (σ .lent .locks) c) (Enter c) (keep-refusal (Read s c) 5) (λ _. keep-rollback (Read s c))
       (λ room _. (enter-keeps I s n len lt room c, I .stored c)))
       (λ j p. (I, rw p at (current-within I s n c))))
 
-  keep-write : (s c v : ℕ) → Kept (Write s c v) (plan (Write s c v) (σ .lent) (recordOf σ s))
-  unfolding plan writePlan writeSlot after answer slotIn
+  keep-write : (s c v : ℕ) → Kept (Write s c v) (planOf (Write s c v) σ)
+  unfolding planOf plan readOn writeOn sealOn peekOn writePlan writeSlot after answer slotIn
   keep-write s c v =
       let k = getD (σ .lent .classes) c 0 in
       let call = Write s c v in
       let m = recordOf σ s .count in
-      on-cell call (cond (ltb k 16) (writePlan (σ .lent) s (recordOf σ s) c v (cap k)) (Refuse 8))
+      on-cell call (cond (ltb k 16) (writePlan (logOf σ s) (recordOf σ s) (lockAt (σ .lent .locks) c) c v (cap k)) (Refuse 8))
       (λ len lt n.
       split (Kept call) (ltb k 16)
       (λ _. split (Kept call) (leb v (cap k))
       (λ h.
       let le : v ≤ capOf σ c = leb-true v (cap k) h in
-      choose (Kept call) (writeSlot (σ .lent) (recordOf σ s) c v) (slotIn (σ .lent .logs) s m c)
+      choose (Kept call) (writeSlot (recordOf σ s) (lockAt (σ .lent .locks) c) c v) (slotIn (logOf σ s) m c)
       (λ _. cell-new (Kept call) (recordOf σ s) (lockAt (σ .lent .locks) c) (EnterUpdate c v) (keep-refusal call 5) (λ _. keep-rollback call)
-      (λ room _. (update-keeps (enter-keeps I s n len lt room c) s m v (rw (entered-cell (σ .lent .logs) s m c (getD (σ .lent .values) c 0) lt room len) le), omega arith)))
-      (λ j p. (update-keeps I s j v (rw (find-some (cellAt (σ .lent .logs) s) c m p .1) le), omega arith)))
+      (λ room _.
+      let u = getD (σ .lent .values) c 0 in
+      (update-keeps (enter-keeps I s n len lt room c) s m v lt (entered-length s (σ .lent .logs) m c u lt len) (rw (entered-cell s (σ .lent .logs) m c u lt len room) le), omega arith)))
+      (λ j p. (update-keeps I s j v lt len (rw (find-some (cellAt (logOf σ s)) c m p .1) le), omega arith)))
       (λ _. keep-refusal call 4))
       (λ _. keep-refusal call 8))
 
-  keep-peek : (s c : ℕ) → Kept (Peek s c) (plan (Peek s c) (σ .lent) (recordOf σ s))
-  unfolding plan peekPlan after answer
+  keep-peek : (s c : ℕ) → Kept (Peek s c) (planOf (Peek s c) σ)
+  unfolding planOf plan readOn writeOn sealOn peekOn peekPlan after answer
   keep-peek s c =
-      on-cell (Peek s c) (peekPlan (σ .lent) s c (slotIn (σ .lent .logs) s (recordOf σ s .count) c))
+      on-cell (Peek s c) (peekPlan (logOf σ s) c (slotIn (logOf σ s) (recordOf σ s .count) c))
       (λ _ _ _.
-      choose (Kept (Peek s c)) (peekPlan (σ .lent) s c) (slotIn (σ .lent .logs) s (recordOf σ s .count) c) (λ _. keep-refusal (Peek s c) 14)
-      (λ k _. split (Kept (Peek s c)) (entryAt (σ .lent .logs) s k .dirty) (λ _. (I, omega arith)) (λ _. (I, omega arith))))
+      choose (Kept (Peek s c)) (peekPlan (logOf σ s) c) (slotIn (logOf σ s) (recordOf σ s .count) c) (λ _. keep-refusal (Peek s c) 14)
+      (λ k _. split (Kept (Peek s c)) (entryAt (logOf σ s) k .dirty) (λ _. (I, omega arith)) (λ _. (I, omega arith))))
 
-  keep-begin : (s : ℕ) → Kept (Begin s) (plan (Begin s) (σ .lent) (recordOf σ s))
-  unfolding plan after answer
+  keep-begin : (s : ℕ) → Kept (Begin s) (planOf (Begin s) σ)
+  unfolding planOf plan readOn writeOn sealOn peekOn after answer
   keep-begin s =
       fitting (Kept (Begin s)) (σ .lent) s (recordOf σ s) (eqb (recordOf σ s .phase) 0) Start (keep-refusal (Begin s))
       (λ _ _ _. (shrink-keeps I s (σ .lent .locks) running (λ k u. absurd (omega (arith, u .1))), omega arith))
 
-  keep-abandon : (s : ℕ) → Kept (Abandon s) (plan (Abandon s) (σ .lent) (recordOf σ s))
-  unfolding plan after answer
+  keep-abandon : (s : ℕ) → Kept (Abandon s) (planOf (Abandon s) σ)
+  unfolding planOf plan readOn writeOn sealOn peekOn after answer
   keep-abandon s =
       fitting (Kept (Abandon s)) (σ .lent) s (recordOf σ s) (eqb (recordOf σ s .phase) 1 || eqb (recordOf σ s .phase) 2) Cancel (keep-refusal (Abandon s))
       (λ _ _ _. (idle-keeps I s _, omega arith))
 
-  keep-seal : (s : ℕ) → Kept (Seal s) (plan (Seal s) (σ .lent) (recordOf σ s))
-  unfolding plan sealPlan after answer
+  keep-seal : (s : ℕ) → Kept (Seal s) (planOf (Seal s) σ)
+  unfolding planOf plan readOn writeOn sealOn peekOn sealPlan after answer
   keep-seal s =
       let x = recordOf σ s in
-      fitting (Kept (Seal s)) (σ .lent) s x (eqb (x .phase) 1) (sealPlan (targetIn (σ .lent .logs) s (x .count) 0)) (keep-refusal (Seal s))
+      fitting (Kept (Seal s)) (σ .lent) s x (eqb (x .phase) 1) (sealPlan (targetIn (logOf σ s) (x .count) 0)) (keep-refusal (Seal s))
       (λ _ _ h.
-      choose (Kept (Seal s)) sealPlan (targetIn (σ .lent .logs) s (x .count) 0) (λ _. (idle-keeps I s _, omega arith))
+      choose (Kept (Seal s)) sealPlan (targetIn (logOf σ s) (x .count) 0) (λ _. (idle-keeps I s _, omega arith))
       (λ c _. (shrink-keeps I s _ (moveTo 2 0 x) (λ k u. (λ e. let w = eqb-true (x .phase) 1 h in omega arith, u .1)), omega arith)))
 
-  keep-advance : (s : ℕ) → Kept (Advance s) (plan (Advance s) (σ .lent) (recordOf σ s))
-  unfolding plan advancePlan promotePlan after answer releasing
+  keep-advance : (s : ℕ) → Kept (Advance s) (planOf (Advance s) σ)
+  unfolding planOf plan readOn writeOn sealOn peekOn advancePlan promotePlan after answer releasing
   keep-advance s =
       let x = recordOf σ s in
       let call = Advance s in
-      fitting (Kept call) (σ .lent) s x (leb 2 (x .phase)) (advancePlan (σ .lent) s x (targetIn (σ .lent .logs) s (x .count) (x .next))) (keep-refusal call)
+      fitting (Kept call) (σ .lent) s x (leb 2 (x .phase)) (advancePlan s (logOf σ s) x (lockAt (σ .lent .locks)) (targetIn (logOf σ s) (x .count) (x .next))) (keep-refusal call)
       (λ _ _ h.
       let n : x .phase ≡ 0 → ⊥ = λ e. let w = leb-true 2 (x .phase) h in omega arith in
-      choose (Kept call) (advancePlan (σ .lent) s x) (targetIn (σ .lent .logs) s (x .count) (x .next)) (λ _. keep-refusal call 9)
+      choose (Kept call) (advancePlan s (logOf σ s) x (lockAt (σ .lent .locks))) (targetIn (logOf σ s) (x .count) (x .next)) (λ _. keep-refusal call 9)
       (λ c _.
-      let handle-keeps : (L : Locks) → Capped (change σ s L (σ .lent .values) (σ .lent .logs) (handled (σ .lent) s c x)) =
-      λ L. shrink-keeps I s L (handled (σ .lent) s c x) (handled-in-use (σ .lent) s c x n) in
+      let handle-keeps : (L : Locks) → Capped (change σ s L (σ .lent .values) (σ .lent .logs) (handled (logOf σ s) c x)) =
+      λ L. shrink-keeps I s L (handled (logOf σ s) c x) (handled-in-use (logOf σ s) c x n) in
       split (Kept call) (eqb (x .phase) 2)
       (λ _.
       let l = lockAt (σ .lent .locks) c in
@@ -262,7 +274,7 @@ module _ {σ : Store} (I : Capped σ) where
       (λ _. split (Kept call) (eqb (otherReaders s (l .readers)) 0) (λ _. (handle-keeps _, omega arith))
       (λ _. (record { stored = I .stored; logged = I .logged }, omega arith))))
       (λ _. split (Kept call) (eqb (x .phase) 3) (λ _. (publish-keeps I s n c _ (current-within I s n c), omega arith))
-      (λ _. (handle-keeps _, split (λ a. valueOf a ≤ capOf σ 0) (some? (targetIn (σ .lent .logs) s (x .count) (suc c))) (λ _. omega arith) (λ _. omega arith))))))
+      (λ _. (handle-keeps _, split (λ a. valueOf a ≤ capOf σ 0) (some? (targetIn (logOf σ s) (x .count) (suc c))) (λ _. omega arith) (λ _. omega arith))))))
 
   keep : (k : Call) → Kept k (planOf k σ)
   unfolding planOf

@@ -9,13 +9,13 @@ use lib.ListN.{length, getD}
 use lib.Seq.{length-sets}
 use Rattle.model.specs.declared.Session.{Session}
 use Rattle.model.specs.declared.Lock.{Lock}
-use Rattle.model.specs.Buffers.{Locks, Store, idle, running, withEntry, Entry, cellAt, entryAt, slotIn, entryOf, lookIn, isDirty, appended, updated, lockAt, lockOn, join, withdraw}
+use Rattle.model.specs.Buffers.{Locks, Store, idle, running, withEntry, Entry, cellAt, entryAt, slotIn, entryOf, lookIn, isDirty, appended, updated, lockAt, lockOn, join, withdraw, part, onPart}
 use Rattle.model.specs.History.{run}
 use Rattle.model.specs.Isolation.{at}
 use Rattle.model.specs.Search.{find}
-use Rattle.model.specs.Step.{rolledBack, change, changeLogs, recordOf}
+use Rattle.model.specs.Step.{rolledBack, change, changeLogs, recordOf, logOf}
 use Rattle.model.proofs.Invariant.{roleIn, roleOf, role, Running, Link, Shape, just-map, Inv, Frame, role-other, assemble, quiet}
-use Rattle.model.proofs.Laws.{Long, lock-same, lock-other, long-set, long-sweep, lock-sweep, withdraw-withdraw, grown-other, grown-find, grown-new, grown-old, changed-other, changed-old, changed-new, session-same, session-other, length-records}
+use Rattle.model.proofs.Laws.{Long, lock-same, lock-other, long-set, long-sweep, lock-sweep, withdraw-withdraw, part-length, part-own, part-other, length-on, grown-find, grown-new, grown-old, changed-old, changed-new, session-same, session-other, length-records}
 use Rattle.model.proofs.Ledger.{Txn, opened, saw, wroteTo, Commit, Ledger, blank}
 use Rattle.model.proofs.Roles.{Role, out, reading, holds, owns, pends, claims?, Locked, Valued, unowned, kept, joins, withdraws, stays, sees}
 use Rattle.model.proofs.Running.{run-enter, run-note, run-saw}
@@ -30,7 +30,7 @@ pub record Acts (n : ℕ) (σ : Store) (s : ℕ) (x : Session) (τ : Store) : Ty
   pub others : (t : ℕ) → (t ≡ s → ⊥) → recordOf τ t ≡ recordOf σ t
   pub records : length (τ .sessions .records) ≡ 16
   pub logs : length (τ .lent .logs) ≡ 2048
-  pub notes : (t : ℕ) → (t ≡ s → ⊥) → (m d : ℕ) → m ≤ 32 → lookIn (τ .lent .logs) t m d ≡ lookIn (σ .lent .logs) t m d
+  pub notes : (t : ℕ) → (t ≡ s → ⊥) → logOf τ t ≡ logOf σ t
   pub shape : Shape n σ
   pub lt : s < 16
 
@@ -43,13 +43,13 @@ module _ {n : ℕ} {σ τ : Store} {s : ℕ} {x : Session} (a : Acts n σ s x τ
 
   pub frame : Frame s σ τ
   unfolding look
-  frame = record { ses = ses-other; notes = λ t n. fun-ext (λ c. rw (ses-other t n) (a .notes t n (recordOf σ t .count) c (a .shape .counts t))) }
+  frame = record { ses = ses-other; notes = λ t n. fun-ext (λ c. rw (ses-other t n, a .notes t n)) }
 
-  pub look-mine : (c : ℕ) → look τ s c ≡ lookIn (τ .lent .logs) s (x .count) c
+  pub look-mine : (c : ℕ) → look τ s c ≡ lookIn (logOf τ s) (x .count) c
   unfolding look
   look-mine c = rw ses-same
 
-  pub role-mine : (c : ℕ) → role τ c s ≡ roleOf x c (lookIn (τ .lent .logs) s (x .count) c)
+  pub role-mine : (c : ℕ) → role τ c s ≡ roleOf x c (lookIn (logOf τ s) (x .count) c)
   unfolding role
   role-mine c = rw (ses-same, look-mine c)
 
@@ -81,7 +81,7 @@ module _ {n : ℕ} {σ τ : Store} {s : ℕ} {x : Session} (a : Acts n σ s x τ
 
 -- ---- roll-back
 
-pub unknown : (σ : Store) (s c : ℕ) → find (cellAt (σ .lent .logs) s) (recordOf σ s .count) c ≡ none → role σ c s ≡ out
+pub unknown : (σ : Store) (s c : ℕ) → find (cellAt (logOf σ s)) (recordOf σ s .count) c ≡ none → role σ c s ≡ out
 unfolding role roleOf look lookIn slotIn entryOf
 unknown σ s c h = rw h
 
@@ -98,7 +98,7 @@ pub running-role : (σ : Store) (s c : ℕ) (e : Entry) → recordOf σ s .phase
 unfolding role roleOf roleIn
 running-role σ s c e h p = rw (p, h)
 
-pub look-is : (σ : Store) (s c : ℕ) → look σ s c ≡ lookIn (σ .lent .logs) s (recordOf σ s .count) c
+pub look-is : (σ : Store) (s c : ℕ) → look σ s c ≡ lookIn (logOf σ s) (recordOf σ s .count) c
 unfolding look
 look-is σ s c = refl
 
@@ -106,7 +106,7 @@ pub slot-none : (σ : Store) (s c : ℕ) → slot σ s c ≡ none → look σ s 
 unfolding look lookIn entryOf slot slotIn
 slot-none σ s c h = rw h
 
-pub slot-some : (σ : Store) (s c : ℕ) {k : ℕ} → slot σ s c ≡ some k → look σ s c ≡ some (entryAt (σ .lent .logs) s k)
+pub slot-some : (σ : Store) (s c : ℕ) {k : ℕ} → slot σ s c ≡ some k → look σ s c ≡ some (entryAt (logOf σ s) k)
 unfolding look lookIn entryOf slot slotIn
 slot-some σ s c h = rw h
 
@@ -123,7 +123,7 @@ acts {n} {σ} h s lt L F x =
       others = session-other (σ .sessions) s x;
       records = length-records (σ .sessions) s x ∙ h .records;
       logs = h .logs;
-      notes = λ t n m d l. refl;
+      notes = λ t n. refl;
       shape = h;
       lt = lt;
     }
@@ -139,17 +139,17 @@ module _ {start : List ℕ} {σ : Store} {T : Ledger} (s : ℕ) (lt : s < 16) (I
   -- ---- roll-back
 
   pub rolls : ((c : ℕ) → pends (role σ c s) ≡ false) → (u : Txn) → u .live ≡ false
-      → Inv start (change σ s (rolledBack (σ .lent) s (recordOf σ s)) (σ .lent .values) (σ .lent .logs) idle) (amended s u (T .commits) T)
+      → Inv start (change σ s (rolledBack (logOf σ s) (recordOf σ s .count) s (σ .lent .locks)) (σ .lent .values) (σ .lent .logs) idle) (amended s u (T .commits) T)
   unfolding rolledBack
   rolls np u dead =
-      let a = acts (I .shape) s lt (rolledBack (σ .lent) s x) (σ .lent .values) idle in
+      let a = acts (I .shape) s lt (rolledBack (logOf σ s) (x .count) s (σ .lent .locks)) (σ .lent .values) idle in
       quiet s I (frame a)
       (shaped a (I .shape .values)
-      (long-sweep (λ c. true) (withdraw s) (cellAt (σ .lent .logs) s) (σ .lent .locks) (length start) (I .shape .long) (x .count)) (omega arith))
+      (long-sweep (λ c. true) (withdraw s) (cellAt (logOf σ s)) (σ .lent .locks) (length start) (I .shape .long) (x .count)) (omega arith))
       u
       (λ c lc.
-      rw (lock-sweep (λ c. true) (withdraw s) (cellAt (σ .lent .logs) s) (σ .lent .locks) (length start) (I .shape .long) (withdraw-withdraw s (λ e. omega arith)) c lc (x .count))
-      (which (find (cellAt (σ .lent .logs) s) (x .count) c)
+      rw (lock-sweep (λ c. true) (withdraw s) (cellAt (logOf σ s)) (σ .lent .locks) (length start) (I .shape .long) (withdraw-withdraw s (λ e. omega arith)) c lc (x .count))
+      (which (find (cellAt (logOf σ s)) (x .count) c)
       (λ p. rw p (kept s (role-other (frame a) c) (role-gone a refl c) (I .locked c lc) (sym (ap holds (unknown σ s c p))) (sym (ap owns (unknown σ s c p))) (λ h. sym (ap claims? (unknown σ s c p)) ∙ h)))
       (λ k p. rw p (withdraws s (role-other (frame a) c) (role-gone a refl c) (I .locked c lc) refl))))
       (λ c lc. stays s (role-other (frame a) c) (role-gone a refl c) (I .valued c lc) (λ f e. not-in (sym e) refl) (λ f e. not-in (sym e) refl) (sym (np c)))
@@ -193,17 +193,26 @@ module _ {start : List ℕ} {σ : Store} {T : Ledger} (s : ℕ) (lt : s < 16) (I
     v = getD (σ .lent .values) c 0
 
     abbrev pub ε : Store
-    ε = change σ s (lockOn c (join s) (σ .lent .locks)) (σ .lent .values) (appended (σ .lent .logs) s (recordOf σ s .count) c (getD (σ .lent .values) c 0)) (withEntry (recordOf σ s))
+    ε = change σ s (lockOn c (join s) (σ .lent .locks)) (σ .lent .values) (onPart s (λ log. appended log (recordOf σ s .count) c (getD (σ .lent .values) c 0)) (σ .lent .logs)) (withEntry (recordOf σ s))
+
+    whole : length (logOf σ s) ≡ 128
+    whole = part-length (σ .lent .logs) s lt (I .shape .logs)
+
+    grown-whole : length (appended (logOf σ s) (x .count) c v) ≡ 128
+    unfolding appended
+    grown-whole = length-sets (logOf σ s) (4 * x .count) (c ∷ v ∷ v ∷ 0 ∷ []) ∙ whole
+
+    grown-part : logOf ε s ≡ appended (logOf σ s) (x .count) c v
+    grown-part = part-own s (σ .lent .logs) lt (I .shape .logs) (λ log. appended log (x .count) c v) grown-whole
 
     enter-acts : Acts (length start) σ s (withEntry x) ε
-    unfolding appended
     enter-acts =
         record {
           mine = session-same (σ .sessions) s (withEntry x) (I .shape .records) lt;
           others = session-other (σ .sessions) s (withEntry x);
           records = length-records (σ .sessions) s (withEntry x) ∙ I .shape .records;
-          logs = length-sets (σ .lent .logs) (128 * s + 4 * x .count) (c ∷ v ∷ v ∷ 0 ∷ []) ∙ I .shape .logs;
-          notes = λ t n m d l. grown-other (σ .lent .logs) s (x .count) c v lt room (I .shape .logs) t m d n l;
+          logs = length-on s (σ .lent .logs) lt (I .shape .logs) (λ log. appended log (x .count) c v) grown-whole ∙ I .shape .logs;
+          notes = part-other s (σ .lent .logs) lt (I .shape .logs) (λ log. appended log (x .count) c v) grown-whole;
           shape = I .shape;
           lt = lt;
         }
@@ -216,15 +225,15 @@ module _ {start : List ℕ} {σ : Store} {T : Ledger} (s : ℕ) (lt : s < 16) (I
 
     pub enter-look : look ε s c ≡ some (record { snapshot = getD (σ .lent .values) c 0; current = getD (σ .lent .values) c 0; dirty = false })
     unfolding appended
-    enter-look = look-mine enter-acts c ∙ grown-new (σ .lent .logs) s (x .count) c v lt room (I .shape .logs) (sym (look-is σ s c) ∙ slot-none σ s c new)
+    enter-look = look-mine enter-acts c ∙ rw grown-part (grown-new (logOf σ s) (x .count) c v room whole (sym (look-is σ s c) ∙ slot-none σ s c new))
 
     pub enter-slot : slot ε s c ≡ some (recordOf σ s .count)
     unfolding appended slot slotIn
-    enter-slot = rw (ses-same enter-acts) (grown-find (σ .lent .logs) s (x .count) c v lt room (I .shape .logs) new)
+    enter-slot = rw (ses-same enter-acts, grown-part) (grown-find (logOf σ s) (x .count) c v room whole new)
 
     old-look : (d : ℕ) → (d ≡ c → ⊥) → look ε s d ≡ look σ s d
     unfolding appended
-    old-look d n = look-mine enter-acts d ∙ grown-old (σ .lent .logs) s (x .count) c v lt room (I .shape .logs) d n ∙ sym (look-is σ s d)
+    old-look d n = look-mine enter-acts d ∙ rw grown-part (grown-old (logOf σ s) (x .count) c v room whole d n) ∙ sym (look-is σ s d)
 
     there : (d : ℕ) → (d ≡ c → ⊥) → role ε d s ≡ role σ d s
     unfolding role
@@ -261,19 +270,28 @@ module _ {start : List ℕ} {σ : Store} {T : Ledger} (s : ℕ) (lt : s < 16) (I
   -- ---- a value written into an entry
 
   pub notes : (c k v : ℕ) → recordOf σ s .phase ≡ 1 → slot σ s c ≡ some k
-      → Inv start (changeLogs σ (updated (σ .lent .logs) s k v)) (amended s (wroteTo c v (T .mine s)) (T .commits) T)
+      → Inv start (changeLogs σ (onPart s (λ log. updated log k v) (σ .lent .logs))) (amended s (wroteTo c v (T .mine s)) (T .commits) T)
   unfolding updated
   notes c k v ph h =
       quiet s I (frame a) (shaped a (I .shape .values) (I .shape .long) (I .shape .counts s)) (wroteTo c v (T .mine s))
       (λ d ld. locked-still a d (same-role d) (I .locked d ld))
       (λ d ld. valued-still a d (same-role d) (I .valued d ld))
-      (link-mine a start (T .commits) (suc (T .place)) (wroteTo c v (T .mine s)) ph (run-note c v (rw ph at (I .link s)) old (entryAt (σ .lent .logs) s k) (slot-some σ s c h) newl))
+      (link-mine a start (T .commits) (suc (T .place)) (wroteTo c v (T .mine s)) ph (run-note c v (rw ph at (I .link s)) old (entryAt (logOf σ s) k) (slot-some σ s c h) newl))
     where
       τ : Store
-      τ = changeLogs σ (updated (σ .lent .logs) s k v)
+      τ = changeLogs σ (onPart s (λ log. updated log k v) (σ .lent .logs))
 
-      f : find (cellAt (σ .lent .logs) s) (x .count) c ≡ some k
+      f : find (cellAt (logOf σ s)) (x .count) c ≡ some k
       f = unfold slot slotIn in h
+
+      whole : length (logOf σ s) ≡ 128
+      whole = part-length (σ .lent .logs) s lt (I .shape .logs)
+
+      long : length (updated (logOf σ s) k v) ≡ 128
+      long = length-sets (logOf σ s) (4 * k + 2) (v ∷ 1 ∷ []) ∙ whole
+
+      new-part : logOf τ s ≡ updated (logOf σ s) k v
+      new-part = part-own s (σ .lent .logs) lt (I .shape .logs) (λ log. updated log k v) long
 
       a : Acts (length start) σ s x τ
       a =
@@ -281,20 +299,20 @@ module _ {start : List ℕ} {σ : Store} {T : Ledger} (s : ℕ) (lt : s < 16) (I
             mine = refl;
             others = λ t n. refl;
             records = I .shape .records;
-            logs = length-sets (σ .lent .logs) (128 * s + (4 * k + 2)) (v ∷ 1 ∷ []) ∙ I .shape .logs;
-            notes = λ t n m d l. changed-other (σ .lent .logs) s (x .count) k c v lt (I .shape .counts s) (I .shape .logs) f t m d n l;
+            logs = length-on s (σ .lent .logs) lt (I .shape .logs) (λ log. updated log k v) long ∙ I .shape .logs;
+            notes = part-other s (σ .lent .logs) lt (I .shape .logs) (λ log. updated log k v) long;
             shape = I .shape;
             lt = lt;
           }
 
-      newl : look τ s c ≡ some (record { snapshot = entryAt (σ .lent .logs) s k .snapshot; current = v; dirty = true })
-      newl = look-mine a c ∙ changed-new (σ .lent .logs) s (x .count) k c v lt (I .shape .counts s) (I .shape .logs) f ∙ unfold entryAt in refl
+      newl : look τ s c ≡ some (record { snapshot = entryAt (logOf σ s) k .snapshot; current = v; dirty = true })
+      newl = look-mine a c ∙ (unfold entryAt in rw new-part (changed-new (logOf σ s) (x .count) k c v (I .shape .counts s) whole f))
 
       old : (d : ℕ) → (d ≡ c → ⊥) → look τ s d ≡ look σ s d
-      old d n = look-mine a d ∙ (changed-old (σ .lent .logs) s (x .count) k c v lt (I .shape .counts s) (I .shape .logs) f d n) ∙ sym (look-is σ s d)
+      old d n = look-mine a d ∙ rw new-part (changed-old (logOf σ s) (x .count) k c v (I .shape .counts s) whole f d n) ∙ sym (look-is σ s d)
 
       same-role : (d : ℕ) → role τ d s ≡ role σ d s
       same-role d =
           same d c
-          (λ e. rw e (running-role τ s c _ (ap (λ (z : Session). z .phase) (ses-same a) ∙ ph) newl ∙ sym (running-role σ s c (entryAt (σ .lent .logs) s k) ph (slot-some σ s c h))))
+          (λ e. rw e (running-role τ s c _ (ap (λ (z : Session). z .phase) (ses-same a) ∙ ph) newl ∙ sym (running-role σ s c (entryAt (logOf σ s) k) ph (slot-some σ s c h))))
           (λ n. unfold role in rw (ses-same a, old d n))

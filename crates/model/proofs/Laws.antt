@@ -1,19 +1,19 @@
 -- What the definitions over the buffers do: entries, the lowest cell, a sweep over the locks, the log's words.
-use Prim.Native.Nat.{ℕ, zero, suc, _+_, _*_, _/_, _%_, _≤_, _<_}
+use Prim.Native.Nat.{ℕ, zero, suc, _+_, _*_, _/_, _%_, _-_, _≤_, _<_}
 use native.Mathlib.Omega.{arith}
 use native.Mathlib.Nat.{zero-add, add-zero}
 use mathlib.Core.Path.{_≡_, refl, sym, _∙_, ap, subst}
 use mathlib.Core.Bool.{Bool, true, false, cond, _&&_}
 use mathlib.Core.Option.{Option, none, some}
-use mathlib.Core.List.{List, [], _∷_}
+use mathlib.Core.List.{List, [], _∷_, _++_}
 use lib.Dec.{ltb, eqb}
-use lib.ListN.{length, getD, set, length-set}
-use lib.Seq.{sets, getD-set-same, getD-set-other}
+use lib.ListN.{length, getD, set, take, drop, length-set, length-append, length-drop, take-append-drop}
+use lib.Seq.{sets, getD-set-same, getD-set-other, length-take-le, take-append-seam, drop-append-seam, take-append-le, drop-append-le, drop-append-add}
 use borrow.Author.Tests.{eqb-true, eq-eqb, ne-eqb, ltb-true, ltb-false}
 use Rattle.model.specs.declared.Session.{Session}
 use Rattle.model.specs.declared.Sessions.{Sessions}
 use Rattle.model.specs.declared.Lock.{Lock}
-use Rattle.model.specs.Buffers.{Locks, idle, sessionAt, withSession, word, cellAt, entryAt, slotIn, entryOf, lookIn, lockAt, setLock, lockOn, sweep, leave, vacate, withdraw}
+use Rattle.model.specs.Buffers.{Locks, idle, sessionAt, withSession, part, onPart, word, cellAt, entryAt, slotIn, entryOf, lookIn, lockAt, setLock, lockOn, sweep, leave, vacate, withdraw}
 use Rattle.model.specs.Isolation.{at}
 use Rattle.model.specs.Readers.{odd, assign}
 use Rattle.model.specs.Search.{some?, orElse, find, lower, lowest, below, tally}
@@ -224,114 +224,154 @@ getD-sets-at (v ∷ vs) l i (suc m) q w =
     let e : i + suc m ≡ suc i + m = omega arith in
     rw e (getD-sets-at vs (set l i v) (suc i) m (omega arith) (omega (arith, length-set l i v)))
 
--- other sessions' entries, and other entries of the session, keep their words
-module _ (logs : List ℕ) (t : ℕ) where
-  pub look-same : (logs′ : List ℕ) (m c : ℕ) → ((k j : ℕ) → k < m → j < 4 → word logs′ t k j ≡ word logs t k j) → lookIn logs′ t m c ≡ lookIn logs t m c
-  unfolding lookIn slotIn entryOf entryAt cellAt
-  look-same logs′ m c h =
-      rw (find-ext (cellAt logs′ t) c (cellAt logs t) m (λ j l. h j 0 l (omega arith)))
-      (which (find (cellAt logs t) m c) (λ p. rw p)
-      (λ k p.
-      let l = find-some (cellAt logs t) c m p .0 in
-      rw p (rw (h k 1 l (omega arith), h k 2 l (omega arith), h k 3 l (omega arith)))))
+-- ---- a session's part
+
+pub part-length : (logs : List ℕ) (s : ℕ) → s < 16 → length logs ≡ 2048 → length (part logs s) ≡ 128
+unfolding part
+part-length logs s ls len = length-take-le 128 (drop (128 * s) logs) (rw length-drop (omega arith))
+
+module _ (s : ℕ) (logs : List ℕ) (ls : s < 16) (len : length logs ≡ 2048) where
+  front : length (take (128 * s) logs) ≡ 128 * s
+  front = length-take-le (128 * s) logs (omega arith)
+
+  -- a part before that of session s, and all behind it, whatever stands there
+  before : (t : ℕ) (rest : List ℕ) → t < s → take 128 (drop (128 * t) (take (128 * s) logs ++ rest)) ≡ take 128 (drop (128 * t) (take (128 * s) logs))
+  before t rest l =
+      ap (take 128) (drop-append-le (128 * t) (take (128 * s) logs) rest (let f = front in omega arith))
+      ∙ take-append-le 128 (drop (128 * t) (take (128 * s) logs)) rest (let f = front in rw length-drop (omega arith))
+
+  behind : (t : ℕ) (p rest : List ℕ) → length p ≡ 128 → s < t → drop (128 * t) (take (128 * s) logs ++ (p ++ rest)) ≡ drop (128 * t - (128 * s + 128)) rest
+  behind t p rest e l =
+      let f = front in
+      let q : 128 * t ≡ length (take (128 * s) logs) + (length p + (128 * t - (128 * s + 128))) = omega arith in
+      ap (λ (i : ℕ). drop i (take (128 * s) logs ++ (p ++ rest))) q
+      ∙ drop-append-add (take (128 * s) logs) (p ++ rest) (length p + (128 * t - (128 * s + 128)))
+      ∙ drop-append-add p rest (128 * t - (128 * s + 128))
+
+  in-parts : take (128 * s) logs ++ (part logs s ++ drop 128 (drop (128 * s) logs)) ≡ logs
+  unfolding part
+  in-parts = rw (take-append-drop, take-append-drop)
+
+  module _ (f : List ℕ → List ℕ) (whole : length (f (part logs s)) ≡ 128) where
+    pub part-own : part (onPart s f logs) s ≡ f (part logs s)
+    unfolding onPart
+    part-own =
+        unfold part in
+        ap (λ (i : ℕ). take 128 (drop i (take (128 * s) logs ++ (f (part logs s) ++ drop 128 (drop (128 * s) logs))))) (sym front)
+        ∙ ap (take 128) (drop-append-seam (take (128 * s) logs) (f (part logs s) ++ drop 128 (drop (128 * s) logs)))
+        ∙ ap (λ (i : ℕ). take i (f (part logs s) ++ drop 128 (drop (128 * s) logs))) (sym whole)
+        ∙ take-append-seam (f (part logs s)) (drop 128 (drop (128 * s) logs))
+
+    pub part-other : (t : ℕ) → (t ≡ s → ⊥) → part (onPart s f logs) t ≡ part logs t
+    unfolding onPart
+    part-other t n =
+        unfold part in
+        test (ltb t s)
+        (λ h.
+        before t (f (part logs s) ++ drop 128 (drop (128 * s) logs)) (ltb-true t s h)
+        ∙ sym (before t (part logs s ++ drop 128 (drop (128 * s) logs)) (ltb-true t s h))
+        ∙ ap (λ (l : List ℕ). take 128 (drop (128 * t) l)) in-parts)
+        (λ h.
+        let w = ltb-false t s h in
+        let g : s < t = omega arith in
+        ap (take 128) (behind t (f (part logs s)) (drop 128 (drop (128 * s) logs)) whole g)
+        ∙ ap (take 128) (sym (behind t (part logs s) (drop 128 (drop (128 * s) logs)) (part-length logs s ls len) g))
+        ∙ ap (λ (l : List ℕ). take 128 (drop (128 * t) l)) in-parts)
+
+    pub length-on : length (onPart s f logs) ≡ length logs
+    unfolding onPart
+    length-on =
+        let g = front in
+        rw (length-append, length-append, whole, length-drop, length-drop) (omega arith)
+
+-- ---- entries of a part
 
 -- what an append leaves
-module _ (logs : List ℕ) (s k c v : ℕ) (ls : s < 16) (lk : k < 32) (len : length logs ≡ 2048) where
+module _ (log : List ℕ) (k c v : ℕ) (lk : k < 32) (whole : length log ≡ 128) where
   abbrev grown : List ℕ
-  grown = sets logs (128 * s + 4 * k) (c ∷ v ∷ v ∷ 0 ∷ [])
+  grown = sets log (4 * k) (c ∷ v ∷ v ∷ 0 ∷ [])
 
-  pub grown-word : (j : ℕ) → j < 4 → word grown s k j ≡ getD (c ∷ v ∷ v ∷ 0 ∷ []) j 0
+  pub grown-word : (j : ℕ) → j < 4 → word grown k j ≡ getD (c ∷ v ∷ v ∷ 0 ∷ []) j 0
   unfolding word
-  grown-word j l =
-      let e : 128 * s + (4 * k + j) ≡ 128 * s + 4 * k + j = omega arith in
-      rw e (getD-sets-at (c ∷ v ∷ v ∷ 0 ∷ []) logs (128 * s + 4 * k) j l (omega arith))
+  grown-word j l = getD-sets-at (c ∷ v ∷ v ∷ 0 ∷ []) log (4 * k) j l (omega arith)
 
-  pub grown-other : (t m d : ℕ) → (t ≡ s → ⊥) → m ≤ 32 → lookIn grown t m d ≡ lookIn logs t m d
+  -- the other entries keep their words
+  pub grown-apart : (i j : ℕ) → (i ≡ k → ⊥) → j < 4 → word grown i j ≡ word log i j
   unfolding word
-  grown-other t m d n l =
-      look-same logs t grown m d
-      (λ j i p q. getD-sets-other (c ∷ v ∷ v ∷ 0 ∷ []) logs (128 * s + 4 * k) (128 * t + (4 * j + i)) (λ x y e. omega arith))
+  grown-apart i j n l = getD-sets-other (c ∷ v ∷ v ∷ 0 ∷ []) log (4 * k) (4 * i + j) (λ m q e. n (omega arith))
 
-  grown-before : (d : ℕ) → lookIn grown s k d ≡ lookIn logs s k d
-  unfolding word
+  grown-before : (d : ℕ) → lookIn grown k d ≡ lookIn log k d
+  unfolding lookIn slotIn entryOf entryAt cellAt
   grown-before d =
-      look-same logs s grown k d
-      (λ j i p q. getD-sets-other (c ∷ v ∷ v ∷ 0 ∷ []) logs (128 * s + 4 * k) (128 * s + (4 * j + i)) (λ x y e. omega arith))
+      rw (find-ext (cellAt grown) d (cellAt log) k (λ j l. grown-apart j 0 (λ e. omega arith) (omega arith)))
+      (which (find (cellAt log) k d) (λ p. rw p)
+      (λ i p.
+      let l = find-some (cellAt log) d k p .0 in
+      let q : (j : ℕ) → j < 4 → word grown i j ≡ word log i j = λ j. grown-apart i j (λ e. omega arith) in
+      rw p (rw (q 1 (omega arith), q 2 (omega arith), q 3 (omega arith)))))
 
-  pub grown-find : find (cellAt logs s) k c ≡ none → find (cellAt grown s) (suc k) c ≡ some k
+  pub grown-find : find (cellAt log) k c ≡ none → find (cellAt grown) (suc k) c ≡ some k
   unfolding find orElse cellAt
   grown-find h =
       rw (
-        find-ext (cellAt grown s) c (cellAt logs s) k (λ j l. unfold word in
-            getD-sets-other (c ∷ v ∷ v ∷ 0 ∷ []) logs (128 * s + 4 * k) (128 * s + (4 * j + 0)) (λ x y e. omega arith)),
+        find-ext (cellAt grown) c (cellAt log) k (λ j l. grown-apart j 0 (λ e. omega arith) (omega arith)),
         h,
         grown-word 0 (omega arith),
         eq-eqb c c refl,
       )
 
-  pub grown-new : lookIn logs s k c ≡ none → lookIn grown s (suc k) c ≡ some (record { snapshot = v; current = v; dirty = false })
+  pub grown-new : lookIn log k c ≡ none → lookIn grown (suc k) c ≡ some (record { snapshot = v; current = v; dirty = false })
   unfolding lookIn slotIn entryOf entryAt cellAt find orElse odd
   grown-new h =
       let e = grown-before c ∙ h in
-      which (find (cellAt grown s) k c)
+      which (find (cellAt grown) k c)
       (λ p. rw (p, grown-word 0 (omega arith), eq-eqb c c refl) (rw (grown-word 1 (omega arith), grown-word 2 (omega arith), grown-word 3 (omega arith))))
       (λ i p. nothing (sym (rw p at e)))
 
-  pub grown-old : (d : ℕ) → (d ≡ c → ⊥) → lookIn grown s (suc k) d ≡ lookIn logs s k d
+  pub grown-old : (d : ℕ) → (d ≡ c → ⊥) → lookIn grown (suc k) d ≡ lookIn log k d
   unfolding lookIn slotIn cellAt find
   grown-old d n = rw (grown-word 0 (omega arith), ne-eqb c d (λ e. n (sym e)), orElse-none) (grown-before d)
 
 -- what a write to a known cell leaves
-module _ (logs : List ℕ) (s m k c v : ℕ) (ls : s < 16) (lm : m ≤ 32) (len : length logs ≡ 2048) (f : find (cellAt logs s) m c ≡ some k) where
+module _ (log : List ℕ) (m k c v : ℕ) (lm : m ≤ 32) (whole : length log ≡ 128) (f : find (cellAt log) m c ≡ some k) where
   abbrev changed : List ℕ
-  changed = sets logs (128 * s + (4 * k + 2)) (v ∷ 1 ∷ [])
+  changed = sets log (4 * k + 2) (v ∷ 1 ∷ [])
 
-  changed-word : (t j i : ℕ) → (128 * t + (4 * j + i) < 128 * s + (4 * k + 2)) → word changed t j i ≡ word logs t j i
+  -- cells and values found stay, and so do the other entries
+  changed-early : (i j : ℕ) → j < 2 → word changed i j ≡ word log i j
   unfolding word
-  changed-word t j i l = getD-sets-other (v ∷ 1 ∷ []) logs (128 * s + (4 * k + 2)) (128 * t + (4 * j + i)) (λ x y e. omega arith)
+  changed-early i j l = getD-sets-other (v ∷ 1 ∷ []) log (4 * k + 2) (4 * i + j) (λ x y e. omega arith)
 
-  changed-far : (t j i : ℕ) → j < 32 → i < 4 → (t ≡ s → j ≡ k → ⊥) → word changed t j i ≡ word logs t j i
+  changed-far : (i j : ℕ) → j < 4 → (i ≡ k → ⊥) → word changed i j ≡ word log i j
   unfolding word
-  changed-far t j i lj li h =
-      let w = find-some (cellAt logs s) c m f .0 in
-      getD-sets-other (v ∷ 1 ∷ []) logs (128 * s + (4 * k + 2)) (128 * t + (4 * j + i))
-      (λ x y e. same t s (λ u. h u (omega arith)) (λ u. omega arith))
+  changed-far i j l n = getD-sets-other (v ∷ 1 ∷ []) log (4 * k + 2) (4 * i + j) (λ x y e. n (omega arith))
 
-  pub changed-other : (t n d : ℕ) → (t ≡ s → ⊥) → n ≤ 32 → lookIn changed t n d ≡ lookIn logs t n d
-  changed-other t n d ne l = look-same logs t changed n d (λ j i p q. changed-far t j i (omega arith) q (λ a b. ne a))
+  changed-find : (d : ℕ) → find (cellAt changed) m d ≡ find (cellAt log) m d
+  unfolding cellAt
+  changed-find d = find-ext (cellAt changed) d (cellAt log) m (λ j l. changed-early j 0 (omega arith))
 
-  changed-cell : (j : ℕ) → j < m → cellAt changed s j ≡ cellAt logs s j
-  unfolding cellAt word
-  changed-cell j l =
-      getD-sets-other (v ∷ 1 ∷ []) logs (128 * s + (4 * k + 2)) (128 * s + (4 * j + 0)) (λ x y e. omega arith)
-
-  changed-find : (d : ℕ) → find (cellAt changed s) m d ≡ find (cellAt logs s) m d
-  changed-find d = find-ext (cellAt changed s) d (cellAt logs s) m changed-cell
-
-  pub changed-old : (d : ℕ) → (d ≡ c → ⊥) → lookIn changed s m d ≡ lookIn logs s m d
+  pub changed-old : (d : ℕ) → (d ≡ c → ⊥) → lookIn changed m d ≡ lookIn log m d
   unfolding lookIn slotIn entryOf entryAt
   changed-old d n =
       rw (changed-find d)
-      (which (find (cellAt logs s) m d) (λ p. rw p)
+      (which (find (cellAt log) m d) (λ p. rw p)
       (λ j p.
-      let w = find-some (cellAt logs s) d m p in
-      let u = find-some (cellAt logs s) c m f in
-      let ne : j ≡ k → ⊥ = λ e. n (sym (w .1) ∙ ap (cellAt logs s) e ∙ u .1) in
-      let q : (i : ℕ) → i < 4 → word changed s j i ≡ word logs s j i = λ i l. changed-far s j i (omega arith) l (λ a. ne) in
+      let w = find-some (cellAt log) d m p in
+      let u = find-some (cellAt log) c m f in
+      let ne : j ≡ k → ⊥ = λ e. n (sym (w .1) ∙ ap (cellAt log) e ∙ u .1) in
+      let q : (i : ℕ) → i < 4 → word changed j i ≡ word log j i = λ i l. changed-far j i l ne in
       rw p (rw (q 1 (omega arith), q 2 (omega arith), q 3 (omega arith)))))
 
-  changed-at : (i : ℕ) → i < 2 → word changed s k (2 + i) ≡ getD (v ∷ 1 ∷ []) i 0
+  changed-at : (i : ℕ) → i < 2 → word changed k (2 + i) ≡ getD (v ∷ 1 ∷ []) i 0
   unfolding word
   changed-at i l =
-      let u = find-some (cellAt logs s) c m f .0 in
-      let e : 128 * s + (4 * k + (2 + i)) ≡ 128 * s + (4 * k + 2) + i = omega arith in
-      rw e (getD-sets-at (v ∷ 1 ∷ []) logs (128 * s + (4 * k + 2)) i l (omega arith))
+      let u = find-some (cellAt log) c m f .0 in
+      let e : 4 * k + (2 + i) ≡ 4 * k + 2 + i = omega arith in
+      rw e (getD-sets-at (v ∷ 1 ∷ []) log (4 * k + 2) i l (omega arith))
 
-  pub changed-new : lookIn changed s m c ≡ some (record { snapshot = word logs s k 1; current = v; dirty = true })
+  pub changed-new : lookIn changed m c ≡ some (record { snapshot = word log k 1; current = v; dirty = true })
   unfolding lookIn slotIn entryOf entryAt odd
-  changed-new =
-      let u = find-some (cellAt logs s) c m f .0 in
-      rw (changed-find c, f) (rw (changed-word s k 1 (omega arith), changed-at 0 (omega arith), changed-at 1 (omega arith)))
+  changed-new = rw (changed-find c, f) (rw (changed-early k 1 (omega arith), changed-at 0 (omega arith), changed-at 1 (omega arith)))
 
 -- ---- session records
 

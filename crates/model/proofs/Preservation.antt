@@ -14,11 +14,11 @@ use Rattle.model.specs.declared.Call.{Call}
 use Rattle.model.specs.declared.Call.the-variants.{Begin, Read, Write, Seal, Advance, Abandon, Peek}
 use Rattle.model.specs.declared.Plan.{Plan}
 use Rattle.model.specs.declared.Plan.the-variants.{Refuse, Start, Enter, EnterUpdate, RollBack, Cancel, Own, Publish, Release}
-use Rattle.model.specs.Buffers.{Buffers, Store, size, idle, moveTo, Entry, cellAt, entryAt, slotIn, isPublished, targetIn, currentOf, lockAt, cap, fits, lengthsFit}
+use Rattle.model.specs.Buffers.{Buffers, Store, size, idle, moveTo, Entry, cellAt, entryAt, slotIn, isPublished, targetIn, currentOf, lockAt, cap, fits, lengthsFit, part}
 use Rattle.model.specs.Isolation.{at}
 use Rattle.model.specs.Readers.{otherReaders}
 use Rattle.model.specs.Search.{some?, find, below, tally}
-use Rattle.model.specs.Step.{rolledBack, handled, change, recordOf, after, releasing, answer, recordFits, guard, known, claimed, newCell, readPlan, writeSlot, writePlan, sealPlan, promotePlan, advancePlan, peekPlan, plan, sessionOf, planOf, step, reply}
+use Rattle.model.specs.Step.{rolledBack, handled, change, recordOf, after, releasing, answer, recordFits, guard, known, claimed, newCell, readPlan, writeSlot, writePlan, sealPlan, promotePlan, advancePlan, peekPlan, plan, sessionOf, planOf, step, reply, logOf, admit, entriesFit, readOn, writeOn, sealOn, peekOn}
 use Rattle.model.proofs.Advancing.{target-some, target-none, late, role-late, more-open, holds-more, last-done, holds-last, waits, publishes-more, publishes-last, releases-more, releases-last}
 use Rattle.model.proofs.Effects.{running-role, slot-none, slot-some, amended, rolls, started, tells, enter-phase, enter-look, enter-slot, enters, notes}
 use Rattle.model.proofs.Invariant.{roleIn, roleOf, role, Running, Promoting, Finishing, Inv, ticks}
@@ -81,23 +81,23 @@ module _ (s : ℕ) (f : Txn → Txn) (T : Ledger) (l : T .mine s .live ≡ true)
 -- ---- what a call that is not turned down has passed
 
 pub guarded {ℓ} : (P : Plan → Type ℓ) (B : Buffers) (s : ℕ) (x : Session) (fits : Bool) (p : Plan) → P (Refuse 7) → P (Refuse 1) → P (Refuse 9) → P (Refuse 2)
-    → (s < 16 → recordFits B s x ≡ true → fits ≡ true → P p) → P (guard B s x fits p)
+    → (s < 16 → recordFits (size B) (part (B .logs) s) x ≡ true → fits ≡ true → P p) → P (admit B s (guard (size B) (part (B .logs) s) x fits p))
 unfolding guard
 guarded P B s x fits p a b c d f =
     split P (lengthsFit B)
-    (λ _. split P (ltb s 16) (λ l. split P (recordFits B s x) (λ k. split P fits (λ h. f (ltb-true s 16 l) k h) (λ _. d)) (λ _. c)) (λ _. b))
+    (λ _. split P (ltb s 16) (λ l. split P (recordFits (size B) (part (B .logs) s) x) (λ k. split P fits (λ h. f (ltb-true s 16 l) k h) (λ _. d)) (λ _. c)) (λ _. b))
     (λ _. a)
 
 -- a cell below n
-pub cell-known {ℓ} : (P : Plan → Type ℓ) (B : Buffers) (c : ℕ) (p : Plan) → P (Refuse 3) → (c < size B → P p) → P (known B c p)
+pub cell-known {ℓ} : (P : Plan → Type ℓ) (n c : ℕ) (p : Plan) → P (Refuse 3) → (c < n → P p) → P (known n c p)
 unfolding known
-cell-known P B c p r3 f = split P (ltb c (size B)) (λ l. f (ltb-true c (size B) l)) (λ _. r3)
+cell-known P n c p r3 f = split P (ltb c n) (λ l. f (ltb-true c n l)) (λ _. r3)
 
 -- a call of a running session on a cell
 pub running-cell {ℓ} : (P : Plan → Type ℓ) (B : Buffers) (s : ℕ) (x : Session) (c : ℕ) (p : Plan) → P (Refuse 7) → P (Refuse 1) → P (Refuse 9) → P (Refuse 2) → P (Refuse 3)
-    → (s < 16 → x .phase ≡ 1 → c < size B → P p) → P (guard B s x (eqb (x .phase) 1) (known B c p))
+    → (s < 16 → x .phase ≡ 1 → c < size B → P p) → P (admit B s (guard (size B) (part (B .logs) s) x (eqb (x .phase) 1) (known (size B) c p)))
 running-cell P B s x c p r7 r1 r9 r2 r3 f =
-    guarded P B s x (eqb (x .phase) 1) (known B c p) r7 r1 r9 r2 (λ lt _ h. cell-known P B c p r3 (f lt (eqb-true (x .phase) 1 h)))
+    guarded P B s x (eqb (x .phase) 1) (known (size B) c p) r7 r1 r9 r2 (λ lt _ h. cell-known P (size B) c p r3 (f lt (eqb-true (x .phase) 1 h)))
 
 -- a cell that is not in the log
 pub cell-new {ℓ} : (P : Plan → Type ℓ) (x : Session) (l : Lock) (p : Plan) → P (Refuse 5) → ((l .claimant ≡ 16 → ⊥) → P RollBack)
@@ -109,21 +109,21 @@ cell-new P x l p r5 r6 f =
     (λ q. f (ltb-true (x .count) 32 n) (eqb-true (l .claimant) 16 (not-false (eqb (l .claimant) 16) q))))
     (λ _. r5)
 
-module _ {start : List ℕ} {σ : Store} {T : Ledger} (I : Inv start σ T) (s : ℕ) (k : recordFits (σ .lent) s (recordOf σ s) ≡ true) where
+module _ {start : List ℕ} {σ : Store} {T : Ledger} (I : Inv start σ T) (s : ℕ) (k : recordFits (size (σ .lent)) (logOf σ s) (recordOf σ s) ≡ true) where
   pub inside : (recordOf σ s .phase ≡ 0 → ⊥) → (c : ℕ) (e : Entry) → look σ s c ≡ some e → c < length start
-  unfolding recordFits size
+  unfolding entriesFit recordFits size
   inside n c e h =
       let x = recordOf σ s in
       let a = leb (x .phase) 4 in
       let m = leb (x .count) 32 in
-      let w = below (length (σ .lent .values)) (cellAt (σ .lent .logs) s) (x .count) in
+      let w = below (length (σ .lent .values)) (cellAt (logOf σ s)) (x .count) in
       let b = eqb (x .phase) 0 || (m && w) in
-      let u = both-r m w (either-r (eqb (x .phase) 0) (m && w) (both-r a b (both-l (a && b) (leb (x .phase) 1 || some? (targetIn (σ .lent .logs) s (x .count) (x .next))) k)) (ne-eqb (x .phase) 0 n)) in
-      which (find (cellAt (σ .lent .logs) s) (x .count) c)
+      let u = both-r m w (either-r (eqb (x .phase) 0) (m && w) (both-r a b (both-l (a && b) (leb (x .phase) 1 || some? (targetIn (logOf σ s) (x .count) (x .next))) k)) (ne-eqb (x .phase) 0 n)) in
+      which (find (cellAt (logOf σ s)) (x .count) c)
       (λ p. nothing (sym (slot-none σ s c (unfold slot slotIn in p)) ∙ h))
       (λ j p.
-      let f = find-some (cellAt (σ .lent .logs) s) c (x .count) p in
-      let l = below-is (length (σ .lent .values)) (cellAt (σ .lent .logs) s) (x .count) u j (f .0) in
+      let f = find-some (cellAt (logOf σ s)) c (x .count) p in
+      let l = below-is (length (σ .lent .values)) (cellAt (logOf σ s)) (x .count) u j (f .0) in
       omega (arith, f .1, I .shape .values))
 
   pub inside-wrote : (recordOf σ s .phase ≡ 0 → ⊥) → (c : ℕ) → written σ s c ≡ true → c < length start
@@ -131,26 +131,26 @@ module _ {start : List ℕ} {σ : Store} {T : Ledger} (I : Inv start σ T) (s : 
   inside-wrote n c w = which (look σ s c) (λ p. absurd (clash (isPublished (look σ s c)) w (rw p))) (λ e p. inside n c e p)
 
   pub phase-le : recordOf σ s .phase ≤ 4
-  unfolding recordFits
+  unfolding entriesFit recordFits
   phase-le =
       let x = recordOf σ s in
       let a = leb (x .phase) 4 in
-      let b = eqb (x .phase) 0 || (leb (x .count) 32 && below (size (σ .lent)) (cellAt (σ .lent .logs) s) (x .count)) in
-      leb-true (x .phase) 4 (both-l a b (both-l (a && b) (leb (x .phase) 1 || some? (targetIn (σ .lent .logs) s (x .count) (x .next))) k))
+      let b = eqb (x .phase) 0 || (leb (x .count) 32 && below (size (σ .lent)) (cellAt (logOf σ s)) (x .count)) in
+      leb-true (x .phase) 4 (both-l a b (both-l (a && b) (leb (x .phase) 1 || some? (targetIn (logOf σ s) (x .count) (x .next))) k))
 
 -- ---- a handled cell
 
 module _ (σ : Store) (s c : ℕ) where
-  handled-more : {d p : ℕ} → target σ s (suc c) ≡ some d → recordOf σ s .phase ≡ p → handled (σ .lent) s c (recordOf σ s) ≡ moveTo p (suc c) (recordOf σ s)
+  handled-more : {d p : ℕ} → target σ s (suc c) ≡ some d → recordOf σ s .phase ≡ p → handled (logOf σ s) c (recordOf σ s) ≡ moveTo p (suc c) (recordOf σ s)
   unfolding handled target
   handled-more h ph = rw h (ap (λ (p : ℕ). moveTo p (suc c) (recordOf σ s)) ph)
 
-  handled-rise : {p : ℕ} → target σ s (suc c) ≡ none → recordOf σ s .phase ≡ p → (p ≡ 4 → ⊥) → handled (σ .lent) s c (recordOf σ s) ≡ moveTo (suc p) 0 (recordOf σ s)
+  handled-rise : {p : ℕ} → target σ s (suc c) ≡ none → recordOf σ s .phase ≡ p → (p ≡ 4 → ⊥) → handled (logOf σ s) c (recordOf σ s) ≡ moveTo (suc p) 0 (recordOf σ s)
   unfolding handled target
   handled-rise {p} h ph n =
       rw h (cond-false (eqb (recordOf σ s .phase) 4) _ _ (ne-eqb (recordOf σ s .phase) 4 (λ e. n (sym ph ∙ e))) ∙ ap (λ (p : ℕ). moveTo (suc p) 0 (recordOf σ s)) ph)
 
-  handled-idle : target σ s (suc c) ≡ none → recordOf σ s .phase ≡ 4 → handled (σ .lent) s c (recordOf σ s) ≡ idle
+  handled-idle : target σ s (suc c) ≡ none → recordOf σ s .phase ≡ 4 → handled (logOf σ s) c (recordOf σ s) ≡ idle
   unfolding handled target
   handled-idle h ph = rw h (cond-true (eqb (recordOf σ s .phase) 4) _ _ (eq-eqb (recordOf σ s .phase) 4 ph))
 
@@ -161,7 +161,7 @@ module _ {first : List ℕ} {σ : Store} {T : Ledger} (I : Inv first σ T) where
   Kept k p = Inv first (after (sessionOf k) p σ) (observe (length first) k (answer (sessionOf k) p σ) T)
 
   roll-back : (s : ℕ) → s < 16 → T .mine s .live ≡ true → ((c : ℕ) → pends (role σ c s) ≡ false)
-      → Inv first (change σ s (rolledBack (σ .lent) s (recordOf σ s)) (σ .lent .values) (σ .lent .logs) idle) (amend s ended T)
+      → Inv first (change σ s (rolledBack (logOf σ s) (recordOf σ s .count) s (σ .lent .locks)) (σ .lent .values) (σ .lent .logs) idle) (amend s ended T)
   roll-back s lt l np = rw (amend-same s ended T l (and-not (T .mine s .done))) (rolls s lt I np (ended (T .mine s)) refl)
 
   calm₁ : (s : ℕ) → recordOf σ s .phase ≡ 1 → (c : ℕ) → pends (role σ c s) ≡ false
@@ -171,14 +171,14 @@ module _ {first : List ℕ} {σ : Store} {T : Ledger} (I : Inv first σ T) where
   unfolding late roleIn
   calm₂ s ph c = rw (role-late σ s c 0 ph) (test (written σ s c) (λ w. rw w (test (leb (recordOf σ s .next) c) (λ b. rw b) (λ b. rw b))) (λ w. rw w))
 
-  keep-begin : (s : ℕ) → Kept (Begin s) (plan (Begin s) (σ .lent) (recordOf σ s))
-  unfolding plan observe news over amendBy after answer starts
+  keep-begin : (s : ℕ) → Kept (Begin s) (planOf (Begin s) σ)
+  unfolding planOf plan readOn writeOn sealOn peekOn observe news over amendBy after answer starts
   keep-begin s =
       guarded (Kept (Begin s)) (σ .lent) s (recordOf σ s) (eqb (recordOf σ s .phase) 0) Start (ticks I) (ticks I) (ticks I) (ticks I)
       (λ lt k h. started s lt I (eqb-true (recordOf σ s .phase) 0 h))
 
-  keep-abandon : (s : ℕ) → Kept (Abandon s) (plan (Abandon s) (σ .lent) (recordOf σ s))
-  unfolding plan observe news over amendBy after answer
+  keep-abandon : (s : ℕ) → Kept (Abandon s) (planOf (Abandon s) σ)
+  unfolding planOf plan readOn writeOn sealOn peekOn observe news over amendBy after answer
   keep-abandon s =
       guarded (Kept (Abandon s)) (σ .lent) s (recordOf σ s) (eqb (recordOf σ s .phase) 1 || eqb (recordOf σ s .phase) 2) Cancel (ticks I) (ticks I) (ticks I) (ticks I)
       (λ lt k h.
@@ -193,18 +193,18 @@ module _ {first : List ℕ} {σ : Store} {T : Ledger} (I : Inv first σ T) where
   on-cell : (k : Call) (c : ℕ) (p : Plan) → let s = sessionOf k in
       Kept k (Refuse 7) → Kept k (Refuse 1) → Kept k (Refuse 9) → Kept k (Refuse 2) → Kept k (Refuse 3)
       → (s < 16 → recordOf σ s .phase ≡ 1 → c < length first → Kept k p)
-      → Kept k (guard (σ .lent) s (recordOf σ s) (eqb (recordOf σ s .phase) 1) (known (σ .lent) c p))
+      → Kept k (admit (σ .lent) s (guard (size (σ .lent)) (logOf σ s) (recordOf σ s) (eqb (recordOf σ s .phase) 1) (known (size (σ .lent)) c p)))
   unfolding size
   on-cell k c p r7 r1 r9 r2 r3 f =
       running-cell (Kept k) (σ .lent) (sessionOf k) (recordOf σ (sessionOf k)) c p r7 r1 r9 r2 r3 (λ lt ph l. f lt ph (omega (arith, I .shape .values)))
 
-  keep-peek : (s c : ℕ) → Kept (Peek s c) (plan (Peek s c) (σ .lent) (recordOf σ s))
-  unfolding plan observe news over amendBy after answer peekPlan
+  keep-peek : (s c : ℕ) → Kept (Peek s c) (planOf (Peek s c) σ)
+  unfolding planOf plan readOn writeOn sealOn peekOn observe news over amendBy after answer peekPlan
   keep-peek s c =
-      on-cell (Peek s c) c (peekPlan (σ .lent) s c (slotIn (σ .lent .logs) s (recordOf σ s .count) c)) (ticks I) (ticks I) (ticks I) (ticks I) (ticks I)
+      on-cell (Peek s c) c (peekPlan (logOf σ s) c (slotIn (logOf σ s) (recordOf σ s .count) c)) (ticks I) (ticks I) (ticks I) (ticks I) (ticks I)
       (λ _ _ _.
-      choose (Kept (Peek s c)) (peekPlan (σ .lent) s c) (slotIn (σ .lent .logs) s (recordOf σ s .count) c) (λ _. ticks I)
-      (λ k _. split (Kept (Peek s c)) (entryAt (σ .lent .logs) s k .dirty) (λ _. ticks I) (λ _. ticks I)))
+      choose (Kept (Peek s c)) (peekPlan (logOf σ s) c) (slotIn (logOf σ s) (recordOf σ s .count) c) (λ _. ticks I)
+      (λ k _. split (Kept (Peek s c)) (entryAt (logOf σ s) k .dirty) (λ _. ticks I) (λ _. ticks I)))
 
   pub runs : (s : ℕ) → recordOf σ s .phase ≡ 1 → Running (look σ s) (T .mine s)
   runs s ph = rw ph at (I .link s)
@@ -216,31 +216,31 @@ module _ {first : List ℕ} {σ : Store} {T : Ledger} (I : Inv first σ T) where
       → Kept k (newCell (recordOf σ s) (lockAt (σ .lent .locks) c) p)
   new-cell k c p r5 r6 f = cell-new (Kept k) (recordOf σ (sessionOf k)) (lockAt (σ .lent .locks) c) p r5 (λ _. r6) f
 
-  keep-read : (s c : ℕ) → Kept (Read s c) (plan (Read s c) (σ .lent) (recordOf σ s))
-  unfolding plan observe news over amendBy after answer readPlan slot
+  keep-read : (s c : ℕ) → Kept (Read s c) (planOf (Read s c) σ)
+  unfolding planOf plan readOn writeOn sealOn peekOn observe news over amendBy after answer readPlan slot
   keep-read s c =
-      on-cell (Read s c) c (readPlan (σ .lent) s (recordOf σ s) c (slotIn (σ .lent .logs) s (recordOf σ s .count) c)) (ticks I) (ticks I) (ticks I) (ticks I) (ticks I)
+      on-cell (Read s c) c (readPlan (logOf σ s) (recordOf σ s) (lockAt (σ .lent .locks) c) c (slotIn (logOf σ s) (recordOf σ s .count) c)) (ticks I) (ticks I) (ticks I) (ticks I) (ticks I)
       (λ lt ph lc.
       let r = runs s ph in
-      choose (Kept (Read s c)) (readPlan (σ .lent) s (recordOf σ s) c) (slot σ s c)
+      choose (Kept (Read s c)) (readPlan (logOf σ s) (recordOf σ s) (lockAt (σ .lent .locks) c) c) (slot σ s c)
       (λ p. new-cell (Read s c) c (Enter c) (ticks I) (roll-back s lt (r .live) (calm₁ s ph))
       (λ room cl.
       rw (amend-same s (saw c (getD (σ .lent .values) c 0)) T (r .live) (and-not (T .mine s .done)))
       (tells s lt (enters s lt I c ph p room lc cl) c _ (enter-phase s lt I c ph p room) (enter-look s lt I c ph p room))))
       (λ j p.
-      rw (amend-same s (saw c (entryAt (σ .lent .logs) s j .current)) T (r .live) (and-not (T .mine s .done)))
-      (tells s lt I c (entryAt (σ .lent .logs) s j) ph (slot-some σ s c p))))
+      rw (amend-same s (saw c (entryAt (logOf σ s) j .current)) T (r .live) (and-not (T .mine s .done)))
+      (tells s lt I c (entryAt (logOf σ s) j) ph (slot-some σ s c p))))
 
-  keep-write : (s c v : ℕ) → Kept (Write s c v) (plan (Write s c v) (σ .lent) (recordOf σ s))
-  unfolding plan observe news over amendBy after answer writePlan writeSlot slot
+  keep-write : (s c v : ℕ) → Kept (Write s c v) (planOf (Write s c v) σ)
+  unfolding planOf plan readOn writeOn sealOn peekOn observe news over amendBy after answer writePlan writeSlot slot
   keep-write s c v =
       let k = getD (σ .lent .classes) c 0 in
-      on-cell (Write s c v) c (cond (ltb k 16) (writePlan (σ .lent) s (recordOf σ s) c v (cap k)) (Refuse 8)) (ticks I) (ticks I) (ticks I) (ticks I) (ticks I)
+      on-cell (Write s c v) c (cond (ltb k 16) (writePlan (logOf σ s) (recordOf σ s) (lockAt (σ .lent .locks) c) c v (cap k)) (Refuse 8)) (ticks I) (ticks I) (ticks I) (ticks I) (ticks I)
       (λ lt ph lc.
       let r = runs s ph in
       split (Kept (Write s c v)) (ltb k 16)
       (λ _. split (Kept (Write s c v)) (leb v (cap k))
-      (λ _. choose (Kept (Write s c v)) (writeSlot (σ .lent) (recordOf σ s) c v) (slot σ s c)
+      (λ _. choose (Kept (Write s c v)) (writeSlot (recordOf σ s) (lockAt (σ .lent .locks) c) c v) (slot σ s c)
       (λ p. new-cell (Write s c v) c (EnterUpdate c v) (ticks I) (roll-back s lt (r .live) (calm₁ s ph))
       (λ room cl.
       rw (amend-same s (wroteTo c v) T (r .live) (and-not (T .mine s .done)))
@@ -258,10 +258,10 @@ module _ {first : List ℕ} {σ : Store} {T : Ledger} (I : Inv first σ T) where
   unfolding tally
   none-written s lt ph ins p = tally-flat (T .mine s .wrote) 0 (length first) (omega arith) (λ c _ _. wrote-is s lt I ph ins c ∙ none-targeted s p c)
 
-  keep-seal : (s : ℕ) → Kept (Seal s) (plan (Seal s) (σ .lent) (recordOf σ s))
-  unfolding plan observe news over amendBy after answer target sealPlan
+  keep-seal : (s : ℕ) → Kept (Seal s) (planOf (Seal s) σ)
+  unfolding planOf plan readOn writeOn sealOn peekOn observe news over amendBy after answer target sealPlan
   keep-seal s =
-      guarded (Kept (Seal s)) (σ .lent) s (recordOf σ s) (eqb (recordOf σ s .phase) 1) (sealPlan (targetIn (σ .lent .logs) s (recordOf σ s .count) 0)) (ticks I) (ticks I) (ticks I) (ticks I)
+      guarded (Kept (Seal s)) (σ .lent) s (recordOf σ s) (eqb (recordOf σ s .phase) 1) (sealPlan (targetIn (logOf σ s) (recordOf σ s .count) 0)) (ticks I) (ticks I) (ticks I) (ticks I)
       (λ lt k h.
       let ph = eqb-true (recordOf σ s .phase) 1 h in
       let r = runs s ph in
@@ -279,7 +279,7 @@ module _ {first : List ℕ} {σ : Store} {T : Ledger} (I : Inv first σ T) where
       (λ e. omega (arith, tally-more (T .mine s .wrote) 0 (length first) c (omega arith) lc (wrote-is s lt I ph ins c ∙ w))))))
       (promotes s lt I ph ins c lc w)))
 
-  module _ (s : ℕ) (lt : s < 16) (k : recordFits (σ .lent) s (recordOf σ s) ≡ true) (late′ : 2 ≤ recordOf σ s .phase) (c : ℕ) (tgt : target σ s (recordOf σ s .next) ≡ some c) where
+  module _ (s : ℕ) (lt : s < 16) (k : recordFits (size (σ .lent)) (logOf σ s) (recordOf σ s) ≡ true) (late′ : 2 ≤ recordOf σ s .phase) (c : ℕ) (tgt : target σ s (recordOf σ s .next) ≡ some c) where
     ins : (c : ℕ) → written σ s c ≡ true → c < length first
     ins = inside-wrote I s k (λ e. omega arith)
 
@@ -318,13 +318,13 @@ module _ {first : List ℕ} {σ : Store} {T : Ledger} (I : Inv first σ T) where
           (λ p. rw (handled-idle σ s c p ph) (rw p (rw (amend-same s ended T (r .live) (and-not (T .mine s .done))) (releases-last s lt I ins c tgt r ph p))))
           (λ d p. rw (handled-more σ s c p ph) (rw p (rw on-103 (releases-more s lt I ins c tgt r ph))))
 
-  keep-advance : (s : ℕ) → Kept (Advance s) (plan (Advance s) (σ .lent) (recordOf σ s))
-  unfolding plan observe news over amendBy after answer advancePlan promotePlan claimed target
+  keep-advance : (s : ℕ) → Kept (Advance s) (planOf (Advance s) σ)
+  unfolding planOf plan readOn writeOn sealOn peekOn observe news over amendBy after answer advancePlan promotePlan claimed target
   keep-advance s =
-      guarded (Kept (Advance s)) (σ .lent) s (recordOf σ s) (leb 2 (recordOf σ s .phase)) (advancePlan (σ .lent) s (recordOf σ s) (targetIn (σ .lent .logs) s (recordOf σ s .count) (recordOf σ s .next))) (ticks I) (ticks I) (ticks I) (ticks I)
+      guarded (Kept (Advance s)) (σ .lent) s (recordOf σ s) (leb 2 (recordOf σ s .phase)) (advancePlan s (logOf σ s) (recordOf σ s) (lockAt (σ .lent .locks)) (targetIn (logOf σ s) (recordOf σ s .count) (recordOf σ s .next))) (ticks I) (ticks I) (ticks I) (ticks I)
       (λ lt k h.
       let two = leb-true 2 (recordOf σ s .phase) h in
-      choose (Kept (Advance s)) (advancePlan (σ .lent) s (recordOf σ s)) (target σ s (recordOf σ s .next)) (λ _. ticks I)
+      choose (Kept (Advance s)) (advancePlan s (logOf σ s) (recordOf σ s) (lockAt (σ .lent .locks))) (target σ s (recordOf σ s .next)) (λ _. ticks I)
       (λ c tgt.
       split (Kept (Advance s)) (eqb (recordOf σ s .phase) 2)
       (λ q.

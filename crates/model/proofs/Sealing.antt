@@ -12,7 +12,7 @@ use Rattle.model.specs.Buffers.{Locks, Store, idle, moveTo, Entry, cellA
 use Rattle.model.specs.History.{ReadOf}
 use Rattle.model.specs.Isolation.{All, at}
 use Rattle.model.specs.Search.{find, tally}
-use Rattle.model.specs.Step.{readsDropped, change, recordOf}
+use Rattle.model.specs.Step.{readsDropped, change, recordOf, logOf}
 use Rattle.model.proofs.Effects.{Acts, ses-same, frame, look-mine, role-gone, shaped, link-mine, unknown, running-role, look-is, slot-none, slot-some, acts, amended}
 use Rattle.model.proofs.Invariant.{roleIn, roleOf, role, latest, before-latest, all-map, Running, Inv, Frame, role-other, quiet, committing}
 use Rattle.model.proofs.Laws.{Long, long-sweep, lock-sweep, leave-leave, tally-more}
@@ -26,40 +26,40 @@ module _ {start : List ℕ} {σ : Store} {T : Ledger} (s : ℕ) (lt : s < 16) (I
   run = rw ph at (I .link s)
 
   -- what a running session is to a cell
-  known : (c : ℕ) {k : ℕ} → find (cellAt (σ .lent .logs) s) (recordOf σ s .count) c ≡ some k → (holds (role σ c s) ≡ true) × (owns (role σ c s) ≡ false)
+  known : (c : ℕ) {k : ℕ} → find (cellAt (logOf σ s)) (recordOf σ s .count) c ≡ some k → (holds (role σ c s) ≡ true) × (owns (role σ c s) ≡ false)
   known c {k} p =
-      let e = running-role σ s c (entryAt (σ .lent .logs) s k) ph (slot-some σ s c (unfold slot slotIn in p)) in
+      let e = running-role σ s c (entryAt (logOf σ s) k) ph (slot-some σ s c (unfold slot slotIn in p)) in
       (rw e, rw e)
 
   -- a running session claims nothing
-  unclaimed : (c : ℕ) {k : ℕ} → c < length start → find (cellAt (σ .lent .logs) s) (recordOf σ s .count) c ≡ some k → lockAt (σ .lent .locks) c .claimant ≡ s → ⊥
+  unclaimed : (c : ℕ) {k : ℕ} → c < length start → find (cellAt (logOf σ s)) (recordOf σ s .count) c ≡ some k → lockAt (σ .lent .locks) c .claimant ≡ s → ⊥
   unclaimed c {k} lc p e = go (I .locked c lc .claimer)
     where
       go : (lockAt (σ .lent .locks) c .claimant ≡ 16) ⊎ (claims? (role σ c (lockAt (σ .lent .locks) c .claimant)) ≡ true) → ⊥
       go (inl f) = omega (arith, lt)
       go (inr h) =
           clash (claims? (role σ c s)) (subst (λ (t : ℕ). claims? (role σ c t) ≡ true) e h)
-          (ap claims? (running-role σ s c (entryAt (σ .lent .logs) s k) ph (slot-some σ s c (unfold slot slotIn in p))))
+          (ap claims? (running-role σ s c (entryAt (logOf σ s) k) ph (slot-some σ s c (unfold slot slotIn in p))))
 
-  wrote-none : (c : ℕ) → find (cellAt (σ .lent .logs) s) (recordOf σ s .count) c ≡ none → written σ s c ≡ false
+  wrote-none : (c : ℕ) → find (cellAt (logOf σ s)) (recordOf σ s .count) c ≡ none → written σ s c ≡ false
   unfolding written
   wrote-none c p = rw (slot-none σ s c (unfold slot slotIn in p))
 
   no-pend : (c : ℕ) → pends (role σ c s) ≡ false
   no-pend c =
-      which (find (cellAt (σ .lent .logs) s) (recordOf σ s .count) c) (λ p. rw (unknown σ s c p))
-      (λ k p. rw (running-role σ s c (entryAt (σ .lent .logs) s k) ph (slot-some σ s c (unfold slot slotIn in p))))
+      which (find (cellAt (logOf σ s)) (recordOf σ s .count) c) (λ p. rw (unknown σ s c p))
+      (λ k p. rw (running-role σ s c (entryAt (logOf σ s) k) ph (slot-some σ s c (unfold slot slotIn in p))))
 
   after : ℕ → Role
   after c = cond (written σ s c) wanting out
 
   -- the unwritten entries are left, the written ones stay
-  dropped-locked : {τ : Store} → Frame s σ τ → (c : ℕ) → c < length start → role τ c s ≡ after c → Locked (role τ c) (lockAt (readsDropped (σ .lent) s (recordOf σ s)) c)
+  dropped-locked : {τ : Store} → Frame s σ τ → (c : ℕ) → c < length start → role τ c s ≡ after c → Locked (role τ c) (lockAt (readsDropped (logOf σ s) (recordOf σ s .count) s (σ .lent .locks)) c)
   unfolding readsDropped publishesIn after
   dropped-locked f c lc b =
       unfold written look in
-      rw (lock-sweep (λ c. not (written σ s c)) (leave s) (cellAt (σ .lent .logs) s) (σ .lent .locks) (length start) (I .shape .long) (leave-leave s) c lc (recordOf σ s .count))
-      (which (find (cellAt (σ .lent .logs) s) (recordOf σ s .count) c)
+      rw (lock-sweep (λ c. not (written σ s c)) (leave s) (cellAt (logOf σ s)) (σ .lent .locks) (length start) (I .shape .long) (leave-leave s) c lc (recordOf σ s .count))
+      (which (find (cellAt (logOf σ s)) (recordOf σ s .count) c)
       (λ p. rw p (kept s (role-other f c) b (I .locked c lc) (rw (wrote-none c p, unknown σ s c p)) (rw (wrote-none c p, unknown σ s c p)) (rw (wrote-none c p, unknown σ s c p) (λ h. h))))
       (λ k p.
       let w = known c p in
@@ -85,11 +85,11 @@ module _ {start : List ℕ} {σ : Store} {T : Ledger} (s : ℕ) (lt : s < 16) (I
         (T .mine s .reads) (run .reads)
 
     abbrev D : Locks
-    D = readsDropped (σ .lent) s (recordOf σ s)
+    D = readsDropped (logOf σ s) (recordOf σ s .count) s (σ .lent .locks)
 
     dropped-long : Long (length start) D
     unfolding readsDropped
-    dropped-long = long-sweep (λ c. not (publishesIn (σ .lent .logs) s (recordOf σ s .count) c)) (leave s) (cellAt (σ .lent .logs) s) (σ .lent .locks) (length start) (I .shape .long) (recordOf σ s .count)
+    dropped-long = long-sweep (λ c. not (publishesIn (logOf σ s) (recordOf σ s .count) c)) (leave s) (cellAt (logOf σ s)) (σ .lent .locks) (length start) (I .shape .long) (recordOf σ s .count)
 
     pub wrote-is : (c : ℕ) → T .mine s .wrote c ≡ written σ s c
     unfolding written
@@ -97,7 +97,7 @@ module _ {start : List ℕ} {σ : Store} {T : Ledger} (s : ℕ) (lt : s < 16) (I
 
     -- a written cell: it promotes
     pub promotes : (c : ℕ) → c < length start → written σ s c ≡ true
-        → Inv start (change σ s (readsDropped (σ .lent) s (recordOf σ s)) (σ .lent .values) (σ .lent .logs) (moveTo 2 0 (recordOf σ s)))
+        → Inv start (change σ s (readsDropped (logOf σ s) (recordOf σ s .count) s (σ .lent .locks)) (σ .lent .values) (σ .lent .logs) (moveTo 2 0 (recordOf σ s)))
         (amended s (sealedAt (length start) (T .place) (T .mine s)) (T .commits) T)
     promotes c lc wc =
         quiet s I (frame a) (shaped a (I .shape .values) dropped-long (I .shape .counts s)) u
@@ -136,7 +136,7 @@ module _ {start : List ℕ} {σ : Store} {T : Ledger} (s : ℕ) (lt : s < 16) (I
     -- nothing written: it commits with its seal
     pub rests : ((c : ℕ) → written σ s c ≡ false)
         → let u = ended (sealedAt (length start) (T .place) (T .mine s)) in
-        Inv start (change σ s (readsDropped (σ .lent) s (recordOf σ s)) (σ .lent .values) (σ .lent .logs) idle)
+        Inv start (change σ s (readsDropped (logOf σ s) (recordOf σ s .count) s (σ .lent .locks)) (σ .lent .values) (σ .lent .logs) idle)
         (amended s u (asCommit s (T .place) u ∷ T .commits) T)
     rests wn =
         committing s I (frame a) (shaped a (I .shape .values) dropped-long (omega arith)) u (asCommit s (T .place) u) refl

@@ -20,7 +20,7 @@ use Rattle.model.specs.Companions.{Serial, serialStep, Undisturbed}
 use Rattle.model.specs.History.{kind, cellOf, is}
 use Rattle.model.specs.Readers.{otherReaders}
 use Rattle.model.specs.Search.{some?, tally}
-use Rattle.model.specs.Step.{number, valueOf, recordOf, releasing, answer, recordFits, guard, known, claimed, newCell, readPlan, writeSlot, writePlan, sealPlan, promotePlan, advancePlan, peekPlan, plan, sessionOf, planOf, reply}
+use Rattle.model.specs.Step.{number, valueOf, recordOf, releasing, answer, recordFits, guard, known, claimed, newCell, readPlan, writeSlot, writePlan, sealPlan, promotePlan, advancePlan, peekPlan, plan, sessionOf, planOf, reply, logOf, admit, readOn, writeOn, sealOn, peekOn}
 use Rattle.model.proofs.Advancing.{target-some}
 use Rattle.model.proofs.Effects.{slot-some}
 use Rattle.model.proofs.Invariant.{latest, Promoting, Finishing, Inv}
@@ -84,24 +84,24 @@ module _ {start : List ℕ} {σ : Store} {T : Ledger} {z : Serial} (I : Inv star
 
   -- a call that the guard lets pass; one on a cell, of a running session
   passing : (k : Call) (fits : Bool) (p : Plan) → let s = sessionOf k in
-      (s < 16 → recordFits (σ .lent) s (recordOf σ s) ≡ true → fits ≡ true → Fine k p) → Fine k (guard (σ .lent) s (recordOf σ s) fits p)
+      (s < 16 → recordFits (size (σ .lent)) (logOf σ s) (recordOf σ s) ≡ true → fits ≡ true → Fine k p) → Fine k (admit (σ .lent) s (guard (size (σ .lent)) (logOf σ s) (recordOf σ s) fits p))
   passing k fits p f =
       guarded (Fine k) (σ .lent) (sessionOf k) (recordOf σ (sessionOf k)) fits p (refused 7 refl k) (refused 1 refl k) (refused 9 refl k) (refused 2 refl k) f
 
   on-cell : (k : Call) (c : ℕ) (p : Plan) → let s = sessionOf k in
-      (recordOf σ s .phase ≡ 1 → c < length start → Fine k p) → Fine k (guard (σ .lent) s (recordOf σ s) (eqb (recordOf σ s .phase) 1) (known (σ .lent) c p))
+      (recordOf σ s .phase ≡ 1 → c < length start → Fine k p) → Fine k (admit (σ .lent) s (guard (size (σ .lent)) (logOf σ s) (recordOf σ s) (eqb (recordOf σ s .phase) 1) (known (size (σ .lent)) c p)))
   unfolding size
   on-cell k c p f =
       running-cell (Fine k) (σ .lent) (sessionOf k) (recordOf σ (sessionOf k)) c p (refused 7 refl k) (refused 1 refl k) (refused 9 refl k) (refused 2 refl k)
       (refused 3 refl k) (λ _ ph l. f ph (omega (arith, I .shape .values)))
 
-  peek-fine : (s c : ℕ) → Fine (Peek s c) (plan (Peek s c) (σ .lent) (recordOf σ s))
-  unfolding plan peekPlan answer observe news over amendBy serialStep
+  peek-fine : (s c : ℕ) → Fine (Peek s c) (planOf (Peek s c) σ)
+  unfolding planOf plan readOn writeOn sealOn peekOn peekPlan answer observe news over amendBy serialStep
   peek-fine s c =
-      on-cell (Peek s c) c (peekPlan (σ .lent) s c (slotIn (σ .lent .logs) s (recordOf σ s .count) c))
+      on-cell (Peek s c) c (peekPlan (logOf σ s) c (slotIn (logOf σ s) (recordOf σ s .count) c))
       (λ _ _.
-      choose (Fine (Peek s c)) (peekPlan (σ .lent) s c) (slotIn (σ .lent .logs) s (recordOf σ s .count) c) (λ _. refused 14 refl (Peek s c))
-      (λ k _. split (Fine (Peek s c)) (entryAt (σ .lent .logs) s k .dirty) (λ _. shown) (λ _. shown)))
+      choose (Fine (Peek s c)) (peekPlan (logOf σ s) c) (slotIn (logOf σ s) (recordOf σ s .count) c) (λ _. refused 14 refl (Peek s c))
+      (λ k _. split (Fine (Peek s c)) (entryAt (logOf σ s) k .dirty) (λ _. shown) (λ _. shown)))
     where
       shown : Serially start T z (Peek s c) Done
       shown = answered (Peek s c) Done refl refl refl (follows-tick F)
@@ -120,15 +120,15 @@ module _ {start : List ℕ} {σ : Store} {T : Ledger} {z : Serial} (I : Inv star
       cell-new (Fine k) (recordOf σ s) (lockAt (σ .lent .locks) c) p (refused 5 refl k)
       (λ n. absurd (own-claim I s a c lc n .1 (unlogged-out σ s c new))) (λ _ _. f)
 
-  read-fine : (s c : ℕ) → Fine (Read s c) (plan (Read s c) (σ .lent) (recordOf σ s))
-  unfolding plan readPlan answer observe news over amendBy serialStep slot
+  read-fine : (s c : ℕ) → Fine (Read s c) (planOf (Read s c) σ)
+  unfolding planOf plan readOn writeOn sealOn peekOn readPlan answer observe news over amendBy serialStep slot
   read-fine s c =
-      on-cell (Read s c) c (readPlan (σ .lent) s (recordOf σ s) c (slotIn (σ .lent .logs) s (recordOf σ s .count) c))
+      on-cell (Read s c) c (readPlan (logOf σ s) (recordOf σ s) (lockAt (σ .lent .locks) c) c (slotIn (logOf σ s) (recordOf σ s .count) c))
       (λ ph lc.
       let a = alone s (runs I s ph .live) in
-      choose (Fine (Read s c)) (readPlan (σ .lent) s (recordOf σ s) c) (slot σ s c)
+      choose (Fine (Read s c)) (readPlan (logOf σ s) (recordOf σ s) (lockAt (σ .lent .locks) c) c) (slot σ s c)
       (λ p. on-new (Read s c) c (Enter c) ph lc p (told ph lc (getD (σ .lent .values) c 0) (reads-store I s a c lc ph p)))
-      (λ j p. told ph lc (entryAt (σ .lent .logs) s j .current) (reads-entry I s a c lc ph (entryAt (σ .lent .logs) s j) (slot-some σ s c p))))
+      (λ j p. told ph lc (entryAt (logOf σ s) j .current) (reads-entry I s a c lc ph (entryAt (logOf σ s) j) (slot-some σ s c p))))
     where
       told : recordOf σ s .phase ≡ 1 → c < length start → (v : ℕ) → v ≡ overlay (T .mine s) (latest start (T .commits)) c → Serially start T z (Read s c) (Value v)
       told ph lc v e =
@@ -139,15 +139,15 @@ module _ {start : List ℕ} {σ : Store} {T : Ledger} {z : Serial} (I : Inv star
             read = λ _. e ∙ sym (F .works s (r .live) .draft (r .open′) c lc);
           }
 
-  write-fine : (s c v : ℕ) → Fine (Write s c v) (plan (Write s c v) (σ .lent) (recordOf σ s))
-  unfolding plan writePlan writeSlot answer observe news over amendBy serialStep slot
+  write-fine : (s c v : ℕ) → Fine (Write s c v) (planOf (Write s c v) σ)
+  unfolding planOf plan readOn writeOn sealOn peekOn writePlan writeSlot answer observe news over amendBy serialStep slot
   write-fine s c v =
       let k = getD (σ .lent .classes) c 0 in
-      on-cell (Write s c v) c (cond (ltb k 16) (writePlan (σ .lent) s (recordOf σ s) c v (cap k)) (Refuse 8))
+      on-cell (Write s c v) c (cond (ltb k 16) (writePlan (logOf σ s) (recordOf σ s) (lockAt (σ .lent .locks) c) c v (cap k)) (Refuse 8))
       (λ ph lc.
       split (Fine (Write s c v)) (ltb k 16)
       (λ _. split (Fine (Write s c v)) (leb v (cap k))
-      (λ _. choose (Fine (Write s c v)) (writeSlot (σ .lent) (recordOf σ s) c v) (slot σ s c)
+      (λ _. choose (Fine (Write s c v)) (writeSlot (recordOf σ s) (lockAt (σ .lent .locks) c) c v) (slot σ s c)
       (λ p. on-new (Write s c v) c (EnterUpdate c v) ph lc p (wrote ph lc)) (λ j p. wrote ph lc))
       (λ _. refused 4 refl (Write s c v)))
       (λ _. refused 8 refl (Write s c v)))
@@ -155,10 +155,10 @@ module _ {start : List ℕ} {σ : Store} {T : Ledger} {z : Serial} (I : Inv star
       wrote : recordOf σ s .phase ≡ 1 → c < length start → Serially start T z (Write s c v) Done
       wrote ph lc = let r = runs I s ph in answered (Write s c v) Done refl refl refl (follows-write F s (r .live) c v lc (r .open′))
 
-  seal-fine : (s : ℕ) → Fine (Seal s) (plan (Seal s) (σ .lent) (recordOf σ s))
-  unfolding plan sealPlan answer observe news over amendBy serialStep target
+  seal-fine : (s : ℕ) → Fine (Seal s) (planOf (Seal s) σ)
+  unfolding planOf plan readOn writeOn sealOn peekOn sealPlan answer observe news over amendBy serialStep target
   seal-fine s =
-      passing (Seal s) (eqb (recordOf σ s .phase) 1) (sealPlan (targetIn (σ .lent .logs) s (recordOf σ s .count) 0))
+      passing (Seal s) (eqb (recordOf σ s .phase) 1) (sealPlan (targetIn (logOf σ s) (recordOf σ s .count) 0))
       (λ lt k h.
       let ph = eqb-true (recordOf σ s .phase) 1 h in
       let r = runs I s ph in
@@ -171,8 +171,8 @@ module _ {start : List ℕ} {σ : Store} {T : Ledger} {z : Serial} (I : Inv star
       answered (Seal s) Sealed refl refl refl
       (follows-on F s (r .live) (sealedAt (length start) (T .place)) (r .live) refl refl (λ d. absurd (clash (T .mine s .done) d (r .open′))))))
 
-  abandon-fine : (s : ℕ) → Fine (Abandon s) (plan (Abandon s) (σ .lent) (recordOf σ s))
-  unfolding plan answer observe news over amendBy serialStep
+  abandon-fine : (s : ℕ) → Fine (Abandon s) (planOf (Abandon s) σ)
+  unfolding planOf plan readOn writeOn sealOn peekOn answer observe news over amendBy serialStep
   abandon-fine s =
       passing (Abandon s) (eqb (recordOf σ s .phase) 1 || eqb (recordOf σ s .phase) 2) Cancel
       (λ lt k h.
@@ -187,20 +187,20 @@ module _ {start : List ℕ} {σ : Store} {T : Ledger} {z : Serial} (I : Inv star
       gave-up l d = answered (Abandon s) Done refl refl refl (follows-end F s l d)
 
   begin-fine : (s : ℕ) → (is 1 100 (Begin s) (reply (Begin s) σ) ≡ true → (u : ℕ) → T .mine u .live ≡ false) → Serially start T z (Begin s) (reply (Begin s) σ)
-  unfolding reply planOf plan answer observe serialStep
+  unfolding reply planOf plan readOn writeOn sealOn peekOn answer observe serialStep
   begin-fine s =
       guarded (λ p. (is 1 100 (Begin s) (answer s p σ) ≡ true → (u : ℕ) → T .mine u .live ≡ false) → Fine (Begin s) p)
       (σ .lent) s (recordOf σ s) (eqb (recordOf σ s .phase) 0) Start
       (λ _. refused 7 refl (Begin s)) (λ _. refused 1 refl (Begin s)) (λ _. refused 9 refl (Begin s)) (λ _. refused 2 refl (Begin s))
       (λ _ _ _ closed. answered (Begin s) Done refl refl refl (follows-start F s (closed refl)))
 
-  advance-fine : (s : ℕ) → Fine (Advance s) (plan (Advance s) (σ .lent) (recordOf σ s))
-  unfolding plan advancePlan promotePlan claimed answer releasing observe news over amendBy serialStep target
+  advance-fine : (s : ℕ) → Fine (Advance s) (planOf (Advance s) σ)
+  unfolding planOf plan readOn writeOn sealOn peekOn advancePlan promotePlan claimed answer releasing observe news over amendBy serialStep target
   advance-fine s =
-      passing (Advance s) (leb 2 (recordOf σ s .phase)) (advancePlan (σ .lent) s (recordOf σ s) (targetIn (σ .lent .logs) s (recordOf σ s .count) (recordOf σ s .next)))
+      passing (Advance s) (leb 2 (recordOf σ s .phase)) (advancePlan s (logOf σ s) (recordOf σ s) (lockAt (σ .lent .locks)) (targetIn (logOf σ s) (recordOf σ s .count) (recordOf σ s .next)))
       (λ lt k h.
       let two = leb-true 2 (recordOf σ s .phase) h in
-      choose (Fine (Advance s)) (advancePlan (σ .lent) s (recordOf σ s)) (target σ s (recordOf σ s .next)) (λ _. refused 9 refl (Advance s))
+      choose (Fine (Advance s)) (advancePlan s (logOf σ s) (recordOf σ s) (lockAt (σ .lent .locks))) (target σ s (recordOf σ s .next)) (λ _. refused 9 refl (Advance s))
       (λ c tgt.
       let lc = inside-wrote I s k (λ e. omega arith) c (target-some σ s (recordOf σ s .next) tgt .1) in
       let l = lockAt (σ .lent .locks) c in

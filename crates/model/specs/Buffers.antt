@@ -2,9 +2,9 @@
 use Prim.Native.Nat.{ℕ, zero, suc, _+_, _*_}
 use mathlib.Core.Bool.{Bool, true, false, cond, not, _&&_}
 use mathlib.Core.Option.{Option, none, some}
-use mathlib.Core.List.{List, [], _∷_}
+use mathlib.Core.List.{List, [], _∷_, _++_}
 use lib.Dec.{leb, ltb, eqb}
-use lib.ListN.{length, getD, set, replicate}
+use lib.ListN.{length, getD, set, take, drop, replicate}
 use lib.Seq.{sets}
 use Rattle.model.specs.Search.{find, lowest, below}
 use Rattle.model.specs.Readers.{odd, withReader, withoutReader}
@@ -56,9 +56,17 @@ moveTo phase next x = record { phase = phase; count = x .count; next = next }
 
 -- ---- logs
 
--- session s owns the 128 words from 128 × s: entry k is the four words from 4 × k of these
-unfoldable pub word : List ℕ → ℕ → ℕ → ℕ → ℕ
-word logs s k j = getD logs (128 * s + (4 * k + j)) 0
+-- session s owns the 128 words from 128 × s: its part of the logs
+unfoldable pub part : List ℕ → ℕ → List ℕ
+part logs s = take 128 (drop (128 * s) logs)
+
+-- the logs with that part changed
+unfoldable pub onPart : ℕ → (List ℕ → List ℕ) → List ℕ → List ℕ
+onPart s f logs = take (128 * s) logs ++ (f (part logs s) ++ drop 128 (drop (128 * s) logs))
+
+-- entry k of a part is the four words from 4 × k
+unfoldable pub word : List ℕ → ℕ → ℕ → ℕ
+word log k j = getD log (4 * k + j) 0
 
 -- an entry besides its cell: the value found, the present value, and whether it was written, by the fourth word's lowest bit
 pub record Entry : Type 0 where
@@ -66,22 +74,22 @@ pub record Entry : Type 0 where
   pub current : ℕ
   pub dirty : Bool
 
-unfoldable pub cellAt : List ℕ → ℕ → ℕ → ℕ
-cellAt logs s k = word logs s k 0
+unfoldable pub cellAt : List ℕ → ℕ → ℕ
+cellAt log k = word log k 0
 
-unfoldable pub entryAt : List ℕ → ℕ → ℕ → Entry
-entryAt logs s k = record { snapshot = word logs s k 1; current = word logs s k 2; dirty = odd (word logs s k 3) }
+unfoldable pub entryAt : List ℕ → ℕ → Entry
+entryAt log k = record { snapshot = word log k 1; current = word log k 2; dirty = odd (word log k 3) }
 
--- which of the m entries of session s is the cell's, and the entry
-unfoldable pub slotIn : List ℕ → ℕ → ℕ → ℕ → Option ℕ
-slotIn logs s m c = find (cellAt logs s) m c
+-- which of the m entries is the cell's, and the entry
+unfoldable pub slotIn : List ℕ → ℕ → ℕ → Option ℕ
+slotIn log m c = find (cellAt log) m c
 
-unfoldable pub entryOf : List ℕ → ℕ → Option ℕ → Option Entry
-entryOf logs s none = none
-entryOf logs s (some k) = some (entryAt logs s k)
+unfoldable pub entryOf : List ℕ → Option ℕ → Option Entry
+entryOf log none = none
+entryOf log (some k) = some (entryAt log k)
 
-unfoldable pub lookIn : List ℕ → ℕ → ℕ → ℕ → Option Entry
-lookIn logs s m c = entryOf logs s (slotIn logs s m c)
+unfoldable pub lookIn : List ℕ → ℕ → ℕ → Option Entry
+lookIn log m c = entryOf log (slotIn log m c)
 
 -- what a running session calls written, and what counts as written from the seal on
 abbrev pub isDirty : Option Entry → Bool
@@ -95,24 +103,24 @@ abbrev pub isPublished : Option Entry → Bool
 isPublished none = false
 isPublished (some e) = publishes e
 
-unfoldable pub publishesIn : List ℕ → ℕ → ℕ → ℕ → Bool
-publishesIn logs s m c = isPublished (lookIn logs s m c)
+unfoldable pub publishesIn : List ℕ → ℕ → ℕ → Bool
+publishesIn log m c = isPublished (lookIn log m c)
 
 -- the lowest written cell not below a cell
-unfoldable pub targetIn : List ℕ → ℕ → ℕ → ℕ → Option ℕ
-targetIn logs s m from = lowest (λ c. leb from c && publishesIn logs s m c) (cellAt logs s) m
+unfoldable pub targetIn : List ℕ → ℕ → ℕ → Option ℕ
+targetIn log m from = lowest (λ c. leb from c && publishesIn log m c) (cellAt log) m
 
 abbrev pub currentOf : Option Entry → ℕ
 currentOf none = 0
 currentOf (some e) = e .current
 
--- the logs with entry k of session s new: found and present are the value v, not written
-unfoldable pub appended : List ℕ → ℕ → ℕ → ℕ → ℕ → List ℕ
-appended logs s k c v = sets logs (128 * s + 4 * k) (c ∷ v ∷ v ∷ 0 ∷ [])
+-- entry k new: found and present are the value v, not written
+unfoldable pub appended : List ℕ → ℕ → ℕ → ℕ → List ℕ
+appended log k c v = sets log (4 * k) (c ∷ v ∷ v ∷ 0 ∷ [])
 
--- the logs with the present value v in entry k of session s, which is then written
-unfoldable pub updated : List ℕ → ℕ → ℕ → ℕ → List ℕ
-updated logs s k v = sets logs (128 * s + (4 * k + 2)) (v ∷ 1 ∷ [])
+-- the present value v in entry k, which is then written
+unfoldable pub updated : List ℕ → ℕ → ℕ → List ℕ
+updated log k v = sets log (4 * k + 2) (v ∷ 1 ∷ [])
 
 -- ---- locks
 

@@ -8,7 +8,7 @@ use lib.Dec.{leb, ltb, eqb}
 use lib.ListN.{getD, set}
 use Rattle.model.specs.Search.{some?, below}
 use Rattle.model.specs.Readers.{otherReaders}
-use Rattle.model.specs.Buffers.{Locks, Buffers, Store, size, idle, running, sessionAt, withSession, withEntry, moveTo, cellAt, entryAt, slotIn, lookIn, publishesIn, targetIn, currentOf, appended, updated, lockAt, lockOn, sweep, join, leave, vacate, withdraw, claim, own, cap, allFit, lengthsFit, fresh}
+use Rattle.model.specs.Buffers.{Locks, Buffers, Store, size, idle, running, sessionAt, withSession, withEntry, moveTo, part, onPart, cellAt, entryAt, slotIn, lookIn, publishesIn, targetIn, currentOf, appended, updated, lockAt, lockOn, sweep, join, leave, vacate, withdraw, claim, own, cap, allFit, lengthsFit, fresh}
 use Rattle.model.specs.declared.Session.{Session}
 use Rattle.model.specs.declared.Lock.{Lock}
 use Rattle.model.specs.declared.Call.{Call}
@@ -43,17 +43,17 @@ valueOf (Refused k) = 0
 -- ---- what a plan leaves
 
 -- rolling back: at each entry's cell the session leaves the readers, and gives up claim and mark where the claim is its own
-unfoldable pub rolledBack : Buffers → ℕ → Session → Locks
-rolledBack B s x = sweep (λ c. true) (withdraw s) (cellAt (B .logs) s) (x .count) (B .locks)
+unfoldable pub rolledBack : List ℕ → ℕ → ℕ → Locks → Locks
+rolledBack log m s L = sweep (λ c. true) (withdraw s) (cellAt log) m L
 
 -- sealing: the session leaves the readers of each cell entered but not written
-unfoldable pub readsDropped : Buffers → ℕ → Session → Locks
-readsDropped B s x = sweep (λ c. not (publishesIn (B .logs) s (x .count) c)) (leave s) (cellAt (B .logs) s) (x .count) (B .locks)
+unfoldable pub readsDropped : List ℕ → ℕ → ℕ → Locks → Locks
+readsDropped log m s L = sweep (λ c. not (publishesIn log m c)) (leave s) (cellAt log) m L
 
 -- handling a cell: next is one above it; where no written cell is left there the phase rises, and out of phase 4 the session is idle
-unfoldable pub handled : Buffers → ℕ → ℕ → Session → Session
-handled B s c x =
-    cond (some? (targetIn (B .logs) s (x .count) (suc c))) (moveTo (x .phase) (suc c) x)
+unfoldable pub handled : List ℕ → ℕ → Session → Session
+handled log c x =
+    cond (some? (targetIn log (x .count) (suc c))) (moveTo (x .phase) (suc c) x)
     (cond (eqb (x .phase) 4) idle (moveTo (suc (x .phase)) 0 x))
 
 -- the store with these locks, values, logs and record of session s
@@ -74,6 +74,10 @@ changeLogs σ W =
 abbrev pub recordOf : Store → ℕ → Session
 recordOf σ s = sessionAt (σ .sessions) s
 
+-- its part of the logs
+abbrev pub logOf : Store → ℕ → List ℕ
+logOf σ s = part (σ .lent .logs) s
+
 -- all that a call of session s leaves, by its plan
 unfoldable pub after : ℕ → Plan → Store → Store
 -- turned down: all as before
@@ -84,27 +88,28 @@ after s Start σ = change σ s (σ .lent .locks) (σ .lent .values) (σ .lent .l
 after s (Tell v) σ = σ
 after s (Enter c) σ =
     change σ s (lockOn c (join s) (σ .lent .locks)) (σ .lent .values)
-    (appended (σ .lent .logs) s (recordOf σ s .count) c (getD (σ .lent .values) c 0)) (withEntry (recordOf σ s))
+    (onPart s (λ log. appended log (recordOf σ s .count) c (getD (σ .lent .values) c 0)) (σ .lent .logs)) (withEntry (recordOf σ s))
 -- write: the entry, which may be new, has the value and is written
-after s (Update k v) σ = changeLogs σ (updated (σ .lent .logs) s k v)
+after s (Update k v) σ = changeLogs σ (onPart s (λ log. updated log k v) (σ .lent .logs))
 after s (EnterUpdate c v) σ =
     change σ s (lockOn c (join s) (σ .lent .locks)) (σ .lent .values)
-    (updated (appended (σ .lent .logs) s (recordOf σ s .count) c (getD (σ .lent .values) c 0)) s (recordOf σ s .count) v) (withEntry (recordOf σ s))
+    (onPart s (λ log. updated log (recordOf σ s .count) v) (onPart s (λ log. appended log (recordOf σ s .count) c (getD (σ .lent .values) c 0)) (σ .lent .logs)))
+    (withEntry (recordOf σ s))
 -- rolled back, on a conflict or by abandon: at each entry's cell the session is gone, and it is idle; log words stay
-after s RollBack σ = change σ s (rolledBack (σ .lent) s (recordOf σ s)) (σ .lent .values) (σ .lent .logs) idle
-after s Cancel σ = change σ s (rolledBack (σ .lent) s (recordOf σ s)) (σ .lent .values) (σ .lent .logs) idle
+after s RollBack σ = change σ s (rolledBack (logOf σ s) (recordOf σ s .count) s (σ .lent .locks)) (σ .lent .values) (σ .lent .logs) idle
+after s Cancel σ = change σ s (rolledBack (logOf σ s) (recordOf σ s .count) s (σ .lent .locks)) (σ .lent .values) (σ .lent .logs) idle
 -- seal: read locks go; with nothing written the session is idle, else it is in phase 2 with next 0; the log stays
-after s CommitReads σ = change σ s (readsDropped (σ .lent) s (recordOf σ s)) (σ .lent .values) (σ .lent .logs) idle
-after s BeginPromotion σ = change σ s (readsDropped (σ .lent) s (recordOf σ s)) (σ .lent .values) (σ .lent .logs) (moveTo 2 0 (recordOf σ s))
+after s CommitReads σ = change σ s (readsDropped (logOf σ s) (recordOf σ s .count) s (σ .lent .locks)) (σ .lent .values) (σ .lent .logs) idle
+after s BeginPromotion σ = change σ s (readsDropped (logOf σ s) (recordOf σ s .count) s (σ .lent .locks)) (σ .lent .values) (σ .lent .logs) (moveTo 2 0 (recordOf σ s))
 -- advance, phase 2: claimant, and with the mark where nobody else reads, when the cell is handled
 after s (Wait c) σ = changeLocks σ (lockOn c (claim s) (σ .lent .locks))
 after s (Own c) σ =
-    change σ s (lockOn c (own s) (σ .lent .locks)) (σ .lent .values) (σ .lent .logs) (handled (σ .lent) s c (recordOf σ s))
+    change σ s (lockOn c (own s) (σ .lent .locks)) (σ .lent .values) (σ .lent .logs) (handled (logOf σ s) c (recordOf σ s))
 -- advance, phase 3: the present value is put in the store; the cell is handled
-after s (Publish c v) σ = change σ s (σ .lent .locks) (set (σ .lent .values) c v) (σ .lent .logs) (handled (σ .lent) s c (recordOf σ s))
+after s (Publish c v) σ = change σ s (σ .lent .locks) (set (σ .lent .values) c v) (σ .lent .logs) (handled (logOf σ s) c (recordOf σ s))
 -- advance, phase 4: the lock is free of the session; the cell is handled
 after s (Release c) σ =
-    change σ s (lockOn c (vacate s) (σ .lent .locks)) (σ .lent .values) (σ .lent .logs) (handled (σ .lent) s c (recordOf σ s))
+    change σ s (lockOn c (vacate s) (σ .lent .locks)) (σ .lent .values) (σ .lent .logs) (handled (logOf σ s) c (recordOf σ s))
 -- peek changes nothing
 after s (ShowStore c) σ = σ
 after s (ShowLog k) σ = σ
@@ -112,8 +117,8 @@ after s (ShowLog k) σ = σ
 -- ---- what a plan answers
 
 -- 103, or 105 where the session goes idle out of phase 4
-unfoldable pub releasing : Buffers → ℕ → ℕ → Session → Answer
-releasing B s c x = cond (some? (targetIn (B .logs) s (x .count) (suc c))) Moved Committed
+unfoldable pub releasing : List ℕ → ℕ → Session → Answer
+releasing log c x = cond (some? (targetIn log (x .count) (suc c))) Moved Committed
 
 -- what a call of session s answers, by its plan
 unfoldable pub answer : ℕ → Plan → Store → Answer
@@ -130,7 +135,7 @@ answer s BeginPromotion σ = Sealed
 answer s (Wait c) σ = Waiting
 answer s (Own c) σ = Moved
 answer s (Publish c v) σ = Moved
-answer s (Release c) σ = releasing (σ .lent) s c (recordOf σ s)
+answer s (Release c) σ = releasing (logOf σ s) c (recordOf σ s)
 answer s (ShowStore c) σ = Done
 answer s (ShowLog k) σ = Done
 
@@ -161,19 +166,19 @@ shown s (ShowLog k) = logWord (128 * s + (4 * k + 2))
 -- ---- plans, with the order of refusals: 7, 1, 9, 2, 3, 8, 4, then 14 or 5, then 6
 
 -- refusal 9: phase at most 4; in phases 1 to 4 at most 32 entries, each of a cell below n; in phases 2 to 4 a written cell not below next
-unfoldable pub recordFits : Buffers → ℕ → Session → Bool
-recordFits B s x =
-    leb (x .phase) 4 && (eqb (x .phase) 0 || (leb (x .count) 32 && below (size B) (cellAt (B .logs) s) (x .count)))
-    && (leb (x .phase) 1 || some? (targetIn (B .logs) s (x .count) (x .next)))
+unfoldable pub entriesFit : ℕ → List ℕ → Session → Bool
+entriesFit n log x = leb (x .phase) 4 && (eqb (x .phase) 0 || (leb (x .count) 32 && below n (cellAt log) (x .count)))
 
--- 7, 1, 9 and, where the call does not fit the phase, 2
-unfoldable pub guard : Buffers → ℕ → Session → Bool → Plan → Plan
-guard B s x fit p =
-    cond (lengthsFit B) (cond (ltb s 16) (cond (recordFits B s x) (cond fit p (Refuse 2)) (Refuse 9)) (Refuse 1)) (Refuse 7)
+unfoldable pub recordFits : ℕ → List ℕ → Session → Bool
+recordFits n log x = entriesFit n log x && (leb (x .phase) 1 || some? (targetIn log (x .count) (x .next)))
+
+-- 9 and, where the call does not fit the phase, 2
+unfoldable pub guard : ℕ → List ℕ → Session → Bool → Plan → Plan
+guard n log x fit p = cond (recordFits n log x) (cond fit p (Refuse 2)) (Refuse 9)
 
 -- a cell not below n is 3
-unfoldable pub known : Buffers → ℕ → Plan → Plan
-known B c p = cond (ltb c (size B)) p (Refuse 3)
+unfoldable pub known : ℕ → ℕ → Plan → Plan
+known n c p = cond (ltb c n) p (Refuse 3)
 
 -- somebody is claimant: any byte but 16
 unfoldable pub claimed : Lock → Bool
@@ -184,17 +189,17 @@ unfoldable pub newCell : Session → Lock → Plan → Plan
 newCell x l p = cond (ltb (x .count) 32) (cond (claimed l) RollBack p) (Refuse 5)
 
 -- read: a cell in the log gives its present value; otherwise it is entered
-unfoldable pub readPlan : Buffers → ℕ → Session → ℕ → Option ℕ → Plan
-readPlan B s x c none = newCell x (lockAt (B .locks) c) (Enter c)
-readPlan B s x c (some k) = Tell (entryAt (B .logs) s k .current)
+unfoldable pub readPlan : List ℕ → Session → Lock → ℕ → Option ℕ → Plan
+readPlan log x l c none = newCell x l (Enter c)
+readPlan log x l c (some k) = Tell (entryAt log k .current)
 
 -- write: a value above the cap m is 4; a new cell is entered as by read; then the entry is updated
-unfoldable pub writeSlot : Buffers → Session → ℕ → ℕ → Option ℕ → Plan
-writeSlot B x c v none = newCell x (lockAt (B .locks) c) (EnterUpdate c v)
-writeSlot B x c v (some k) = Update k v
+unfoldable pub writeSlot : Session → Lock → ℕ → ℕ → Option ℕ → Plan
+writeSlot x l c v none = newCell x l (EnterUpdate c v)
+writeSlot x l c v (some k) = Update k v
 
-unfoldable pub writePlan : Buffers → ℕ → Session → ℕ → ℕ → ℕ → Plan
-writePlan B s x c v m = cond (leb v m) (writeSlot B x c v (slotIn (B .logs) s (x .count) c)) (Refuse 4)
+unfoldable pub writePlan : List ℕ → Session → Lock → ℕ → ℕ → ℕ → Plan
+writePlan log x l c v m = cond (leb v m) (writeSlot x l c v (slotIn log (x .count) c)) (Refuse 4)
 
 -- seal: with nothing written it commits, else promotion begins
 unfoldable pub sealPlan : Option ℕ → Plan
@@ -207,27 +212,39 @@ promotePlan s c l =
     cond (claimed l && not (eqb (l .claimant) s)) RollBack (cond (eqb (otherReaders s (l .readers)) 0) (Own c) (Wait c))
 
 -- advance at the lowest written cell not below next
-unfoldable pub advancePlan : Buffers → ℕ → Session → Option ℕ → Plan
-advancePlan B s x none = Refuse 9
-advancePlan B s x (some c) =
-    cond (eqb (x .phase) 2) (promotePlan s c (lockAt (B .locks) c))
-    (cond (eqb (x .phase) 3) (Publish c (currentOf (lookIn (B .logs) s (x .count) c))) (Release c))
+unfoldable pub advancePlan : ℕ → List ℕ → Session → (ℕ → Lock) → Option ℕ → Plan
+advancePlan s log x lock none = Refuse 9
+advancePlan s log x lock (some c) =
+    cond (eqb (x .phase) 2) (promotePlan s c (lock c))
+    (cond (eqb (x .phase) 3) (Publish c (currentOf (lookIn log (x .count) c))) (Release c))
 
 -- peek: the store's own word where the entry is not written, the log's present word where it is; a cell not in the log is 14
-unfoldable pub peekPlan : Buffers → ℕ → ℕ → Option ℕ → Plan
-peekPlan B s c none = Refuse 14
-peekPlan B s c (some k) = cond (entryAt (B .logs) s k .dirty) (ShowLog k) (ShowStore c)
+unfoldable pub peekPlan : List ℕ → ℕ → Option ℕ → Plan
+peekPlan log c none = Refuse 14
+peekPlan log c (some k) = cond (entryAt log k .dirty) (ShowLog k) (ShowStore c)
 
-unfoldable pub plan : Call → Buffers → Session → Plan
-plan (Begin s) B x = guard B s x (eqb (x .phase) 0) Start
-plan (Read s c) B x = guard B s x (eqb (x .phase) 1) (known B c (readPlan B s x c (slotIn (B .logs) s (x .count) c)))
-plan (Write s c v) B x =
-    guard B s x (eqb (x .phase) 1)
-    (known B c (cond (ltb (getD (B .classes) c 0) 16) (writePlan B s x c v (cap (getD (B .classes) c 0))) (Refuse 8)))
-plan (Seal s) B x = guard B s x (eqb (x .phase) 1) (sealPlan (targetIn (B .logs) s (x .count) 0))
-plan (Advance s) B x = guard B s x (leb 2 (x .phase)) (advancePlan B s x (targetIn (B .logs) s (x .count) (x .next)))
-plan (Abandon s) B x = guard B s x (eqb (x .phase) 1 || eqb (x .phase) 2) Cancel
-plan (Peek s c) B x = guard B s x (eqb (x .phase) 1) (known B c (peekPlan B s c (slotIn (B .logs) s (x .count) c)))
+-- past 7 and 1: each call by the number of cells, its session's part of the log and record, and the lock of one cell
+unfoldable pub readOn : ℕ → List ℕ → Session → Lock → ℕ → Plan
+readOn n log x l c = guard n log x (eqb (x .phase) 1) (known n c (readPlan log x l c (slotIn log (x .count) c)))
+
+unfoldable pub writeOn : List ℕ → ℕ → List ℕ → Session → Lock → ℕ → ℕ → Plan
+writeOn ks n log x l c v =
+    guard n log x (eqb (x .phase) 1) (known n c (cond (ltb (getD ks c 0) 16) (writePlan log x l c v (cap (getD ks c 0))) (Refuse 8)))
+
+unfoldable pub sealOn : ℕ → List ℕ → Session → Plan
+sealOn n log x = guard n log x (eqb (x .phase) 1) (sealPlan (targetIn log (x .count) 0))
+
+unfoldable pub peekOn : ℕ → List ℕ → Session → ℕ → Plan
+peekOn n log x c = guard n log x (eqb (x .phase) 1) (known n c (peekPlan log c (slotIn log (x .count) c)))
+
+unfoldable pub plan : Call → ℕ → List ℕ → List ℕ → Session → (ℕ → Lock) → Plan
+plan (Begin s) n ks log x lock = guard n log x (eqb (x .phase) 0) Start
+plan (Read s c) n ks log x lock = readOn n log x (lock c) c
+plan (Write s c v) n ks log x lock = writeOn ks n log x (lock c) c v
+plan (Seal s) n ks log x lock = sealOn n log x
+plan (Advance s) n ks log x lock = guard n log x (leb 2 (x .phase)) (advancePlan s log x lock (targetIn log (x .count) (x .next)))
+plan (Abandon s) n ks log x lock = guard n log x (eqb (x .phase) 1 || eqb (x .phase) 2) Cancel
+plan (Peek s c) n ks log x lock = peekOn n log x c
 
 -- ---- the calls and set-up
 
@@ -240,9 +257,14 @@ sessionOf (Advance s) = s
 sessionOf (Abandon s) = s
 sessionOf (Peek s c) = s
 
--- a call decides by what is lent and its session's record
+-- wrong lengths are 7, a session above 15 is 1
+abbrev pub admit : Buffers → ℕ → Plan → Plan
+admit B s p = cond (lengthsFit B) (cond (ltb s 16) p (Refuse 1)) (Refuse 7)
+
 unfoldable pub planOf : Call → Store → Plan
-planOf k σ = plan k (σ .lent) (recordOf σ (sessionOf k))
+planOf k σ =
+    admit (σ .lent) (sessionOf k)
+    (plan k (size (σ .lent)) (σ .lent .classes) (logOf σ (sessionOf k)) (recordOf σ (sessionOf k)) (lockAt (σ .lent .locks)))
 
 unfoldable pub step : Call → Store → Store
 step k σ = after (sessionOf k) (planOf k σ) σ

@@ -1,4 +1,4 @@
--- Each return is a way through `entriesOn`.
+-- Each return is a way through `entriesFit`.
 use borrow.Author.Needs.{needs}
 use Rattle.decide.proofs.Ways.{entries-idle, entries-phase, entries-many, entries-cells}
 use Rattle.decide.proofs.entries_fit.Statement.{statement}

@@ -1,4 +1,4 @@
--- Each return is a way through `recordOn`.
+-- Each return is a way through `recordFits`.
 use native.Mathlib.Omega.{arith}
 use borrow.Author.Needs.{needs}
 use borrow.Author.Tests.{not-true, not-false}

@@ -1,4 +1,4 @@
--- Each return is a way through `writeCapped`.
+-- Each return is a way through `writePlan`.
 use borrow.Author.Needs.{needs}
 use Rattle.decide.proofs.Ways.{write-above, write-known, write-new}
 use Rattle.decide.proofs.write_capped.Statement.{statement}

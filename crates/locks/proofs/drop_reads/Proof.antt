@@ -14,7 +14,7 @@ use Rattle.locks.proofs.drop_reads.Tie as tie
 abbrev Inv-loop : tie.InvT-loop
 Inv-loop log count readers₀ session seen₀ i₀ readers seen i =
     (i ≤ count) × (length readers ≡ length readers₀) × DroppedSoFar log count i session readers₀ readers × (length seen ≡ 16)
-    × ((c : ℕ) → c < 1024 → marked seen c ≡ some? (slotIn log 0 i c))
+    × ((c : ℕ) → c < 1024 → marked seen c ≡ some? (slotIn log i c))
 
 abbrev μ-loop : tie.MeasureT-loop
 μ-loop log count readers₀ session seen₀ i₀ readers seen i = count - i
@@ -26,7 +26,7 @@ drop-at-requires : tie.Need-drop-at-requires Inv-loop μ-loop
 drop-at-requires c κs =
     let a = c .before .before .before .before .before .before in
     let l = c .before .before .before .loop in
-    let lt = below-is _ (cellAt _ 0) _ (a .pre .0 .cells) (l .i) (c .before .before .loop-test .taken) in
+    let lt = below-is _ (cellAt _) _ (a .pre .0 .cells) (l .i) (c .before .before .loop-test .taken) in
     (a .pre .0 .session, omega arith, omega arith, omega (arith, l .inv .1))
 
 add-i : tie.Need-add-i Inv-loop μ-loop
@@ -41,8 +41,8 @@ loop-again c =
     let l = c .before .before .before .before .before .before .loop in
     let d = c .before .before .drop-at in
     let h = c .before .before .before .before .before .loop-test .taken in
-    let lR = below-is _ (cellAt _ 0) _ (a .pre .0 .cells) (l .i) h in
-    let lt : cellAt (a .args .log .now) 0 (l .i) < 1024 = omega arith in (
+    let lR = below-is _ (cellAt _) _ (a .pre .0 .cells) (l .i) h in
+    let lt : cellAt (a .args .log .now) (l .i) < 1024 = omega arith in (
       omega arith,
       d .kept .1 .1 .0 ∙ l .inv .1,
       drop-more _ _ _ _ _ _ _ h lt lR (l .inv .4) (l .inv .2) _ (d .ensures .1),

@@ -4,8 +4,9 @@ use mathlib.Core.Path.{refl, _∙_, _≡_}
 use native.Mathlib.Omega.{arith}
 use lib.ListN.{length}
 use Rattle.model.specs.Buffers.{cellAt}
+use Rattle.model.specs.Step.{rolledBack}
 use Rattle.model.proofs.Laws.{below-is}
-use Rattle.locks.specs.Sweeps.{locksOf, rolledBackIn}
+use Rattle.locks.specs.Sweeps.{locksOf}
 use Rattle.locks.proofs.Sweeps.{roll-start, roll-more}
 use Rattle.locks.proofs.roll_back.Statement.{statement}
 use Rattle.locks.proofs.roll_back.Tie as tie
@@ -13,7 +14,7 @@ use Rattle.locks.proofs.roll_back.Tie as tie
 abbrev Inv-loop : tie.InvT-loop
 Inv-loop log count readers₀ claimants₀ exclusives₀ session i₀ readers claimants exclusives i =
     (i ≤ count) × (length readers ≡ length readers₀) × (length claimants ≡ length claimants₀) × (length exclusives ≡ length exclusives₀)
-    × (locksOf readers claimants exclusives ≡ rolledBackIn log i session (locksOf readers₀ claimants₀ exclusives₀))
+    × (locksOf readers claimants exclusives ≡ rolledBack log i session (locksOf readers₀ claimants₀ exclusives₀))
 
 abbrev μ-loop : tie.MeasureT-loop
 μ-loop log count readers₀ claimants₀ exclusives₀ session i₀ readers claimants exclusives i = count - i
@@ -28,7 +29,7 @@ withdraw-at-requires : tie.Need-withdraw-at-requires Inv-loop μ-loop
 withdraw-at-requires c κs =
     let a = c .before .before .before .before .before .before .before .before .before .before in
     let l = c .before .before .before .before .before .loop in
-    let lt = below-is _ (cellAt _ 0) _ (a .pre .0 .cells) (l .i) (c .before .before .before .before .loop-test .taken) in
+    let lt = below-is _ (cellAt _) _ (a .pre .0 .cells) (l .i) (c .before .before .before .before .loop-test .taken) in
     (a .pre .0 .session, omega (arith, lt, c .before .before .before .cell-at .ensures, l .inv .1), omega (arith, l .inv .1, l .inv .2, a .pre .1), omega (arith, l .inv .1, l .inv .3, a .pre .2))
 
 add-i : tie.Need-add-i Inv-loop μ-loop

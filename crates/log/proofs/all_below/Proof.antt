@@ -11,7 +11,7 @@ use Rattle.log.proofs.all_below.Statement.{statement}
 use Rattle.log.proofs.all_below.Tie as tie
 
 abbrev Inv-loop : tie.InvT-loop
-Inv-loop log count n i₀ i = (i ≤ count) × (below n (cellAt log 0) i ≡ true)
+Inv-loop log count n i₀ i = (i ≤ count) × (below n (cellAt log) i ≡ true)
 
 abbrev μ-loop : tie.MeasureT-loop
 μ-loop log count n i₀ i = count - i
@@ -24,7 +24,7 @@ cell-at-requires : tie.Need-cell-at-requires Inv-loop μ-loop
 cell-at-requires c κs = omega arith
 
 returns : tie.Need-returns Inv-loop μ-loop
-returns c = sym (below-stop _ (cellAt _ 0) (c .before .before .before .loop .i) _ (rw (← c .before .cell-at .ensures) (c .if1 .taken)) (c .before .before .loop-test .taken))
+returns c = sym (below-stop _ (cellAt _) (c .before .before .before .loop .i) _ (rw (← c .before .cell-at .ensures) (c .if1 .taken)) (c .before .before .loop-test .taken))
 
 add-i : tie.Need-add-i Inv-loop μ-loop
 add-i c = omega arith
@@ -33,7 +33,7 @@ loop-less : tie.Need-loop-less Inv-loop μ-loop
 loop-less c = omega arith
 
 loop-again : tie.Need-loop-again Inv-loop μ-loop
-loop-again c = (omega arith, rw add-one (below-more _ (cellAt _ 0) _ (c .before .before .before .loop .inv .1) (rw (← c .before .cell-at .ensures) (c .if1 .left))))
+loop-again c = (omega arith, rw add-one (below-more _ (cellAt _) _ (c .before .before .before .loop .inv .1) (rw (← c .before .cell-at .ensures) (c .if1 .left))))
 
 returns-2 : tie.Need-returns-2 Inv-loop μ-loop
 returns-2 c =

@@ -9,7 +9,7 @@ use Rattle.log.proofs.find.Statement.{statement}
 use Rattle.log.proofs.find.Tie as tie
 
 abbrev Inv-loop : tie.InvT-loop
-Inv-loop log count cell i₀ i = (i ≤ count) × (slotIn log 0 i cell ≡ none)
+Inv-loop log count cell i₀ i = (i ≤ count) × (slotIn log i cell ≡ none)
 
 abbrev μ-loop : tie.MeasureT-loop
 μ-loop log count cell i₀ i = count - i
