@@ -9,8 +9,8 @@ use borrow.Author.Tests.{lt-ltb, lt-leb, le-leb, eq-eqb, ne-eqb, leb-true, leb-f
 use lib.Dec.{leb, eqb}
 use lib.ListN.{length}
 use Rattle.model.specs.Search.{some?}
-use Rattle.model.specs.Buffers.{Buffers, Store, size, cellAt, entryAt, slotIn, entryOf, lookIn, targetIn, lockAt, lengthsFit}
-use Rattle.model.specs.Step.{logOf, recordOf, sessionOf, entriesFit, recordFits, guard, handled, releasing, advancePlan, plan, planOf}
+use Rattle.model.specs.Buffers.{Buffers, Store, size, cellAt, entryAt, slotIn, entryOf, lookIn, targetIn, lockAt, lengthsMatch, lengthsFit}
+use Rattle.model.specs.Step.{logOf, recordOf, sessionOf, entriesFit, recordFits, guard, handled, releasing, advanceTarget, plan, planOf}
 use Rattle.model.specs.declared.Session.{Session}
 use Rattle.model.specs.declared.Lock.{Lock}
 use Rattle.model.specs.declared.Call.{Call}
@@ -21,14 +21,14 @@ use Rattle.model.specs.declared.Plan.the-variants.{Refuse}
 use Rattle.model.proofs.Tools.{test, nothing, both-l}
 use Rattle.log.specs.Slots.{slotOf, targetSlot}
 use Rattle.log.proofs.Targets.{slot-some}
-use Rattle.decide.specs.Own.{lengthsOn, tested, dueAt, dueOn, advanceOn, handledOn}
+use Rattle.decide.specs.Pieces.{tested, dueAt, dueOn, advanceOn, handledOn}
 use Rattle.decide.specs.declared.Due.{Due}
 use Rattle.decide.specs.declared.Due.the-variants.{Refused, Slot}
 use Rattle.decide.proofs.Ways.{target-slot, passes, turned, Entries, entries-of}
 
 pub lengths-agree : (B : Buffers)
-    → lengthsOn (size B) (length (B .classes)) (length (B .locks .readers)) (length (B .locks .claimants)) (length (B .locks .exclusives)) (length (B .logs)) ≡ lengthsFit B
-unfolding lengthsOn lengthsFit
+    → lengthsMatch (size B) (length (B .classes)) (length (B .locks .readers)) (length (B .locks .claimants)) (length (B .locks .exclusives)) (length (B .logs)) ≡ lengthsFit B
+unfolding lengthsMatch lengthsFit
 lengths-agree B = refl
 
 -- past refusals 7 and 1, any call
@@ -55,8 +55,8 @@ module _ (n s : ℕ) (ks log : List ℕ) (x : Session) (lock : ℕ → Lock) whe
   duePlan (Slot k) = advanceOn log x (lock (cellAt log k)) s k
 
   -- an entry of the lowest written cell is there
-  advance-slot : (o : Option ℕ) → targetIn log (x .count) (x .next) ≡ o → duePlan (dueAt (slotOf log (x .count) o)) ≡ cond (some? o) (advancePlan s log x lock o) (Refuse 9)
-  unfolding slotOf dueAt advanceOn advancePlan lookIn entryOf
+  advance-slot : (o : Option ℕ) → targetIn log (x .count) (x .next) ≡ o → duePlan (dueAt (slotOf log (x .count) o)) ≡ cond (some? o) (advanceTarget s log x lock o) (Refuse 9)
+  unfolding slotOf dueAt advanceOn advanceTarget lookIn entryOf
   advance-slot none e = refl
   advance-slot (some c) e = let w = target-slot log (x .count) (x .next) e in rw (w .1, w .3)
 
@@ -74,18 +74,17 @@ module _ (n s : ℕ) (ks log : List ℕ) (x : Session) (lock : ℕ → Lock) whe
 
 module _ (log : List ℕ) (x : Session) (c : ℕ) where
   pub handled-agree : handledOn log x c .session ≡ handled log c x
-  unfolding handledOn handled
-  handled-agree =
-      test (some? (targetIn log (x .count) (suc c))) (λ t. rw t) (λ t. rw t (test (eqb (x .phase) 4) (λ f. rw f) (λ f. rw f)))
+  unfolding handledOn
+  handled-agree = refl
 
   -- before phase 4 the answer is 103, in phase 4 the model's
   pub handled-moves : (x .phase ≡ 4 → ⊥) → handledOn log x c .answer ≡ Moved
   unfolding handledOn
-  handled-moves n = rw (ne-eqb (x .phase) 4 n) (test (some? (targetIn log (x .count) (suc c))) (λ t. rw t) (λ t. rw t))
+  handled-moves n = rw (ne-eqb (x .phase) 4 n)
 
   pub handled-releases : x .phase ≡ 4 → handledOn log x c .answer ≡ releasing log c x
-  unfolding handledOn releasing
-  handled-releases e = rw (eq-eqb (x .phase) 4 e) (test (some? (targetIn log (x .count) (suc c))) (λ t. rw t) (λ t. rw t))
+  unfolding handledOn
+  handled-releases e = rw (eq-eqb (x .phase) 4 e)
 
 -- an advance at entry k is of a session in phases 2 to 4, with that entry
 pub record Advancing (n : ℕ) (log : List ℕ) (x : Session) (k : ℕ) : Type 0 where

@@ -13,16 +13,16 @@ use lib.ListN.{length, getD}
 use Rattle.model.specs.Search.{some?, below}
 use Rattle.model.specs.Readers.{otherReaders}
 use Rattle.model.specs.Buffers.{idle, moveTo, cellAt, entryAt, slotIn, targetIn, cap}
-use Rattle.model.specs.Step.{claimed, newCell, sealPlan, promotePlan, known, entriesFit, recordFits, guard, readPlan, readOn, writeSlot, writePlan, writeOn, sealOn, peekPlan, peekOn}
+use Rattle.model.specs.Step.{claimed, newCell, sealTarget, promotePlan, known, entriesFit, recordFits, guard, readSlot, readPlan, writeSlot, writeCapped, writePlan, sealPlan, peekSlot, peekPlan, isLeft, handled, releasing}
 use Rattle.model.specs.declared.Session.{Session}
 use Rattle.model.specs.declared.Lock.{Lock}
 use Rattle.model.specs.declared.Answer.the-variants.{Moved, Committed}
 use Rattle.model.specs.declared.Plan.{Plan}
-use Rattle.model.specs.declared.Plan.the-variants.{Refuse, Tell, Enter, Update, EnterUpdate, RollBack, CommitReads, BeginPromotion, Wait, Own, Publish, Release, ShowStore, ShowLog}
+use Rattle.model.specs.declared.Plan.the-variants.{Refuse, Tell, Enter, Update, EnterUpdate, RollBack, CommitReads, BeginPromotion, Wait, Acquire, Publish, Release, ShowStore, ShowLog}
 use Rattle.model.proofs.Tools.{test, which, clash, both-l, both-r, and-false}
 use Rattle.log.specs.Slots.{found, slotOf, targetSlot}
 use Rattle.log.proofs.Targets.{written-first, slot-some, target-some}
-use Rattle.decide.specs.Own.{tested, dueAt, dueOn, advanceOn, handledOn}
+use Rattle.decide.specs.Pieces.{tested, dueAt, dueOn, advanceOn, handledOn}
 use Rattle.decide.specs.declared.Due.the-variants.{Refused, Slot}
 
 -- ---- places that a search answers
@@ -55,13 +55,13 @@ target-there log m from k e =
     found-test m k ∙ ap some? e ∙ which (targetIn log m from) (λ p. rw p) (λ c p. rw (p, target-slot log m from p .1))
 
 -- a seal with a written cell, and with none
-seal-some : (o : Option ℕ) → some? o ≡ true → BeginPromotion ≡ sealPlan o
-unfolding sealPlan
+seal-some : (o : Option ℕ) → some? o ≡ true → BeginPromotion ≡ sealTarget o
+unfolding sealTarget
 seal-some none h = absurd (clash false h refl)
 seal-some (some c) h = refl
 
-seal-none : (o : Option ℕ) → some? o ≡ false → CommitReads ≡ sealPlan o
-unfolding sealPlan
+seal-none : (o : Option ℕ) → some? o ≡ false → CommitReads ≡ sealTarget o
+unfolding sealTarget
 seal-none none h = refl
 seal-none (some c) h = absurd (clash true refl h)
 
@@ -173,82 +173,82 @@ module _ (n : ℕ) (log : List ℕ) (x : Session) where
     -- ---- read
 
     module _ (l : Lock) (c : ℕ) where
-      pub read-outside : n ≤ c → Refuse 3 ≡ readOn n log x l c
-      unfolding guard known readOn
+      pub read-outside : n ≤ c → Refuse 3 ≡ readPlan n log x l c
+      unfolding guard known readPlan
       read-outside h = simp (whole, runs, le-ltb c n h)
 
       -- k is the place that the search for the cell answered
       module _ (h : c < n) (k : ℕ) (s : found (x .count) k ≡ slotIn log (x .count) c) where
-        pub read-known : k < x .count → (v : ℕ) → v ≡ entryAt log k .current → Tell v ≡ readOn n log x l c
-        unfolding guard readPlan known readOn
+        pub read-known : k < x .count → (v : ℕ) → v ≡ entryAt log k .current → Tell v ≡ readPlan n log x l c
+        unfolding guard readSlot known readPlan
         read-known i v q = simp (whole, runs, lt-ltb c n h, found-here (x .count) k _ s i, q)
 
-        pub read-new : x .count ≤ k → (p : Plan) → p ≡ newCell x l (Enter c) → p ≡ readOn n log x l c
-        unfolding guard readPlan known readOn
+        pub read-new : x .count ≤ k → (p : Plan) → p ≡ newCell x l (Enter c) → p ≡ readPlan n log x l c
+        unfolding guard readSlot known readPlan
         read-new i p q = simp (whole, runs, lt-ltb c n h, found-nowhere (x .count) k _ s i, q)
 
       -- ---- write
 
       module _ (classes : List ℕ) (v : ℕ) where
-        pub write-outside : n ≤ c → Refuse 3 ≡ writeOn classes n log x l c v
-        unfolding guard known writeOn
+        pub write-outside : n ≤ c → Refuse 3 ≡ writePlan classes n log x l c v
+        unfolding guard known writePlan
         write-outside h = simp (whole, runs, le-ltb c n h)
 
-        pub write-odd : c < n → 15 < getD classes c 0 → Refuse 8 ≡ writeOn classes n log x l c v
-        unfolding guard known writeOn
+        pub write-odd : c < n → 15 < getD classes c 0 → Refuse 8 ≡ writePlan classes n log x l c v
+        unfolding guard known writePlan
         write-odd h i = simp (whole, runs, lt-ltb c n h, le-ltb (getD classes c 0) 16 i)
 
-        pub write-class : c < n → getD classes c 0 ≤ 15 → (m : ℕ) → m ≡ cap (getD classes c 0) → (p : Plan) → p ≡ writePlan log x l c v m → p ≡ writeOn classes n log x l c v
-        unfolding guard known writeOn
+        pub write-class : c < n → getD classes c 0 ≤ 15 → (m : ℕ) → m ≡ cap (getD classes c 0) → (p : Plan) → p ≡ writeCapped log x l c v m → p ≡ writePlan classes n log x l c v
+        unfolding guard known writePlan
         write-class h i m q p w = simp (whole, runs, lt-ltb c n h, lt-ltb (getD classes c 0) 16 (omega arith), ← q, w)
 
     -- ---- seal
 
     -- b is whether a cell is written
     module _ (b : Bool) (w : b ≡ some? (targetIn log (x .count) 0)) where
-      pub seal-writes : b ≡ true → BeginPromotion ≡ sealOn n log x
-      unfolding guard known sealOn
+      pub seal-writes : b ≡ true → BeginPromotion ≡ sealPlan n log x
+      unfolding guard known sealPlan
       seal-writes h = simp (whole, runs) (seal-some _ (sym w ∙ h))
 
-      pub seal-reads : b ≡ false → CommitReads ≡ sealOn n log x
-      unfolding guard known sealOn
+      pub seal-reads : b ≡ false → CommitReads ≡ sealPlan n log x
+      unfolding guard known sealPlan
       seal-reads h = simp (whole, runs) (seal-none _ (sym w ∙ h))
 
     -- ---- peek
 
     module _ (c : ℕ) where
-      pub peek-outside : n ≤ c → Refuse 3 ≡ peekOn n log x c
-      unfolding guard known peekOn
+      pub peek-outside : n ≤ c → Refuse 3 ≡ peekPlan n log x c
+      unfolding guard known peekPlan
       peek-outside h = simp (whole, runs, le-ltb c n h)
 
       module _ (h : c < n) (k : ℕ) (s : found (x .count) k ≡ slotIn log (x .count) c) where
-        pub peek-new : x .count ≤ k → Refuse 14 ≡ peekOn n log x c
-        unfolding guard peekPlan known peekOn
+        pub peek-new : x .count ≤ k → Refuse 14 ≡ peekPlan n log x c
+        unfolding guard peekSlot known peekPlan
         peek-new i = simp (whole, runs, lt-ltb c n h, found-nowhere (x .count) k _ s i)
 
         module _ (i : k < x .count) (b : Bool) (d : b ≡ entryAt log k .dirty) where
-          pub peek-written : b ≡ true → ShowLog k ≡ peekOn n log x c
-          unfolding guard peekPlan known peekOn
+          pub peek-written : b ≡ true → ShowLog k ≡ peekPlan n log x c
+          unfolding guard peekSlot known peekPlan
           peek-written g = simp (whole, runs, lt-ltb c n h, found-here (x .count) k _ s i, sym d ∙ g)
 
-          pub peek-read : b ≡ false → ShowStore c ≡ peekOn n log x c
-          unfolding guard peekPlan known peekOn
+          pub peek-read : b ≡ false → ShowStore c ≡ peekPlan n log x c
+          unfolding guard peekSlot known peekPlan
           peek-read g = simp (whole, runs, lt-ltb c n h, found-here (x .count) k _ s i, sym d ∙ g)
 
 -- ---- write, once the cap is known
 
 module _ (log : List ℕ) (x : Session) (l : Lock) (c v m : ℕ) where
-  pub write-above : m < v → Refuse 4 ≡ writePlan log x l c v m
-  unfolding writePlan
+  pub write-above : m < v → Refuse 4 ≡ writeCapped log x l c v m
+  unfolding writeCapped
   write-above h = simp (lt-leb v m h)
 
   module _ (h : v ≤ m) (k : ℕ) (s : found (x .count) k ≡ slotIn log (x .count) c) where
-    pub write-known : k < x .count → Update k v ≡ writePlan log x l c v m
-    unfolding writePlan writeSlot
+    pub write-known : k < x .count → Update k v ≡ writeCapped log x l c v m
+    unfolding writeCapped writeSlot
     write-known i = simp (le-leb v m h, found-here (x .count) k _ s i)
 
-    pub write-new : x .count ≤ k → (p : Plan) → p ≡ newCell x l (EnterUpdate c v) → p ≡ writePlan log x l c v m
-    unfolding writePlan writeSlot
+    pub write-new : x .count ≤ k → (p : Plan) → p ≡ newCell x l (EnterUpdate c v) → p ≡ writeCapped log x l c v m
+    unfolding writeCapped writeSlot
     write-new i p q = simp (le-leb v m h, found-nowhere (x .count) k _ s i, q)
 
 -- ---- advance
@@ -264,7 +264,7 @@ module _ (s c : ℕ) (l : Lock) where
     unfolding claimed
     unclaimed = ⊎-elim (λ i. simp (eq-eqb (l .claimant) s i, and-false)) (λ i. simp (eq-eqb (l .claimant) 16 i)) h
 
-    pub promote-owns : b ≡ true → Own c ≡ promotePlan s c l
+    pub promote-owns : b ≡ true → Acquire c ≡ promotePlan s c l
     unfolding promotePlan
     promote-owns g = simp (unclaimed, sym e ∙ g)
 
@@ -293,14 +293,14 @@ module _ (log : List ℕ) (x : Session) (c k : ℕ) (t : found (x .count) k ≡ 
   left = rw add-one at (target-there log (x .count) (c + 1) k t)
 
   pub handle-next : k < x .count → y ≡ moveTo (x .phase) (c + 1) x → record { session = y; answer = Moved } ≡ handledOn log x c
-  unfolding handledOn
-  handle-next h e = simp (← left, lt-ltb k (x .count) h, e, add-one)
+  unfolding handledOn handled releasing isLeft
+  handle-next h e = rw (e, add-one, ← left, lt-ltb k (x .count) h) (test (eqb (x .phase) 4) (λ p. rw p) (λ p. rw p))
 
   module _ (h : x .count ≤ k) where
     pub handle-rests : x .phase ≡ 4 → y ≡ idle → record { session = y; answer = Committed } ≡ handledOn log x c
-    unfolding handledOn
+    unfolding handledOn handled releasing isLeft
     handle-rests p e = simp (← left, le-ltb k (x .count) h, eq-eqb (x .phase) 4 p, e)
 
     pub handle-raises : (x .phase ≡ 4 → ⊥) → y ≡ moveTo (suc (x .phase)) 0 x → record { session = y; answer = Moved } ≡ handledOn log x c
-    unfolding handledOn
+    unfolding handledOn handled releasing isLeft
     handle-raises p e = simp (← left, le-ltb k (x .count) h, ne-eqb (x .phase) 4 p, e)

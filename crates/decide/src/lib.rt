@@ -5,9 +5,9 @@ ghost use mathlib.Core.Bool.{true, false};
 ghost use Prim.Native.Nat.{_+_, _*_, _<_, _≤_};
 ghost use lib.ListN.{length};
 ghost use Rattle.model.specs.Search.{below};
-ghost use Rattle.model.specs.Buffers.{cellAt, cap, fits, allFit};
-ghost use Rattle.model.specs.Step.{newCell, promotePlan, entriesFit, recordFits, readOn, writePlan, writeOn, sealOn, peekOn};
-ghost use Rattle.decide.specs.Own.{lengthsOn, tested, dueOn, advanceOn, handledOn};
+ghost use Rattle.model.specs.Buffers.{cellAt, cap, fits, allFit, lengthsMatch};
+ghost use Rattle.model.specs.Step.{newCell, promotePlan, entriesFit, recordFits, readPlan, writeCapped, writePlan, sealPlan, peekPlan};
+ghost use Rattle.decide.specs.Pieces.{tested, dueOn, advanceOn, handledOn};
 use model::Answer;
 use model::Lock;
 use model::Plan;
@@ -78,7 +78,7 @@ pub fn lengths_fit(
     exclusives: usize,
     logs: usize,
 ) -> bool
-    ensures { λ r. ⌜ r ≡ lengthsOn n classes readers claimants exclusives logs ⌝ }
+    ensures { λ r. ⌜ r ≡ lengthsMatch n classes readers claimants exclusives logs ⌝ }
 {
     if n == 0 {
         return false;
@@ -171,7 +171,7 @@ fn new_cell(x: Session, l: Lock, p: Plan) -> Plan
 // A cell in the log gives its present value; otherwise it is entered.
 pub fn read(log: &[u32], n: usize, x: Session, l: Lock, cell: u32) -> Plan
     requires { ⌜ (length (now log) ≡ 128) × (n ≤ 1024) ⌝ }
-    ensures { λ r. ⌜ r ≡ readOn n (now (log .entry)) x l cell ⌝ }
+    ensures { λ r. ⌜ r ≡ readPlan n (now (log .entry)) x l cell ⌝ }
 {
     let phase = x.phase;
     let count = x.count as usize;
@@ -192,7 +192,7 @@ pub fn read(log: &[u32], n: usize, x: Session, l: Lock, cell: u32) -> Plan
 // A value above the cap is 4; a new cell is entered as by read, then the entry is updated.
 fn write_capped(log: &[u32], x: Session, l: Lock, cell: u32, value: u32, most: u32) -> Plan
     requires { ⌜ (length (now log) ≡ 128) × (x .count ≤ 32) ⌝ }
-    ensures { λ r. ⌜ r ≡ writePlan (now (log .entry)) x l cell value most ⌝ }
+    ensures { λ r. ⌜ r ≡ writeCapped (now (log .entry)) x l cell value most ⌝ }
 {
     let count = x.count as usize;
     if most < value {
@@ -208,7 +208,7 @@ fn write_capped(log: &[u32], x: Session, l: Lock, cell: u32, value: u32, most: u
 // A write: the cap is that of the cell's class.
 pub fn write(log: &[u32], classes: &[u8], x: Session, l: Lock, cell: u32, value: u32) -> Plan
     requires { ⌜ (length (now log) ≡ 128) × (length (now classes) ≤ 1024) ⌝ }
-    ensures { λ r. ⌜ r ≡ writeOn (now (classes .entry)) (length (now (classes .entry))) (now (log .entry)) x l cell value ⌝ }
+    ensures { λ r. ⌜ r ≡ writePlan (now (classes .entry)) (length (now (classes .entry))) (now (log .entry)) x l cell value ⌝ }
 {
     let phase = x.phase;
     let n = classes.len();
@@ -232,7 +232,7 @@ pub fn write(log: &[u32], classes: &[u8], x: Session, l: Lock, cell: u32, value:
 // With nothing written the session commits, else promotion begins.
 pub fn seal(log: &[u32], n: usize, x: Session) -> Plan
     requires { ⌜ (length (now log) ≡ 128) × (n ≤ 1024) ⌝ }
-    ensures { λ r. ⌜ r ≡ sealOn n (now (log .entry)) x ⌝ }
+    ensures { λ r. ⌜ r ≡ sealPlan n (now (log .entry)) x ⌝ }
 {
     let phase = x.phase;
     let count = x.count as usize;
@@ -288,7 +288,7 @@ fn promote(session: u8, cell: u32, l: Lock) -> Plan
         }
     }
     if locks::alone(readers, session) {
-        return Plan::Own(cell);
+        return Plan::Acquire(cell);
     }
     Plan::Wait(cell)
 }
@@ -331,7 +331,7 @@ pub fn handle(log: &[u32], n: usize, x: Session, cell: u32) -> Handled
         };
     }
     if phase == 4 {
-        let y = x.rested();
+        let y = x.idled();
         return Handled {
             session: y,
             answer: Answer::Committed,
@@ -349,7 +349,7 @@ pub fn handle(log: &[u32], n: usize, x: Session, cell: u32) -> Handled
 // The store's own word where the entry is not written, the log's where it is; a cell not in the log is 14.
 pub fn peek(log: &[u32], n: usize, x: Session, cell: u32) -> Plan
     requires { ⌜ (length (now log) ≡ 128) × (n ≤ 1024) ⌝ }
-    ensures { λ r. ⌜ r ≡ peekOn n (now (log .entry)) x cell ⌝ }
+    ensures { λ r. ⌜ r ≡ peekPlan n (now (log .entry)) x cell ⌝ }
 {
     let phase = x.phase;
     let count = x.count as usize;

@@ -9,7 +9,7 @@ use Rattle.model.specs.Buffers.{Store}
 use Rattle.model.specs.History.{Event}
 use Rattle.model.specs.Isolation.{Ran}
 use Rattle.model.specs.Isolation as list
-use Rattle.model.specs.Step.{Outcome, outcome, number, valueOf, taken, setUpTaken}
+use Rattle.model.specs.Step.{Outcome, outcome, number, valueOf, effect, setUpEffect}
 use Rattle.model.proofs.Demand3.{demand3-of-code}
 use Rattle.exports.specs.Said.{Said, said, inNumbers, Heard, heard, Called, none, then, Demand3InNumbers}
 
@@ -27,22 +27,22 @@ pub called : (σ : Store) {ks : List Call} {h : List Heard} {τ : Store} → Cal
 called σ none = record { events = []; told = refl; ran = list.none }
 called σ (then {x = x} r k n v y e) =
     let i = called σ r in
-    let n′ : n ≡ number (taken k x .answer) = ap (λ (s : Said). s .number) e in
-    let v′ : v ≡ valueOf (taken k x .answer) = ap (λ (s : Said). s .value) e in
+    let n′ : n ≡ number (effect k x .answer) = ap (λ (s : Said). s .number) e in
+    let v′ : v ≡ valueOf (effect k x .answer) = ap (λ (s : Said). s .value) e in
     let t = i .told in
     record {
-      events = record { call = k; answer = taken k x .answer } ∷ i .events;
+      events = record { call = k; answer = effect k x .answer } ∷ i .events;
       told = cc;
-      ran = list.then (i .ran) k (taken k x .answer) y (answered n v y (taken k x) e);
+      ran = list.then (i .ran) k (effect k x .answer) y (answered n v y (effect k x) e);
     }
 
 -- demand 3 of the calls for C: a set-up that told 100 left σ, and the calls kept their contracts
-pub demand3-in-numbers : (φ σ : Store) (v : ℕ) → said 100 v σ ≡ inNumbers (setUpTaken φ)
+pub demand3-in-numbers : (φ σ : Store) (v : ℕ) → said 100 v σ ≡ inNumbers (setUpEffect φ)
     → (calls : List Call) (h : List Heard) (τ : Store) → Called σ (reverse calls) h τ → Demand3InNumbers σ calls h τ
 demand3-in-numbers φ σ v e calls h τ r =
     let i = called σ r in
     record {
       events = i .events;
       told = i .told;
-      meets = demand3-of-code φ σ (setUpTaken φ .answer) (answered 100 v σ (setUpTaken φ) e) (sym (ap (λ (s : Said). s .number) e)) calls (i .events) τ (i .ran);
+      meets = demand3-of-code φ σ (setUpEffect φ .answer) (answered 100 v σ (setUpEffect φ) e) (sym (ap (λ (s : Said). s .number) e)) calls (i .events) τ (i .ran);
     }

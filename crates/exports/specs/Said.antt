@@ -5,7 +5,7 @@ use mathlib.Core.List.{List, [], _∷_, map}
 use Rattle.model.specs.Buffers.{Store}
 use Rattle.model.specs.History.{Event}
 use Rattle.model.specs.Isolation.{Demand3OfCode}
-use Rattle.model.specs.Step.{Outcome, number, valueOf, taken, Part, storeWord, logWord, noWord}
+use Rattle.model.specs.Step.{Outcome, number, valueOf, effect, Part, storeWord, logWord, noWord}
 use Rattle.model.specs.declared.Call.{Call}
 
 pub record Said : Type 0 where
@@ -47,7 +47,7 @@ heard e = record { call = e .call; number = number (e .answer); value = valueOf 
 -- calls for C made one after the other, the newest first: each kept its contract on what the call before left
 pub data Called (σ : Store) : List Call → List Heard → Store → Type 0 where
   none : Called σ [] [] σ
-  then : {ks : List Call} {h : List Heard} {x : Store} → Called σ ks h x → (k : Call) (n v : ℕ) (y : Store) → said n v y ≡ inNumbers (taken k x)
+  then : {ks : List Call} {h : List Heard} {x : Store} → Called σ ks h x → (k : Call) (n v : ℕ) (y : Store) → said n v y ≡ inNumbers (effect k x)
       → Called σ (k ∷ ks) (record { call = k; number = n; value = v } ∷ h) y
 
 -- what C was told of a list of calls in their order is what it hears of events of which demand 3 holds

@@ -1,6 +1,6 @@
 // The calls for C: each is the store's own call, with the session records passed in and handed back by value and the answer as two numbers.
 ghost use mathlib.Core.Path.{_≡_};
-ghost use Rattle.model.specs.Step.{number, valueOf, taken, setUpTaken, planOf, shown};
+ghost use Rattle.model.specs.Step.{number, valueOf, effect, setUpEffect, planOf, shown};
 ghost use Rattle.model.specs.declared.Call.the-variants.{Begin, Read, Write, Seal, Advance, Abandon, Peek};
 ghost use Rattle.store.specs.Lent.{storeOf};
 ghost use Rattle.exports.specs.Said.{said, inNumbers, at, placeOf};
@@ -65,7 +65,7 @@ pub extern "C" fn rukkanei_set_up(
     number: &mut u32,
     value: &mut u32,
 ) -> Sessions
-    ensures { λ r. ⌜ said (now (number .exit)) (now (value .exit)) (storeOf (now (values .entry)) (now (classes .entry)) (now (readers .exit)) (now (claimants .exit)) (now (exclusives .exit)) (now (logs .exit)) r) ≡ inNumbers (setUpTaken (storeOf (now (values .entry)) (now (classes .entry)) (now (readers .entry)) (now (claimants .entry)) (now (exclusives .entry)) (now (logs .entry)) sessions)) ⌝ }
+    ensures { λ r. ⌜ said (now (number .exit)) (now (value .exit)) (storeOf (now (values .entry)) (now (classes .entry)) (now (readers .exit)) (now (claimants .exit)) (now (exclusives .exit)) (now (logs .exit)) r) ≡ inNumbers (setUpEffect (storeOf (now (values .entry)) (now (classes .entry)) (now (readers .entry)) (now (claimants .entry)) (now (exclusives .entry)) (now (logs .entry)) sessions)) ⌝ }
 {
     let reply = store::set_up(
         sessions,
@@ -95,7 +95,7 @@ pub extern "C" fn rukkanei_begin(
     number: &mut u32,
     value: &mut u32,
 ) -> Sessions
-    ensures { λ r. ⌜ said (now (number .exit)) (now (value .exit)) (storeOf (now (values .entry)) (now (classes .entry)) (now (readers .entry)) (now (claimants .entry)) (now (exclusives .entry)) (now (logs .entry)) r) ≡ inNumbers (taken (Begin session) (storeOf (now (values .entry)) (now (classes .entry)) (now (readers .entry)) (now (claimants .entry)) (now (exclusives .entry)) (now (logs .entry)) sessions)) ⌝ }
+    ensures { λ r. ⌜ said (now (number .exit)) (now (value .exit)) (storeOf (now (values .entry)) (now (classes .entry)) (now (readers .entry)) (now (claimants .entry)) (now (exclusives .entry)) (now (logs .entry)) r) ≡ inNumbers (effect (Begin session) (storeOf (now (values .entry)) (now (classes .entry)) (now (readers .entry)) (now (claimants .entry)) (now (exclusives .entry)) (now (logs .entry)) sessions)) ⌝ }
 {
     let reply = store::begin(
         sessions,
@@ -127,7 +127,7 @@ pub extern "C" fn rukkanei_read(
     number: &mut u32,
     value: &mut u32,
 ) -> Sessions
-    ensures { λ r. ⌜ said (now (number .exit)) (now (value .exit)) (storeOf (now (values .entry)) (now (classes .entry)) (now (readers .exit)) (now (claimants .exit)) (now (exclusives .exit)) (now (logs .exit)) r) ≡ inNumbers (taken (Read session cell) (storeOf (now (values .entry)) (now (classes .entry)) (now (readers .entry)) (now (claimants .entry)) (now (exclusives .entry)) (now (logs .entry)) sessions)) ⌝ }
+    ensures { λ r. ⌜ said (now (number .exit)) (now (value .exit)) (storeOf (now (values .entry)) (now (classes .entry)) (now (readers .exit)) (now (claimants .exit)) (now (exclusives .exit)) (now (logs .exit)) r) ≡ inNumbers (effect (Read session cell) (storeOf (now (values .entry)) (now (classes .entry)) (now (readers .entry)) (now (claimants .entry)) (now (exclusives .entry)) (now (logs .entry)) sessions)) ⌝ }
 {
     let reply = store::read(
         sessions,
@@ -161,7 +161,7 @@ pub extern "C" fn rukkanei_write(
     number: &mut u32,
     value: &mut u32,
 ) -> Sessions
-    ensures { λ r. ⌜ said (now (number .exit)) (now (value .exit)) (storeOf (now (values .entry)) (now (classes .entry)) (now (readers .exit)) (now (claimants .exit)) (now (exclusives .exit)) (now (logs .exit)) r) ≡ inNumbers (taken (Write session cell written) (storeOf (now (values .entry)) (now (classes .entry)) (now (readers .entry)) (now (claimants .entry)) (now (exclusives .entry)) (now (logs .entry)) sessions)) ⌝ }
+    ensures { λ r. ⌜ said (now (number .exit)) (now (value .exit)) (storeOf (now (values .entry)) (now (classes .entry)) (now (readers .exit)) (now (claimants .exit)) (now (exclusives .exit)) (now (logs .exit)) r) ≡ inNumbers (effect (Write session cell written) (storeOf (now (values .entry)) (now (classes .entry)) (now (readers .entry)) (now (claimants .entry)) (now (exclusives .entry)) (now (logs .entry)) sessions)) ⌝ }
 {
     let reply = store::write(
         sessions,
@@ -194,7 +194,7 @@ pub extern "C" fn rukkanei_seal(
     number: &mut u32,
     value: &mut u32,
 ) -> Sessions
-    ensures { λ r. ⌜ said (now (number .exit)) (now (value .exit)) (storeOf (now (values .entry)) (now (classes .entry)) (now (readers .exit)) (now (claimants .entry)) (now (exclusives .entry)) (now (logs .entry)) r) ≡ inNumbers (taken (Seal session) (storeOf (now (values .entry)) (now (classes .entry)) (now (readers .entry)) (now (claimants .entry)) (now (exclusives .entry)) (now (logs .entry)) sessions)) ⌝ }
+    ensures { λ r. ⌜ said (now (number .exit)) (now (value .exit)) (storeOf (now (values .entry)) (now (classes .entry)) (now (readers .exit)) (now (claimants .entry)) (now (exclusives .entry)) (now (logs .entry)) r) ≡ inNumbers (effect (Seal session) (storeOf (now (values .entry)) (now (classes .entry)) (now (readers .entry)) (now (claimants .entry)) (now (exclusives .entry)) (now (logs .entry)) sessions)) ⌝ }
 {
     let reply = store::seal(
         sessions,
@@ -225,7 +225,7 @@ pub extern "C" fn rukkanei_advance(
     number: &mut u32,
     value: &mut u32,
 ) -> Sessions
-    ensures { λ r. ⌜ said (now (number .exit)) (now (value .exit)) (storeOf (now (values .exit)) (now (classes .entry)) (now (readers .exit)) (now (claimants .exit)) (now (exclusives .exit)) (now (logs .entry)) r) ≡ inNumbers (taken (Advance session) (storeOf (now (values .entry)) (now (classes .entry)) (now (readers .entry)) (now (claimants .entry)) (now (exclusives .entry)) (now (logs .entry)) sessions)) ⌝ }
+    ensures { λ r. ⌜ said (now (number .exit)) (now (value .exit)) (storeOf (now (values .exit)) (now (classes .entry)) (now (readers .exit)) (now (claimants .exit)) (now (exclusives .exit)) (now (logs .entry)) r) ≡ inNumbers (effect (Advance session) (storeOf (now (values .entry)) (now (classes .entry)) (now (readers .entry)) (now (claimants .entry)) (now (exclusives .entry)) (now (logs .entry)) sessions)) ⌝ }
 {
     let reply = store::advance(
         sessions,
@@ -256,7 +256,7 @@ pub extern "C" fn rukkanei_abandon(
     number: &mut u32,
     value: &mut u32,
 ) -> Sessions
-    ensures { λ r. ⌜ said (now (number .exit)) (now (value .exit)) (storeOf (now (values .entry)) (now (classes .entry)) (now (readers .exit)) (now (claimants .exit)) (now (exclusives .exit)) (now (logs .entry)) r) ≡ inNumbers (taken (Abandon session) (storeOf (now (values .entry)) (now (classes .entry)) (now (readers .entry)) (now (claimants .entry)) (now (exclusives .entry)) (now (logs .entry)) sessions)) ⌝ }
+    ensures { λ r. ⌜ said (now (number .exit)) (now (value .exit)) (storeOf (now (values .entry)) (now (classes .entry)) (now (readers .exit)) (now (claimants .exit)) (now (exclusives .exit)) (now (logs .entry)) r) ≡ inNumbers (effect (Abandon session) (storeOf (now (values .entry)) (now (classes .entry)) (now (readers .entry)) (now (claimants .entry)) (now (exclusives .entry)) (now (logs .entry)) sessions)) ⌝ }
 {
     let reply = store::abandon(
         sessions,
@@ -288,7 +288,7 @@ pub extern "C" fn rukkanei_peek_number(
     number: &mut u32,
     value: &mut u32,
 ) -> Sessions
-    ensures { λ r. ⌜ said (now (number .exit)) (now (value .exit)) (storeOf (now (values .entry)) (now (classes .entry)) (now (readers .entry)) (now (claimants .entry)) (now (exclusives .entry)) (now (logs .entry)) r) ≡ inNumbers (taken (Peek session cell) (storeOf (now (values .entry)) (now (classes .entry)) (now (readers .entry)) (now (claimants .entry)) (now (exclusives .entry)) (now (logs .entry)) sessions)) ⌝ }
+    ensures { λ r. ⌜ said (now (number .exit)) (now (value .exit)) (storeOf (now (values .entry)) (now (classes .entry)) (now (readers .entry)) (now (claimants .entry)) (now (exclusives .entry)) (now (logs .entry)) r) ≡ inNumbers (effect (Peek session cell) (storeOf (now (values .entry)) (now (classes .entry)) (now (readers .entry)) (now (claimants .entry)) (now (exclusives .entry)) (now (logs .entry)) sessions)) ⌝ }
 {
     let reply = store::peek_number(
         sessions,

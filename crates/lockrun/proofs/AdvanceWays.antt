@@ -8,8 +8,8 @@ use borrow.Author.Tests.{ltb-true, ltb-false, lt-ltb, le-ltb}
 use lib.Dec.{ltb}
 use lib.ListN.{length, getD, set, replicate, length-replicate}
 use Rattle.model.specs.Search.{below}
-use Rattle.model.specs.Buffers.{Store, free, idle, sessionAt, cellAt, lockAt, setLock, claim, own, vacate}
-use Rattle.model.specs.Step.{outcome, taken, planOf}
+use Rattle.model.specs.Buffers.{Store, free, idle, sessionAt, cellAt, lockAt, setLock, claim, own, vacate, logIn, lengthsMatch}
+use Rattle.model.specs.Step.{outcome, effect, planOf}
 use Rattle.model.specs.declared.Session.{Session}
 use Rattle.model.specs.declared.Sessions.{Sessions}
 use Rattle.model.specs.declared.Lock.{Lock}
@@ -19,8 +19,7 @@ use Rattle.model.specs.declared.Plan.{Plan}
 use Rattle.model.specs.declared.Plan.the-variants.{RollBack, Wait, Publish}
 use Rattle.model.specs.declared.Plan.the-variants as plans
 use Rattle.model.proofs.Tools.{test}
-use Rattle.log.specs.Slots.{part}
-use Rattle.decide.specs.Own.{lengthsOn, dueOn, advanceOn, handledOn}
+use Rattle.decide.specs.Pieces.{dueOn, advanceOn, handledOn}
 use Rattle.decide.specs.declared.Due.{Due}
 use Rattle.decide.specs.declared.Due.the-variants.{Refused, Slot}
 use Rattle.decide.specs.declared.Handled.{Handled}
@@ -31,7 +30,7 @@ use Rattle.store.proofs.Refusals.{refused-7, refused-1, lengths-of}
 use Rattle.store.proofs.Parts.{cut, cut-is, part-fits, can-decide}
 use Rattle.store.proofs.Tags.{Passed}
 use Rattle.store.proofs.Advances.{atEntry, due-refused, due-planned, due-carried, due-admits, Decided, cell-inside, can-handle, leaves-waiting, leaves-owned, leaves-published, leaves-released}
-use Rattle.lockrun.specs.declared.Change.the-variants.{Keep, Claim, Own, Vacate, Withdraw}
+use Rattle.lockrun.specs.declared.Change.the-variants.{Keep, Claim, Acquire, Vacate, Withdraw}
 use Rattle.lockrun.specs.declared.Turn.{Turn}
 use Rattle.lockrun.specs.Run.{apart, storeOn, lockIn, turnsOf, cellOf, changeOf, swept, sweptBy}
 use Rattle.lockrun.specs.Turns.{keeps, dueIn, Found, Turned}
@@ -46,7 +45,7 @@ other e = absurd (omega arith)
 
 module _ (ss : Sessions) (n j m : ℕ) (W : List ℕ) (s : ℕ) where
   -- the test's answer b
-  module _ (b : Bool) (e : b ≡ lengthsOn n j m m m (length W)) where
+  module _ (b : Bool) (e : b ≡ lengthsMatch n j m m m (length W)) where
     pub due-7 : b ≡ false → Refused 7 ≡ dueIn ss n j m W s
     unfolding dueIn
     due-7 h = rw (← e, h)
@@ -59,10 +58,10 @@ module _ (ss : Sessions) (n j m : ℕ) (W : List ℕ) (s : ℕ) where
     unfolding dueIn sessionAt
     due-on h l d f = let k : s < 16 = omega arith in f ∙ rw (← e, h, lt-ltb s 16 k, cut-is)
 
-  pub due-is : (k : ℕ) → Slot k ≡ dueIn ss n j m W s → (lengthsOn n j m m m (length W) ≡ true) × ((s < 16) × (dueOn n (cut W s) (getD (ss .records) s idle) ≡ Slot k))
+  pub due-is : (k : ℕ) → Slot k ≡ dueIn ss n j m W s → (lengthsMatch n j m m m (length W) ≡ true) × ((s < 16) × (dueOn n (cut W s) (getD (ss .records) s idle) ≡ Slot k))
   unfolding dueIn sessionAt
   due-is k e =
-      test (lengthsOn n j m m m (length W))
+      test (lengthsMatch n j m m m (length W))
       (λ h. test (ltb s 16) (λ i. (h, (ltb-true s 16 i, rw cut-is (sym (rw (h, i) at e))))) (λ i. let d = rw (h, i) at e in other (cc)))
       (λ h. let d = rw h at e in other (cc))
 
@@ -70,14 +69,14 @@ module _ (ss : Sessions) (n j m : ℕ) (W : List ℕ) (s : ℕ) where
   due-found (Refused r) e = tt
   due-found (Slot k) e =
       let f = due-is k e in
-      let l = lengths-of (storeOn (replicate n 0) (replicate j 0) (replicate m free) W ss .lent) (plain-sized n j m W ss (lengthsOn n j m m m (length W)) refl s (f .0) (let i = f .1 .0 in omega arith) .lengths) .logs in
+      let l = lengths-of (storeOn (replicate n 0) (replicate j 0) (replicate m free) W ss .lent) (plain-sized n j m W ss (lengthsMatch n j m m m (length W)) refl s (f .0) (let i = f .1 .0 in omega arith) .lengths) .logs in
       let a = due-known n (cut W s) (getD (ss .records) s idle) k (f .1 .1) in
       let c = a .entries .count in let i = a .slot in
       (f .1 .0, omega arith, l)
 
 module _ (vs cs W : List ℕ) (ss : Sessions) (m s : ℕ) where
   abbrev fit : Bool
-  fit = lengthsOn (length vs) (length cs) m m m (length W)
+  fit = lengthsMatch (length vs) (length cs) m m m (length W)
 
   abbrev x : Session
   x = getD (ss .records) s idle
@@ -167,7 +166,7 @@ module _ (vs cs W : List ℕ) (ss : Sessions) (m s : ℕ) where
           unfolding sessionAt
           decided = let a = admits L q in record { admitted = a .0; slot = a .1; from = a .2; upto = a .3; cell = cell; lock = lock; plan = e }
 
-          finish : carried s (atEntry σ s k) σ ≡ taken (Advance s) σ
+          finish : carried s (atEntry σ s k) σ ≡ effect (Advance s) σ
           finish = due-carried σ s (sizes L q) k (known .1 .1)
 
           planned : p ≡ planOf (Advance s) σ
@@ -177,26 +176,26 @@ module _ (vs cs W : List ℕ) (ss : Sessions) (m s : ℕ) where
           put : (f : Lock → Lock) → apart (set L c (f (lockIn L c))) ≡ setLock c (f l) (apart L)
           put f = apart-set L c (f (lockIn L c)) ∙ ap (λ (h : Lock). setLock c (f h) (apart L)) held
 
-          waited : (i : ℕ) → p ≡ Wait i → outcome the-variants.Waiting (storeOn vs cs (sweptBy W (Claim s c) L) W ss) ≡ taken (Advance s) σ
+          waited : (i : ℕ) → p ≡ Wait i → outcome the-variants.Waiting (storeOn vs cs (sweptBy W (Claim s c) L) W ss) ≡ effect (Advance s) σ
           unfolding turnsOf swept cellOf changeOf sessionAt
           waited i h = leaves-waiting decided i h (claim s l) (apart (sweptBy W (Claim s c) L)) refl (put (claim s)) ∙ finish
 
           rolled : p ≡ RollBack → (y : Session) → y ≡ idle
-              → outcome (the-variants.Refused 6) (storeOn vs cs (sweptBy W (Withdraw s (x .count)) L) W (record { records = set (ss .records) s y })) ≡ taken (Advance s) σ
+              → outcome (the-variants.Refused 6) (storeOn vs cs (sweptBy W (Withdraw s (x .count)) L) W (record { records = set (ss .records) s y })) ≡ effect (Advance s) σ
           rolled h y f = carry-roll-back s σ (apart (sweptBy W (Withdraw s (x .count)) L)) y (back vs cs W ss m s sizes L) f ∙ carries (Advance s) σ RollBack (sym h ∙ planned)
 
           -- h is what handling the cell answers
           module _ (h : Handled) (d : h ≡ handledOn (cut W s) x c) where
-            owned : (i : ℕ) → p ≡ plans.Own i → outcome (h .answer) (storeOn vs cs (sweptBy W (Own s c) L) W (record { records = set (ss .records) s (h .session) })) ≡ taken (Advance s) σ
+            owned : (i : ℕ) → p ≡ plans.Acquire i → outcome (h .answer) (storeOn vs cs (sweptBy W (Acquire s c) L) W (record { records = set (ss .records) s (h .session) })) ≡ effect (Advance s) σ
             unfolding turnsOf swept cellOf changeOf sessionAt
-            owned i f = leaves-owned decided h d i f (own s l) (apart (sweptBy W (Own s c) L)) refl (put (own s)) ∙ finish
+            owned i f = leaves-owned decided h d i f (own s l) (apart (sweptBy W (Acquire s c) L)) refl (put (own s)) ∙ finish
 
-            published : (i v : ℕ) → p ≡ Publish i v → outcome (h .answer) (storeOn (set vs c v) cs (sweptBy W Keep L) W (record { records = set (ss .records) s (h .session) })) ≡ taken (Advance s) σ
+            published : (i v : ℕ) → p ≡ Publish i v → outcome (h .answer) (storeOn (set vs c v) cs (sweptBy W Keep L) W (record { records = set (ss .records) s (h .session) })) ≡ effect (Advance s) σ
             unfolding turnsOf swept sessionAt
             published i v f = leaves-published decided h d i v f ∙ finish
 
             released : Passed 10 p → Passed 6 p → Passed 11 p → Passed 12 p
-                → outcome (h .answer) (storeOn vs cs (sweptBy W (Vacate s c) L) W (record { records = set (ss .records) s (h .session) })) ≡ taken (Advance s) σ
+                → outcome (h .answer) (storeOn vs cs (sweptBy W (Vacate s c) L) W (record { records = set (ss .records) s (h .session) })) ≡ effect (Advance s) σ
             unfolding turnsOf swept cellOf changeOf sessionAt
             released a b f i =
                 leaves-released decided h d a b f i (vacate s l) (apart (sweptBy W (Vacate s c) L)) refl (put (vacate s)) ∙ finish
@@ -211,7 +210,7 @@ module _ (vs cs W : List ℕ) (ss : Sessions) (m s : ℕ) where
         advance-rolls h y f = ((sized .session, few, words vs cs W ss m s sizes), λ L q g. rolled L q g h y f)
 
         module _ (h : Handled) (d : h ≡ handledOn (cut W s) x c) where
-          pub advance-owns : {i : ℕ} → p ≡ plans.Own i → Left vs (ends vs cs W ss m s sizes (h .answer) (h .session) (Own s c))
+          pub advance-owns : {i : ℕ} → p ≡ plans.Acquire i → Left vs (ends vs cs W ss m s sizes (h .answer) (h .session) (Acquire s c))
           advance-owns {i} f = (sized .session, λ L q g. owned L q g h d i f)
 
           pub advance-publishes : {i v : ℕ} → p ≡ Publish i v → Left (set vs c v) (ends vs cs W ss m s sizes (h .answer) (h .session) Keep)

@@ -5,7 +5,7 @@ use mathlib.Core.Path.{_≡_, refl, sym, ap, _∙_}
 use mathlib.Core.List.{List, [], _∷_}
 use Prim.Native.Nat.{ℕ}
 use Rattle.model.specs.Buffers.{Locks}
-use Rattle.model.specs.Step.{Outcome, outcome, taken, setUpTaken, planOf}
+use Rattle.model.specs.Step.{Outcome, outcome, effect, setUpEffect, planOf}
 use Rattle.model.specs.declared.Lock.{Lock}
 use Rattle.model.specs.declared.Sessions.{Sessions}
 use Rattle.model.specs.declared.Call.{Call}
@@ -42,16 +42,16 @@ module _ (cs : List ℕ) (x : Left Locks) (y : Left (List Lock)) (same : outcome
 -- a call, by the contracts of the two forms
 pub calls-agree : (k : Call) (vs cs : List ℕ) (L : List Lock) (W : List ℕ) (ss : Sessions) (x : Left Locks) (y : Left (List Lock))
     → outcome (x .answer) (storeOf (x .values) cs (x .locks .readers) (x .locks .claimants) (x .locks .exclusives) (x .logs) (x .sessions))
-    ≡ taken k (storeOf vs cs (apart L .readers) (apart L .claimants) (apart L .exclusives) W ss)
-    → outcome (y .answer) (storeOn (y .values) cs (y .locks) (y .logs) (y .sessions)) ≡ taken k (storeOn vs cs L W ss)
+    ≡ effect k (storeOf vs cs (apart L .readers) (apart L .claimants) (apart L .exclusives) W ss)
+    → outcome (y .answer) (storeOn (y .values) cs (y .locks) (y .logs) (y .sessions)) ≡ effect k (storeOn vs cs L W ss)
     → y ≡ record { answer = x .answer; values = x .values; locks = together (x .locks .readers) (x .locks .claimants) (x .locks .exclusives); logs = x .logs; sessions = x .sessions }
 calls-agree k vs cs L W ss x y e f = agrees cs x y (f ∙ sym e)
 
 -- set-up
 pub set-ups-agree : (vs cs : List ℕ) (L : List Lock) (W : List ℕ) (ss : Sessions) (x : Left Locks) (y : Left (List Lock))
     → outcome (x .answer) (storeOf (x .values) cs (x .locks .readers) (x .locks .claimants) (x .locks .exclusives) (x .logs) (x .sessions))
-    ≡ setUpTaken (storeOf vs cs (apart L .readers) (apart L .claimants) (apart L .exclusives) W ss)
-    → outcome (y .answer) (storeOn (y .values) cs (y .locks) (y .logs) (y .sessions)) ≡ setUpTaken (storeOn vs cs L W ss)
+    ≡ setUpEffect (storeOf vs cs (apart L .readers) (apart L .claimants) (apart L .exclusives) W ss)
+    → outcome (y .answer) (storeOn (y .values) cs (y .locks) (y .logs) (y .sessions)) ≡ setUpEffect (storeOn vs cs L W ss)
     → y ≡ record { answer = x .answer; values = x .values; locks = together (x .locks .readers) (x .locks .claimants) (x .locks .exclusives); logs = x .logs; sessions = x .sessions }
 set-ups-agree vs cs L W ss x y e f = agrees cs x y (f ∙ sym e)
 

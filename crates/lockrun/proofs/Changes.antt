@@ -9,7 +9,7 @@ use lib.ListN.{length, getD, set, drop, length-set, replicate, drop-of-length-le
 use Rattle.model.specs.Buffers.{free, cellAt, publishesIn, lockAt, setLock, lockOn, sweep, join, leave, vacate, withdraw, claim, own}
 use Rattle.model.specs.declared.Lock.{Lock}
 use Rattle.model.proofs.Tools.{test}
-use Rattle.lockrun.specs.declared.Change.the-variants.{Keep, Join, Claim, Own, Vacate, Withdraw, Leave, Clear}
+use Rattle.lockrun.specs.declared.Change.the-variants.{Keep, Join, Claim, Acquire, Vacate, Withdraw, Leave, Clear}
 use Rattle.lockrun.specs.Run.{each, apart, lockIn, turnsOf, cellOf, changeOf, swept, sweptBy}
 use Rattle.lockrun.proofs.Row.{set-past}
 
@@ -63,7 +63,7 @@ module _ (W : List ℕ) (s c : ℕ) (L : List Lock) where
   unfolding turnsOf swept cellOf changeOf
   claims = apart-on (claim s) L c
 
-  pub owns : apart (sweptBy W (Own s c) L) ≡ lockOn c (own s) (apart L)
+  pub owns : apart (sweptBy W (Acquire s c) L) ≡ lockOn c (own s) (apart L)
   unfolding turnsOf swept cellOf changeOf
   owns = apart-on (own s) L c
 

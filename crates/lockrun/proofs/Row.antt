@@ -38,7 +38,7 @@ use Rattle.lockrun.proofs.Turn.Laws as U′
 use Rattle.model.proofs.Lock as T
 use Rattle.model.proofs.Lock.Laws as T′
 use Rattle.lockrun.specs.declared.Change.{Change}
-use Rattle.lockrun.specs.declared.Change.the-variants.{Keep, Join, Claim, Own, Vacate, Withdraw, Leave, Clear}
+use Rattle.lockrun.specs.declared.Change.the-variants.{Keep, Join, Claim, Acquire, Vacate, Withdraw, Leave, Clear}
 use Rattle.lockrun.specs.Run.{Known, Fits}
 use Rattle.lockrun.proofs.Change as C
 use Rattle.lockrun.proofs.Change.Laws as C′
@@ -109,7 +109,7 @@ pub known-of : (logs : List ℕ) (d : Change) → Fits logs d → Known d
 known-of logs Keep ok = tt
 known-of logs (Join s c) ok = ok
 known-of logs (Claim s c) ok = ok
-known-of logs (Own s c) ok = ok
+known-of logs (Acquire s c) ok = ok
 known-of logs (Vacate s c) ok = ok
 known-of logs (Withdraw s m) ok = ok .0
 known-of logs (Leave s m) ok = ok .0

@@ -5,11 +5,10 @@ use mathlib.Core.List.{List}
 use Prim.Native.Nat.{ℕ, _≤_}
 use native.Mathlib.Omega.{arith}
 use lib.ListN.{length, replicate, length-replicate}
-use Rattle.model.specs.Buffers.{free, idle, allFit}
+use Rattle.model.specs.Buffers.{free, idle, allFit, lengthsMatch}
 use Rattle.model.specs.declared.Sessions.{Sessions}
 use Rattle.model.specs.declared.Lock.{Lock}
 use Rattle.model.specs.declared.Answer.the-variants.{Done, Refused}
-use Rattle.decide.specs.Own.{lengthsOn}
 use Rattle.store.proofs.Refusals.{Lengths, lengths-of, fit-is}
 use Rattle.store.proofs.SetUp.{set-7, set-8, set-done}
 use Rattle.lockrun.specs.declared.Change.the-variants.{Clear}
@@ -19,8 +18,8 @@ use Rattle.lockrun.specs.Turns.{keeps, SetUp}
 use Rattle.lockrun.proofs.Changes.{each-length, clears}
 use Rattle.lockrun.proofs.Ways.{runs-fit}
 
-module _ (vs cs W : List ℕ) (ss : Sessions) (m : ℕ) (b : Bool) (e : b ≡ lengthsOn (length vs) (length cs) m m m (length W)) where
-  fit : (L : List Lock) → length L ≡ m → b ≡ lengthsOn (length vs) (length cs) (length (apart L .readers)) (length (apart L .claimants)) (length (apart L .exclusives)) (length W)
+module _ (vs cs W : List ℕ) (ss : Sessions) (m : ℕ) (b : Bool) (e : b ≡ lengthsMatch (length vs) (length cs) m m m (length W)) where
+  fit : (L : List Lock) → length L ≡ m → b ≡ lengthsMatch (length vs) (length cs) (length (apart L .readers)) (length (apart L .claimants)) (length (apart L .exclusives)) (length W)
   fit L q = runs-fit (length vs) (length cs) m (length W) b e L q
 
   pub set-up-7 : (t : Turn) → b ≡ false → t ≡ keeps ss (Refused 7) → SetUp vs cs m W ss W t

@@ -11,8 +11,8 @@ use base.Fml.{GName}
 use denote.Ref.{RefT}
 use lib.Dec.{eqb}
 use lib.ListN.{length, getD, set, replicate, length-replicate, length-set}
-use Rattle.model.specs.Buffers.{Store, free, idle, running, size, sessionAt, withEntry, moveTo, entryAt, appended, updated}
-use Rattle.model.specs.Step.{taken, planOf, sessionOf, recordOf, rolledBack, readsDropped}
+use Rattle.model.specs.Buffers.{Store, free, idle, running, size, sessionAt, withEntry, moveTo, entryAt, appended, updated, lengthsMatch}
+use Rattle.model.specs.Step.{effect, planOf, sessionOf, recordOf, rolledBack, readsDropped, recordFits, readPlan, writePlan, sealPlan, peekPlan}
 use Rattle.model.specs.declared.Session.{Session}
 use Rattle.model.specs.declared.Sessions.{Sessions}
 use Rattle.model.specs.declared.Lock.{Lock}
@@ -22,7 +22,7 @@ use Rattle.model.specs.declared.Answer.{Answer}
 use Rattle.model.specs.declared.Answer.the-variants.{Done, Value, Sealed, Committed, Refused}
 use Rattle.model.specs.declared.Plan.{Plan}
 use Rattle.model.specs.declared.Plan.the-variants.{Refuse, Tell, Enter, Update, EnterUpdate, RollBack, Cancel, CommitReads, BeginPromotion, ShowStore, ShowLog}
-use Rattle.decide.specs.Own.{lengthsOn, recordOn, tested, readOn, writeOn, sealOn, peekOn}
+use Rattle.decide.specs.Pieces.{tested}
 use Rattle.decide.proofs.Ways.{Entries}
 use Rattle.decide.proofs.Agree.{abandon-passes}
 use Rattle.store.specs.Lent.{Sized}
@@ -49,12 +49,12 @@ abbrev pub AllSized : List ℕ → List ℕ → List ℕ → Sessions → ℕ �
 AllSized vs cs W ss m s = (L : List Lock) → length L ≡ m → Sized (storeOn vs cs L W ss) s
 
 -- the test's answer b is that of a store with a run of m locks
-module _ (n k m w : ℕ) (b : Bool) (e : b ≡ lengthsOn n k m m m w) (L : List Lock) (q : length L ≡ m) where
-  pub runs-fit : b ≡ lengthsOn n k (length (apart L .readers)) (length (apart L .claimants)) (length (apart L .exclusives)) w
+module _ (n k m w : ℕ) (b : Bool) (e : b ≡ lengthsMatch n k m m m w) (L : List Lock) (q : length L ≡ m) where
+  pub runs-fit : b ≡ lengthsMatch n k (length (apart L .readers)) (length (apart L .claimants)) (length (apart L .exclusives)) w
   runs-fit = rw (each-length (λ l. l .readers) L, each-length (λ l. l .claimant) L, each-length (λ l. l .exclusive) L, q) e
 
-module _ (vs cs W : List ℕ) (ss : Sessions) (m : ℕ) (b : Bool) (e : b ≡ lengthsOn (length vs) (length cs) m m m (length W)) where
-  fit : (L : List Lock) → length L ≡ m → b ≡ lengthsOn (length vs) (length cs) (length (apart L .readers)) (length (apart L .claimants)) (length (apart L .exclusives)) (length W)
+module _ (vs cs W : List ℕ) (ss : Sessions) (m : ℕ) (b : Bool) (e : b ≡ lengthsMatch (length vs) (length cs) m m m (length W)) where
+  fit : (L : List Lock) → length L ≡ m → b ≡ lengthsMatch (length vs) (length cs) (length (apart L .readers)) (length (apart L .claimants)) (length (apart L .exclusives)) (length W)
   fit L q = runs-fit (length vs) (length cs) m (length W) b e L q
 
   pub turned-7 : (k : Call) (c : ℕ) (l : Lock) (t : Turn) → b ≡ false → t ≡ keeps ss (Refused 7) → Turned k vs cs m c l W ss vs W t
@@ -99,7 +99,7 @@ module _ (vs cs W : List ℕ) (ss : Sessions) (m s : ℕ) (z : AllSized vs cs W 
 
   module _ (c : ℕ) (l : Lock) (p : Plan) where
     -- ---- read
-    module _ (e : p ≡ readOn (length vs) (cut W s) x l c) where
+    module _ (e : p ≡ readPlan (length vs) (cut W s) x l c) where
       pub read-known : (L : List Lock) → length L ≡ m → lockIn L c ≡ l → OfRead Decided (storeOn vs cs L W ss) s c l p
       read-known L q g = read-decided (storeOn vs cs L W ss) s c (z L q) l (sym (apart-at L c ∙ g)) p e
 
@@ -128,7 +128,7 @@ module _ (vs cs W : List ℕ) (ss : Sessions) (m s : ℕ) (z : AllSized vs cs W 
       read-left a b f = when-left chosen 2 3 (λ j. tt) tt a b f
 
     -- ---- write
-    module _ (v : ℕ) (e : p ≡ writeOn cs (length cs) (cut W s) x l c v) where
+    module _ (v : ℕ) (e : p ≡ writePlan cs (length cs) (cut W s) x l c v) where
       pub write-known : (L : List Lock) → length L ≡ m → lockIn L c ≡ l → OfWrite Decided (storeOn vs cs L W ss) s c v l p
       write-known L q g = write-decided (storeOn vs cs L W ss) s c (z L q) l (sym (apart-at L c ∙ g)) p v e
 
@@ -181,7 +181,7 @@ module _ (vs cs W : List ℕ) (ss : Sessions) (m s : ℕ) (z : AllSized vs cs W 
       write-left a b f = when-left choice 4 5 (λ j. tt) tt a b f
 
   -- ---- seal
-  module _ (l : Lock) (p : Plan) (e : p ≡ sealOn (length vs) (cut W s) x) where
+  module _ (l : Lock) (p : Plan) (e : p ≡ sealPlan (length vs) (cut W s) x) where
     planned : (L : List Lock) → length L ≡ m → p ≡ planOf (Seal s) (storeOn vs cs L W ss)
     unfolding sessionAt
     planned L q = seal-planned (storeOn vs cs L W ss) s (z L q) p e
@@ -209,7 +209,7 @@ module _ (vs cs W : List ℕ) (ss : Sessions) (m s : ℕ) (z : AllSized vs cs W 
           )
 
   -- ---- abandon
-  module _ (l : Lock) (r : ℕ) (e : r ≡ tested (recordOn (length vs) (cut W s) x) (eqb (x .phase) 1 || eqb (x .phase) 2)) where
+  module _ (l : Lock) (r : ℕ) (e : r ≡ tested (recordFits (length vs) (cut W s) x) (eqb (x .phase) 1 || eqb (x .phase) 2)) where
     pub abandon-turned : (r ≡ 0 → ⊥) → (t : Turn) → t ≡ keeps ss (Refused r) → Turned (Abandon s) vs cs m 0 l W ss vs W t
     unfolding turnsOf swept
     abandon-turned h t f = rw f (tt, λ L q g. abandon-refused (storeOn vs cs L W ss) s (z L q) r e h)
@@ -241,9 +241,9 @@ module _ (vs cs W : List ℕ) (ss : Sessions) (m : ℕ) (k : Call) (z : AllSized
 
 -- ---- calls that leave the run alone: the lengths are numbers
 
-module _ (n k m : ℕ) (W : List ℕ) (ss : Sessions) (b : Bool) (e : b ≡ lengthsOn n k m m m (length W)) where
+module _ (n k m : ℕ) (W : List ℕ) (ss : Sessions) (b : Bool) (e : b ≡ lengthsMatch n k m m m (length W)) where
   fits : (vs cs : List ℕ) (L : List Lock) → length vs ≡ n → length cs ≡ k → length L ≡ m
-      → b ≡ lengthsOn (length vs) (length cs) (length (apart L .readers)) (length (apart L .claimants)) (length (apart L .exclusives)) (length W)
+      → b ≡ lengthsMatch (length vs) (length cs) (length (apart L .readers)) (length (apart L .claimants)) (length (apart L .exclusives)) (length W)
   fits vs cs L i j q = rw (i, j) (runs-fit n k m (length W) b e L q)
 
   pub answered-7 : (c : Call) → b ≡ false → Answered c n k m W ss (record { answer = Refused 7; sessions = ss })
@@ -269,7 +269,7 @@ module _ (n k m : ℕ) (W : List ℕ) (ss : Sessions) (b : Bool) (e : b ≡ leng
   plain-decides s h l = let d = can-decide plainly s (plain-sized s h l) in (d .0, rw (length-replicate {A = ℕ} n 0) at (d .1))
 
   -- ---- begin
-  module _ (s : ℕ) (h : b ≡ true) (l : s ≤ 15) (r : ℕ) (f : r ≡ tested (recordOn n (cut W s) (getD (ss .records) s idle)) (eqb (getD (ss .records) s idle .phase) 0)) where
+  module _ (s : ℕ) (h : b ≡ true) (l : s ≤ 15) (r : ℕ) (f : r ≡ tested (recordFits n (cut W s) (getD (ss .records) s idle)) (eqb (getD (ss .records) s idle .phase) 0)) where
     pub begin-turned-down : (r ≡ 0 → ⊥) → Answered (Begin s) n k m W ss (record { answer = Refused r; sessions = ss })
     begin-turned-down o vs cs L i j q = begin-refused (storeOn vs cs L W ss) s (any-sized s h l vs cs L i j q) r (rw i f) o
 
@@ -284,7 +284,7 @@ module _ (n k m : ℕ) (W : List ℕ) (ss : Sessions) (b : Bool) (e : b ≡ leng
     pub peeks-1 : b ≡ true → 15 < s → Peeks n k m W ss s c (Refuse 1)
     peeks-1 h l vs cs L i j q = sym (plan-1 (Peek s c) (storeOn vs cs L W ss) (sym (fit-is (storeOn vs cs L W ss) b (fits vs cs L i j q)) ∙ h) l)
 
-    pub peeks-on : b ≡ true → s ≤ 15 → (p : Plan) → p ≡ peekOn n (cut W s) (getD (ss .records) s idle) c → Peeks n k m W ss s c p
+    pub peeks-on : b ≡ true → s ≤ 15 → (p : Plan) → p ≡ peekPlan n (cut W s) (getD (ss .records) s idle) c → Peeks n k m W ss s c p
     unfolding sessionAt
     peeks-on h l p f vs cs L i j q = peek-planned (storeOn vs cs L W ss) s (any-sized s h l vs cs L i j q) c p (rw i f)
 

@@ -8,7 +8,7 @@ use Rattle.model.specs.Buffers.{Locks, Store, free, cellAt, publishesIn, join, 
 use Rattle.model.specs.declared.Lock.{Lock}
 use Rattle.model.specs.declared.Sessions.{Sessions}
 use Rattle.lockrun.specs.declared.Change.{Change}
-use Rattle.lockrun.specs.declared.Change.the-variants.{Keep, Join, Claim, Own, Vacate, Withdraw, Leave, Clear}
+use Rattle.lockrun.specs.declared.Change.the-variants.{Keep, Join, Claim, Acquire, Vacate, Withdraw, Leave, Clear}
 
 -- ---- taken apart
 
@@ -36,7 +36,7 @@ unfoldable pub turnsOf : Change → ℕ
 turnsOf Keep = 0
 turnsOf (Join s c) = 1
 turnsOf (Claim s c) = 1
-turnsOf (Own s c) = 1
+turnsOf (Acquire s c) = 1
 turnsOf (Vacate s c) = 1
 turnsOf (Withdraw s m) = m
 turnsOf (Leave s m) = m
@@ -47,7 +47,7 @@ unfoldable pub cellOf : List ℕ → Change → ℕ → ℕ
 cellOf logs Keep i = 1024
 cellOf logs (Join s c) i = c
 cellOf logs (Claim s c) i = c
-cellOf logs (Own s c) i = c
+cellOf logs (Acquire s c) i = c
 cellOf logs (Vacate s c) i = c
 cellOf logs (Withdraw s m) i = cellAt logs s i
 cellOf logs (Leave s m) i = cond (publishesIn logs s m (cellAt logs s i)) 1024 (cellAt logs s i)
@@ -58,7 +58,7 @@ unfoldable pub changeOf : Change → Lock → Lock
 changeOf Keep l = l
 changeOf (Join s c) l = join s l
 changeOf (Claim s c) l = claim s l
-changeOf (Own s c) l = own s l
+changeOf (Acquire s c) l = own s l
 changeOf (Vacate s c) l = vacate s l
 changeOf (Withdraw s m) l = withdraw s l
 changeOf (Leave s m) l = leave s l
@@ -81,7 +81,7 @@ abbrev pub Known : Change → Type 0
 Known Keep = Unit
 Known (Join s c) = s < 16
 Known (Claim s c) = s < 16
-Known (Own s c) = s < 16
+Known (Acquire s c) = s < 16
 Known (Vacate s c) = s < 16
 Known (Withdraw s m) = s < 16
 Known (Leave s m) = s < 16
@@ -92,7 +92,7 @@ abbrev pub Fits : List ℕ → Change → Type 0
 Fits logs Keep = Unit
 Fits logs (Join s c) = s < 16
 Fits logs (Claim s c) = s < 16
-Fits logs (Own s c) = s < 16
+Fits logs (Acquire s c) = s < 16
 Fits logs (Vacate s c) = s < 16
 Fits logs (Withdraw s m) = (s < 16) × (m ≤ 32) × (length logs ≡ 2048)
 Fits logs (Leave s m) = (s < 16) × (m ≤ 32) × (length logs ≡ 2048)

@@ -6,8 +6,8 @@ use mathlib.Core.List.{List}
 use lib.Dec.{ltb}
 use lib.ListN.{length}
 use denote.Ref.{RefT}
-use Rattle.model.specs.Buffers.{sessionAt, cellAt}
-use Rattle.model.specs.Step.{outcome, taken, setUpTaken, planOf, shown}
+use Rattle.model.specs.Buffers.{sessionAt, cellAt, logIn, lengthsMatch}
+use Rattle.model.specs.Step.{outcome, effect, setUpEffect, planOf, shown}
 use Rattle.model.specs.declared.Lock.{Lock}
 use Rattle.model.specs.declared.Sessions.{Sessions}
 use Rattle.model.specs.declared.Reply.{Reply}
@@ -15,10 +15,9 @@ use Rattle.model.specs.declared.Answer.{Answer}
 use Rattle.model.specs.declared.Plan.{Plan}
 use Rattle.model.specs.declared.Call.{Call}
 use Rattle.model.specs.declared.Call.the-variants.{Begin, Read, Write, Seal, Advance, Abandon, Peek}
-use Rattle.log.specs.Slots.{part}
 use Rattle.decide.specs.declared.Due.{Due}
 use Rattle.decide.specs.declared.Due.the-variants.{Refused, Slot}
-use Rattle.decide.specs.Own.{lengthsOn, dueOn}
+use Rattle.decide.specs.Pieces.{dueOn}
 use Rattle.store.specs.Lent.{Handed}
 use Rattle.lockrun.specs.declared.Change.the-variants.{Keep}
 use Rattle.lockrun.specs.declared.Look.{Look}
@@ -30,7 +29,7 @@ use Rattle.lockrun.specs.Run.{storeOn, lockIn, sweptBy, Fits}
 -- the entry that an advance of session s handles, or its refusal: n values, k classes, m locks
 unfoldable pub dueIn : Sessions → ℕ → ℕ → ℕ → List ℕ → ℕ → Due
 dueIn ss n k m logs s =
-    cond (lengthsOn n k m m m (length logs)) (cond (ltb s 16) (dueOn n (part logs s) (sessionAt ss s)) (Refused 1)) (Refused 7)
+    cond (lengthsMatch n k m m m (length logs)) (cond (ltb s 16) (dueOn n (part logs s) (sessionAt ss s)) (Refused 1)) (Refused 7)
 
 -- the cell of that entry
 unfoldable pub cellDue : List ℕ → ℕ → Due → ℕ
@@ -69,13 +68,13 @@ Turned call values classes m c l logs sessions values′ logs′ r =
     (Fits logs′ (r .change))
     × ((L : List Lock) → length L ≡ m → lockIn L c ≡ l
     → outcome (r .reply .answer) (storeOn values′ classes (sweptBy logs′ (r .change) L) logs′ (r .reply .sessions))
-    ≡ taken call (storeOn values classes L logs sessions))
+    ≡ effect call (storeOn values classes L logs sessions))
 
 -- a call that leaves the run, the values and the logs as they are
 abbrev pub Answered : Call → ℕ → ℕ → ℕ → List ℕ → Sessions → Reply → Type 0
 Answered call n k m logs sessions r =
     (values classes : List ℕ) (L : List Lock) → length values ≡ n → length classes ≡ k → length L ≡ m
-    → outcome (r .answer) (storeOn values classes L logs (r .sessions)) ≡ taken call (storeOn values classes L logs sessions)
+    → outcome (r .answer) (storeOn values classes L logs (r .sessions)) ≡ effect call (storeOn values classes L logs sessions)
 
 -- set-up
 abbrev pub SetUp : List ℕ → List ℕ → ℕ → List ℕ → Sessions → List ℕ → Turn → Type 0
@@ -83,7 +82,7 @@ SetUp values classes m logs sessions logs′ r =
     (Fits logs′ (r .change))
     × ((L : List Lock) → length L ≡ m
     → outcome (r .reply .answer) (storeOn values classes (sweptBy logs′ (r .change) L) logs′ (r .reply .sessions))
-    ≡ setUpTaken (storeOn values classes L logs sessions))
+    ≡ setUpEffect (storeOn values classes L logs sessions))
 
 -- a peek's plan, and its part
 abbrev pub Peeks : ℕ → ℕ → ℕ → List ℕ → Sessions → ℕ → ℕ → Plan → Type 0

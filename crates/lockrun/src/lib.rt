@@ -4,7 +4,7 @@ ghost use mathlib.Core.Path.{_≡_};
 ghost use Prim.Native.Nat.{_+_, _*_, _<_, _≤_};
 ghost use lib.ListN.{length};
 ghost use Rattle.model.specs.Buffers.{cellAt};
-ghost use Rattle.model.specs.Step.{outcome, taken, setUpTaken, planOf, shown};
+ghost use Rattle.model.specs.Step.{outcome, effect, setUpEffect, planOf, shown};
 ghost use Rattle.model.specs.declared.Call.the-variants.{Begin, Read, Write, Seal, Advance, Abandon, Peek};
 ghost use Rattle.decide.specs.declared.Due.the-variants.{Slot};
 ghost use Rattle.lockrun.specs.declared.Change.the-variants.{Leave};
@@ -26,7 +26,7 @@ pub enum Change {
     Keep,
     Join(u8, u32),
     Claim(u8, u32),
-    Own(u8, u32),
+    Acquire(u8, u32),
     Vacate(u8, u32),
     Withdraw(u8, u8),
     Leave(u8, u8),
@@ -41,7 +41,7 @@ fn turns(change: Change) -> usize
         Change::Keep => 0,
         Change::Join(_, _) => 1,
         Change::Claim(_, _) => 1,
-        Change::Own(_, _) => 1,
+        Change::Acquire(_, _) => 1,
         Change::Vacate(_, _) => 1,
         Change::Withdraw(_, m) => m as usize,
         Change::Leave(_, m) => m as usize,
@@ -84,7 +84,7 @@ fn cell_of(logs: &[u32], change: Change, i: usize) -> usize
         Change::Keep => 1024,
         Change::Join(_, c) => c as usize,
         Change::Claim(_, c) => c as usize,
-        Change::Own(_, c) => c as usize,
+        Change::Acquire(_, c) => c as usize,
         Change::Vacate(_, c) => c as usize,
         Change::Withdraw(s, _) => entry_cell(logs, s, i),
         Change::Leave(s, m) => unwritten_cell(logs, s, m, i),
@@ -101,7 +101,7 @@ fn changed(l: Lock, change: Change) -> Lock
         Change::Keep => l,
         Change::Join(s, _) => locks::joined(l, s),
         Change::Claim(s, _) => locks::claimed(l, s),
-        Change::Own(s, _) => locks::owned(l, s),
+        Change::Acquire(s, _) => locks::owned(l, s),
         Change::Vacate(s, _) => locks::vacated(l, s),
         Change::Withdraw(s, _) => locks::withdrawn(l, s),
         Change::Leave(s, _) => locks::left(l, s),
@@ -309,7 +309,7 @@ fn read_turn(
             change: Change::Join(session, cell),
         };
     }
-    sessions.records[i] = x.rested();
+    sessions.records[i] = x.idled();
     let reply = Reply {
         answer: Answer::Refused(6),
         sessions,
@@ -367,7 +367,7 @@ fn write_turn(
             change: Change::Join(session, cell),
         };
     }
-    sessions.records[i] = x.rested();
+    sessions.records[i] = x.idled();
     let reply = Reply {
         answer: Answer::Refused(6),
         sessions,
@@ -407,7 +407,7 @@ fn seal_turn(
     }
     let count = x.count;
     if let Plan::CommitReads = p {
-        sessions.records[i] = x.rested();
+        sessions.records[i] = x.idled();
         let reply = Reply {
             answer: Answer::Committed,
             sessions,
@@ -485,7 +485,7 @@ fn advance_at(
     }
     if let Plan::RollBack = p {
         let count = x.count;
-        sessions.records[i] = x.rested();
+        sessions.records[i] = x.idled();
         let reply = Reply {
             answer: Answer::Refused(6),
             sessions,
@@ -500,10 +500,10 @@ fn advance_at(
     let answer = h.answer;
     sessions.records[i] = y;
     let reply = Reply { answer, sessions };
-    if let Plan::Own(_) = p {
+    if let Plan::Acquire(_) = p {
         return Turn {
             reply,
-            change: Change::Own(session, cell),
+            change: Change::Acquire(session, cell),
         };
     }
     if let Plan::Publish(_, value) = p {
@@ -568,7 +568,7 @@ fn abandon_turn(
         return kept(sessions, Answer::Refused(turned));
     }
     let count = x.count;
-    sessions.records[i] = x.rested();
+    sessions.records[i] = x.idled();
     let reply = Reply {
         answer: Answer::Done,
         sessions,
@@ -765,7 +765,7 @@ pub fn set_up(
     locks: &mut [Lock],
     logs: &mut [u32],
 ) -> Reply
-    ensures { λ r. ⌜ outcome (r .answer) (storeOn (now (values .entry)) (now (classes .entry)) (now (locks .exit)) (now (logs .exit)) (r .sessions)) ≡ setUpTaken (storeOn (now (values .entry)) (now (classes .entry)) (now (locks .entry)) (now (logs .entry)) sessions) ⌝ }
+    ensures { λ r. ⌜ outcome (r .answer) (storeOn (now (values .entry)) (now (classes .entry)) (now (locks .exit)) (now (logs .exit)) (r .sessions)) ≡ setUpEffect (storeOn (now (values .entry)) (now (classes .entry)) (now (locks .entry)) (now (logs .entry)) sessions) ⌝ }
 {
     let t = set_up_turn(sessions, values, classes, locks.len(), logs);
     sweep(locks, logs, t.change);
@@ -781,7 +781,7 @@ pub fn step(
     locks: &mut [Lock],
     logs: &mut [u32],
 ) -> Reply
-    ensures { λ r. ⌜ outcome (r .answer) (storeOn (now (values .exit)) (now (classes .entry)) (now (locks .exit)) (now (logs .exit)) (r .sessions)) ≡ taken call (storeOn (now (values .entry)) (now (classes .entry)) (now (locks .entry)) (now (logs .entry)) sessions) ⌝ }
+    ensures { λ r. ⌜ outcome (r .answer) (storeOn (now (values .exit)) (now (classes .entry)) (now (locks .exit)) (now (logs .exit)) (r .sessions)) ≡ effect call (storeOn (now (values .entry)) (now (classes .entry)) (now (locks .entry)) (now (logs .entry)) sessions) ⌝ }
 {
     let at = look_up(
         call,
@@ -806,7 +806,7 @@ pub fn begin(
     logs: &[u32],
     session: u8,
 ) -> Reply
-    ensures { λ r. ⌜ outcome (r .answer) (storeOn (now (values .entry)) (now (classes .entry)) (now (locks .entry)) (now (logs .entry)) (r .sessions)) ≡ taken (Begin session) (storeOn (now (values .entry)) (now (classes .entry)) (now (locks .entry)) (now (logs .entry)) sessions) ⌝ }
+    ensures { λ r. ⌜ outcome (r .answer) (storeOn (now (values .entry)) (now (classes .entry)) (now (locks .entry)) (now (logs .entry)) (r .sessions)) ≡ effect (Begin session) (storeOn (now (values .entry)) (now (classes .entry)) (now (locks .entry)) (now (logs .entry)) sessions) ⌝ }
 {
     begin_turn(
         sessions,
@@ -828,7 +828,7 @@ pub fn read(
     session: u8,
     cell: u32,
 ) -> Reply
-    ensures { λ r. ⌜ outcome (r .answer) (storeOn (now (values .exit)) (now (classes .entry)) (now (locks .exit)) (now (logs .exit)) (r .sessions)) ≡ taken (Read session cell) (storeOn (now (values .entry)) (now (classes .entry)) (now (locks .entry)) (now (logs .entry)) sessions) ⌝ }
+    ensures { λ r. ⌜ outcome (r .answer) (storeOn (now (values .exit)) (now (classes .entry)) (now (locks .exit)) (now (logs .exit)) (r .sessions)) ≡ effect (Read session cell) (storeOn (now (values .entry)) (now (classes .entry)) (now (locks .entry)) (now (logs .entry)) sessions) ⌝ }
 {
     step(
         Call::Read(session, cell),
@@ -851,7 +851,7 @@ pub fn write(
     cell: u32,
     value: u32,
 ) -> Reply
-    ensures { λ r. ⌜ outcome (r .answer) (storeOn (now (values .exit)) (now (classes .entry)) (now (locks .exit)) (now (logs .exit)) (r .sessions)) ≡ taken (Write session cell value) (storeOn (now (values .entry)) (now (classes .entry)) (now (locks .entry)) (now (logs .entry)) sessions) ⌝ }
+    ensures { λ r. ⌜ outcome (r .answer) (storeOn (now (values .exit)) (now (classes .entry)) (now (locks .exit)) (now (logs .exit)) (r .sessions)) ≡ effect (Write session cell value) (storeOn (now (values .entry)) (now (classes .entry)) (now (locks .entry)) (now (logs .entry)) sessions) ⌝ }
 {
     step(
         Call::Write(session, cell, value),
@@ -872,7 +872,7 @@ pub fn seal(
     logs: &mut [u32],
     session: u8,
 ) -> Reply
-    ensures { λ r. ⌜ outcome (r .answer) (storeOn (now (values .exit)) (now (classes .entry)) (now (locks .exit)) (now (logs .exit)) (r .sessions)) ≡ taken (Seal session) (storeOn (now (values .entry)) (now (classes .entry)) (now (locks .entry)) (now (logs .entry)) sessions) ⌝ }
+    ensures { λ r. ⌜ outcome (r .answer) (storeOn (now (values .exit)) (now (classes .entry)) (now (locks .exit)) (now (logs .exit)) (r .sessions)) ≡ effect (Seal session) (storeOn (now (values .entry)) (now (classes .entry)) (now (locks .entry)) (now (logs .entry)) sessions) ⌝ }
 {
     step(Call::Seal(session), sessions, values, classes, locks, logs)
 }
@@ -886,7 +886,7 @@ pub fn advance(
     logs: &mut [u32],
     session: u8,
 ) -> Reply
-    ensures { λ r. ⌜ outcome (r .answer) (storeOn (now (values .exit)) (now (classes .entry)) (now (locks .exit)) (now (logs .exit)) (r .sessions)) ≡ taken (Advance session) (storeOn (now (values .entry)) (now (classes .entry)) (now (locks .entry)) (now (logs .entry)) sessions) ⌝ }
+    ensures { λ r. ⌜ outcome (r .answer) (storeOn (now (values .exit)) (now (classes .entry)) (now (locks .exit)) (now (logs .exit)) (r .sessions)) ≡ effect (Advance session) (storeOn (now (values .entry)) (now (classes .entry)) (now (locks .entry)) (now (logs .entry)) sessions) ⌝ }
 {
     step(
         Call::Advance(session),
@@ -907,7 +907,7 @@ pub fn abandon(
     logs: &mut [u32],
     session: u8,
 ) -> Reply
-    ensures { λ r. ⌜ outcome (r .answer) (storeOn (now (values .exit)) (now (classes .entry)) (now (locks .exit)) (now (logs .exit)) (r .sessions)) ≡ taken (Abandon session) (storeOn (now (values .entry)) (now (classes .entry)) (now (locks .entry)) (now (logs .entry)) sessions) ⌝ }
+    ensures { λ r. ⌜ outcome (r .answer) (storeOn (now (values .exit)) (now (classes .entry)) (now (locks .exit)) (now (logs .exit)) (r .sessions)) ≡ effect (Abandon session) (storeOn (now (values .entry)) (now (classes .entry)) (now (locks .entry)) (now (logs .entry)) sessions) ⌝ }
 {
     step(
         Call::Abandon(session),
@@ -952,7 +952,7 @@ pub fn peek_number(
     session: u8,
     cell: u32,
 ) -> Reply
-    ensures { λ r. ⌜ outcome (r .answer) (storeOn (now (values .entry)) (now (classes .entry)) (now (locks .entry)) (now (logs .entry)) (r .sessions)) ≡ taken (Peek session cell) (storeOn (now (values .entry)) (now (classes .entry)) (now (locks .entry)) (now (logs .entry)) sessions) ⌝ }
+    ensures { λ r. ⌜ outcome (r .answer) (storeOn (now (values .entry)) (now (classes .entry)) (now (locks .entry)) (now (logs .entry)) (r .sessions)) ≡ effect (Peek session cell) (storeOn (now (values .entry)) (now (classes .entry)) (now (locks .entry)) (now (logs .entry)) sessions) ⌝ }
 {
     peek_turn(
         sessions,

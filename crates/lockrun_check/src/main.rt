@@ -4,7 +4,7 @@
 // ever differed.
 ghost use mathlib.Core.Path.{_≡_};
 ghost use Prim.Native.Nat.{_<_};
-ghost use Rattle.model.specs.Step.{outcome, taken, setUpTaken, planOf, shown};
+ghost use Rattle.model.specs.Step.{outcome, effect, setUpEffect, planOf, shown};
 ghost use Rattle.model.specs.declared.Call.the-variants.{Peek};
 ghost use Rattle.store.specs.Lent.{Handed};
 ghost use Rattle.lockrun.specs.Run.{storeOn};
@@ -32,7 +32,7 @@ fn set_up_on(
     locks: [Lock; 8],
     logs: &mut [u32],
 ) -> Left
-    ensures { λ r. ⌜ outcome (r .reply .answer) (storeOn (now (values .entry)) (now (classes .entry)) (r .locks) (now (logs .exit)) (r .reply .sessions)) ≡ setUpTaken (storeOn (now (values .entry)) (now (classes .entry)) locks (now (logs .entry)) sessions) ⌝ }
+    ensures { λ r. ⌜ outcome (r .reply .answer) (storeOn (now (values .entry)) (now (classes .entry)) (r .locks) (now (logs .exit)) (r .reply .sessions)) ≡ setUpEffect (storeOn (now (values .entry)) (now (classes .entry)) locks (now (logs .entry)) sessions) ⌝ }
 {
     let mut run = locks;
     let reply = lockrun::set_up(sessions, values, classes, &mut run, logs);
@@ -47,7 +47,7 @@ fn step_on(
     locks: [Lock; 8],
     logs: &mut [u32],
 ) -> Left
-    ensures { λ r. ⌜ outcome (r .reply .answer) (storeOn (now (values .exit)) (now (classes .entry)) (r .locks) (now (logs .exit)) (r .reply .sessions)) ≡ taken call (storeOn (now (values .entry)) (now (classes .entry)) locks (now (logs .entry)) sessions) ⌝ }
+    ensures { λ r. ⌜ outcome (r .reply .answer) (storeOn (now (values .exit)) (now (classes .entry)) (r .locks) (now (logs .exit)) (r .reply .sessions)) ≡ effect call (storeOn (now (values .entry)) (now (classes .entry)) locks (now (logs .entry)) sessions) ⌝ }
 {
     let mut run = locks;
     let reply = lockrun::step(call, sessions, values, classes, &mut run, logs);

@@ -5,7 +5,7 @@ ghost use Prim.Native.Nat.{_+_, _*_, _<_, _≤_};
 ghost use lib.Dec.{eqb};
 ghost use lib.ListN.{length, getD, set};
 ghost use Rattle.model.specs.Readers.{withReader, withoutReader, otherReaders};
-ghost use Rattle.model.specs.Buffers.{cellAt, publishes, lockAt, setLock, lockOn, join, leave, vacate, withdraw, claim, own};
+ghost use Rattle.model.specs.Buffers.{cellAt, publishes, lockAt, setLock, lockOn, join, leave, vacate, withdraw, claim, acquire};
 ghost use Rattle.model.specs.Step.{rolledBack};
 ghost use Rattle.locks.specs.Sweeps.{locksOf, Swept, DropsReads, marked, mark, droppedSeen, droppedAt};
 use model::Lock;
@@ -100,7 +100,7 @@ pub fn claimed(l: Lock, session: u8) -> Lock
 
 // The session is claimant, with the mark.
 pub fn owned(l: Lock, session: u8) -> Lock
-    ensures { λ r. ⌜ r ≡ own session l ⌝ }
+    ensures { λ r. ⌜ r ≡ acquire session l ⌝ }
 {
     Lock {
         readers: l.readers,

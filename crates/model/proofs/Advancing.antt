@@ -11,7 +11,7 @@ use lib.Seq.{getD-set-same, getD-set-other}
 use borrow.Author.Tests.{eq-eqb, ne-eqb, leb-true, leb-false, le-leb, lt-leb}
 use Rattle.model.specs.declared.Session.{Session}
 use Rattle.model.specs.declared.Lock.{Lock}
-use Rattle.model.specs.Buffers.{Locks, Store, idle, moveTo, cellAt, slotIn, publishes, isPublished, publishesIn, targetIn, currentOf, lockAt, lockOn, vacate, claim, own}
+use Rattle.model.specs.Buffers.{Locks, Store, idle, moveTo, cellAt, slotIn, publishes, isPublished, publishesIn, targetIn, currentOf, lockAt, lockOn, vacate, claim, acquire}
 use Rattle.model.specs.Isolation.{at}
 use Rattle.model.specs.Readers.{member, otherReaders}
 use Rattle.model.specs.Search.{find, tally}
@@ -214,13 +214,13 @@ module _ {start : List ℕ} {σ : Store} {T : Ledger} (s : ℕ) (lt : s < 16) (I
         rw (prom .open′) (ne-eqb (suc (T .mine s .moved)) (tally (T .mine s .wrote) (length start)) (λ e. omega (arith, tally-here, tally-left more)))
 
     pub holds-more : {d : ℕ} → target σ s (suc c) ≡ some d
-        → Inv start (change σ s (lockOn c (own s) (σ .lent .locks)) (σ .lent .values) (σ .lent .logs) (moveTo 2 (suc c) (recordOf σ s)))
+        → Inv start (change σ s (lockOn c (acquire s) (σ .lent .locks)) (σ .lent .values) (σ .lent .logs) (moveTo 2 (suc c) (recordOf σ s)))
         (amended s (advanced (length start) (T .place) (T .mine s)) (T .commits) T)
     holds-more {d} more =
-        let L = lockOn c (own s) L₀ in
+        let L = lockOn c (acquire s) L₀ in
         let b = a L F₀ 2 (suc c) in
         let now : role (τ L F₀ 2 (suc c)) c s ≡ owning (currentOf (look σ s c)) = role-next L F₀ 2 (suc c) 0 c refl ∙ unfold late roleIn in rw (here, lt-leb (suc c) c (omega arith)) in
-        lock-cell (own s) (moveTo 2 (suc c) x) (I .shape .counts s)
+        lock-cell (acquire s) (moveTo 2 (suc c) x) (I .shape .counts s)
         (λ e n. role-next L F₀ 2 (suc c) 0 e refl ∙ late-same 0 e n ∙ sym (role-late σ s e 0 ph))
         (takes s (role-other (frame b) c) now (I .locked c inn) (ap holds wants) refl refl lt lone)
         (stays s (role-other (frame b) c) now (I .valued c inn) (λ f e. cc) (λ f e. cc) (sym (ap pends wants)))
@@ -241,10 +241,10 @@ module _ {start : List ℕ} {σ : Store} {T : Ledger} (s : ℕ) (lt : s < 16) (I
 
     module _ (last : target σ s (suc c) ≡ none) where
       abbrev Lo : Locks
-      Lo = lockOn c (own s) L₀
+      Lo = lockOn c (acquire s) L₀
 
       abbrev κ : Store
-      κ = change σ s (lockOn c (own s) (σ .lent .locks)) (σ .lent .values) (σ .lent .logs) (moveTo 3 0 (recordOf σ s))
+      κ = change σ s (lockOn c (acquire s) (σ .lent .locks)) (σ .lent .values) (σ .lent .logs) (moveTo 3 0 (recordOf σ s))
 
       b : Acts (length start) σ s (moveTo 3 0 x) κ
       b = a Lo F₀ 3 0
@@ -268,15 +268,15 @@ module _ {start : List ℕ} {σ : Store} {T : Ledger} (s : ℕ) (lt : s < 16) (I
           (λ e. clash (member (lockAt (σ .lent .locks) c .readers) t) (I .locked c inn .readers t ∙ rw e at h) (lone t n))
           (λ ne. n (I .locked d (inside d w) .alone s t (ap owns (was d w ne)) h))
 
-      last-locked : (d : ℕ) → d < length start → Locked (role κ d) (lockAt (lockOn c (own s) (σ .lent .locks)) d)
+      last-locked : (d : ℕ) → d < length start → Locked (role κ d) (lockAt (lockOn c (acquire s) (σ .lent .locks)) d)
       last-locked d ld =
           test (written σ s d)
           (λ w.
           same d c
-          (λ e. rw e (rw (on-same (length start) c (own s) L₀ (I .shape .long) inn) (takes s (role-other (frame b) c) (is c here) (I .locked c inn) (ap holds wants) refl refl lt lone)))
-          (λ n. rw (on-other (length start) c (own s) L₀ (I .shape .long) d n)
+          (λ e. rw e (rw (on-same (length start) c (acquire s) L₀ (I .shape .long) inn) (takes s (role-other (frame b) c) (is c here) (I .locked c inn) (ap holds wants) refl refl lt lone)))
+          (λ n. rw (on-other (length start) c (acquire s) L₀ (I .shape .long) d n)
           (kept s (role-other (frame b) d) (is d w) (I .locked d ld) (sym (ap holds (was d w n))) (sym (ap owns (was d w n))) (λ _. refl))))
-          (λ w. rw (on-other (length start) c (own s) L₀ (I .shape .long) d (λ e. clash (written σ s c) here (rw e at w))) (locked-still b d (dry d w) (I .locked d ld)))
+          (λ w. rw (on-other (length start) c (acquire s) L₀ (I .shape .long) d (λ e. clash (written σ s c) here (rw e at w))) (locked-still b d (dry d w) (I .locked d ld)))
 
       last-valued : (k : Commit) → k .wrote ≡ T .mine s .wrote → k .value ≡ T .mine s .value → (d : ℕ) → d < length start
           → Valued (role κ d) (getD (σ .lent .values) d 0) (latest start (k ∷ T .commits) d)
@@ -291,9 +291,9 @@ module _ {start : List ℕ} {σ : Store} {T : Ledger} (s : ℕ) (lt : s < 16) (I
       last-done = rw (prom .open′) (eq-eqb (suc (T .mine s .moved)) (tally (T .mine s .wrote) (length start)) (sym (tally-last last ∙ tally-here)))
 
       pub holds-last : let u = advanced (length start) (T .place) (T .mine s) in
-          Inv start (change σ s (lockOn c (own s) (σ .lent .locks)) (σ .lent .values) (σ .lent .logs) (moveTo 3 0 (recordOf σ s))) (amended s u (asCommit s (T .place) u ∷ T .commits) T)
+          Inv start (change σ s (lockOn c (acquire s) (σ .lent .locks)) (σ .lent .values) (σ .lent .logs) (moveTo 3 0 (recordOf σ s))) (amended s u (asCommit s (T .place) u ∷ T .commits) T)
       holds-last =
-          committing s I (frame b) (shaped b (I .shape .values) (on-long (length start) c (own s) L₀ (I .shape .long)) (I .shape .counts s))
+          committing s I (frame b) (shaped b (I .shape .values) (on-long (length start) c (acquire s) L₀ (I .shape .long)) (I .shape .counts s))
           (advanced (length start) (T .place) (T .mine s)) (asCommit s (T .place) (advanced (length start) (T .place) (T .mine s))) refl
           (λ t e n p q r. alone-at e (sym (wrote-eq e) ∙ q) t n (promoting-holds σ t e p r))
           (record { sealed = (prom .sealed .0, omega (arith, prom .sealed .1)); newest = I .old; reads = prom .reads; apart = prom .apart })

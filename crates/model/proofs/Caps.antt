@@ -14,16 +14,16 @@ use Rattle.model.specs.declared.Session.{Session}
 use Rattle.model.specs.declared.Call.{Call}
 use Rattle.model.specs.declared.Call.the-variants.{Begin, Read, Write, Seal, Advance, Abandon, Peek}
 use Rattle.model.specs.declared.Plan.{Plan}
-use Rattle.model.specs.declared.Plan.the-variants.{Refuse, Start, Tell, Enter, Update, EnterUpdate, RollBack, Cancel, CommitReads, BeginPromotion, Wait, Own, Publish, Release, ShowStore, ShowLog}
-use Rattle.model.specs.Buffers.{Locks, Buffers, Store, idle, running, sessionAt, withSession, withEntry, moveTo, word, cellAt, entryAt, slotIn, entryOf, lookIn, targetIn, currentOf, appended, updated, lockAt, lockOn, join, cap, fits, allFit, lengthsFit, fresh, part, onPart, size}
+use Rattle.model.specs.declared.Plan.the-variants.{Refuse, Start, Tell, Enter, Update, EnterUpdate, RollBack, Cancel, CommitReads, BeginPromotion, Wait, Acquire, Publish, Release, ShowStore, ShowLog}
+use Rattle.model.specs.Buffers.{Locks, Buffers, Store, idle, running, sessionAt, withSession, withEntry, moveTo, word, cellAt, entryAt, slotIn, entryOf, lookIn, targetIn, currentOf, appended, updated, lockAt, lockOn, join, cap, fits, allFit, lengthsFit, fresh, logIn, onLog, size}
 use Rattle.model.specs.Companions.{capOf, ReadWithin, WithinCaps}
 use Rattle.model.specs.History.{run, history, cellOf}
 use Rattle.model.specs.Isolation.{All}
 use Rattle.model.specs.Readers.{otherReaders}
 use Rattle.model.specs.Search.{some?, find}
-use Rattle.model.specs.Step.{number, valueOf, handled, change, changeLogs, recordOf, after, releasing, answer, guard, known, claimed, readPlan, writeSlot, writePlan, sealPlan, promotePlan, advancePlan, peekPlan, plan, sessionOf, planOf, step, reply, setUpAnswer, setUp, logOf, admit, readOn, writeOn, sealOn, peekOn}
+use Rattle.model.specs.Step.{number, valueOf, handled, change, changeLogs, recordOf, after, releasing, answer, guard, known, claimed, readSlot, writeSlot, writeCapped, sealTarget, promotePlan, advanceTarget, peekSlot, plan, sessionOf, planOf, step, reply, setUpAnswer, setUp, logOf, admit, readPlan, writePlan, sealPlan, peekPlan}
 use Rattle.model.proofs.Demand3.{set-up-passed, set-up-fresh}
-use Rattle.model.proofs.Laws.{find-some, getD-sets-other, part-length, part-own, part-other, length-on, grown-word, grown-apart}
+use Rattle.model.proofs.Laws.{find-some, getD-sets-other, log-length, log-same, log-other, length-on, grown-word, grown-apart}
 use Rattle.model.proofs.Preservation.{choose, guarded, cell-known, cell-new}
 use Rattle.model.proofs.Runs.{first}
 use Rattle.model.proofs.Tools.{same, split, test, which, clash, both-l, both-r, and-false}
@@ -72,44 +72,44 @@ module _ (bound : ℕ → ℕ) (log : List ℕ) (k : ℕ) where
       (λ e. let w : j ≡ k = omega arith in rw w h) old))
 
 -- the entries where session s's part is changed by f: those of the changed part, and the other sessions' as before
-on-within : (bound : ℕ → ℕ) (s : ℕ) (logs : List ℕ) → s < 16 → length logs ≡ 2048 → (f : List ℕ → List ℕ) → length (f (part logs s)) ≡ 128 → (t j : ℕ)
-    → (t ≡ s → EntryWithin bound (f (part logs s)) j) → ((t ≡ s → ⊥) → EntryWithin bound (part logs t) j) → EntryWithin bound (part (onPart s f logs) t) j
+on-within : (bound : ℕ → ℕ) (s : ℕ) (logs : List ℕ) → s < 16 → length logs ≡ 2048 → (f : List ℕ → List ℕ) → length (f (logIn logs s)) ≡ 128 → (t j : ℕ)
+    → (t ≡ s → EntryWithin bound (f (logIn logs s)) j) → ((t ≡ s → ⊥) → EntryWithin bound (logIn logs t) j) → EntryWithin bound (logIn (onLog s f logs) t) j
 on-within bound s logs lt len f w t j new old =
-    same t s (λ e. rw e (rw (part-own s logs lt len f w) (new e))) (λ n. rw (part-other s logs lt len f w t n) (old n))
+    same t s (λ e. rw e (rw (log-same s logs lt len f w) (new e))) (λ n. rw (log-other s logs lt len f w t n) (old n))
 
 module _ (s : ℕ) (logs : List ℕ) (k c v : ℕ) (lt : s < 16) (len : length logs ≡ 2048) where
-  grown-whole : length (appended (part logs s) k c v) ≡ 128
+  grown-whole : length (appended (logIn logs s) k c v) ≡ 128
   unfolding appended
-  grown-whole = length-sets (part logs s) (4 * k) (c ∷ v ∷ v ∷ 0 ∷ []) ∙ part-length logs s lt len
+  grown-whole = length-sets (logIn logs s) (4 * k) (c ∷ v ∷ v ∷ 0 ∷ []) ∙ log-length logs s lt len
 
-  changed-whole : length (updated (part logs s) k v) ≡ 128
+  changed-whole : length (updated (logIn logs s) k v) ≡ 128
   unfolding updated
-  changed-whole = length-sets (part logs s) (4 * k + 2) (v ∷ 1 ∷ []) ∙ part-length logs s lt len
+  changed-whole = length-sets (logIn logs s) (4 * k + 2) (v ∷ 1 ∷ []) ∙ log-length logs s lt len
 
-  entered-length : length (onPart s (λ log. appended log k c v) logs) ≡ 2048
+  entered-length : length (onLog s (λ log. appended log k c v) logs) ≡ 2048
   entered-length = length-on s logs lt len (λ log. appended log k c v) grown-whole ∙ len
 
-  entered-cell : k < 32 → cellAt (part (onPart s (λ log. appended log k c v) logs) s) k ≡ c
+  entered-cell : k < 32 → cellAt (logIn (onLog s (λ log. appended log k c v) logs) s) k ≡ c
   unfolding cellAt
   entered-cell lk =
-      rw (part-own s logs lt len (λ log. appended log k c v) grown-whole) (unfold appended in grown-word (part logs s) k c v lk (part-length logs s lt len) 0 (omega arith))
+      rw (log-same s logs lt len (λ log. appended log k c v) grown-whole) (unfold appended in grown-word (logIn logs s) k c v lk (log-length logs s lt len) 0 (omega arith))
 
 -- ---- what a plan leaves
 
 -- session s acts: the values, the entries in use before, and those of its new record are within the caps
 change-keeps : (σ : Store) (s : ℕ) (L : Locks) (vs W : List ℕ) (x : Session) → ((c : ℕ) → getD vs c 0 ≤ capOf σ c)
-    → ((t k : ℕ) → InUse (recordOf σ t) k → EntryWithin (capOf σ) (part W t) k) → ((k : ℕ) → InUse x k → EntryWithin (capOf σ) (part W s) k)
+    → ((t k : ℕ) → InUse (recordOf σ t) k → EntryWithin (capOf σ) (logIn W t) k) → ((k : ℕ) → InUse x k → EntryWithin (capOf σ) (logIn W s) k)
     → Capped (change σ s L vs W x)
 unfolding sessionAt withSession
 change-keeps σ s L vs W x h old new =
     record {
       stored = h;
-      logged = λ t k. set-either (λ (y : Session). InUse y k → EntryWithin (capOf σ) (part W t) k) (σ .sessions .records) s t x idle (λ e. rw e (new k)) (old t k);
+      logged = λ t k. set-either (λ (y : Session). InUse y k → EntryWithin (capOf σ) (logIn W t) k) (σ .sessions .records) s t x idle (λ e. rw e (new k)) (old t k);
     }
 
 -- a value written into an entry
 update-keeps : {σ : Store} → Capped σ → (s k v : ℕ) → s < 16 → length (σ .lent .logs) ≡ 2048 → v ≤ capOf σ (cellAt (logOf σ s) k)
-    → Capped (changeLogs σ (onPart s (λ log. updated log k v) (σ .lent .logs)))
+    → Capped (changeLogs σ (onLog s (λ log. updated log k v) (σ .lent .logs)))
 update-keeps {σ} I s k v lt len h =
     record {
       stored = I .stored;
@@ -144,9 +144,9 @@ module _ {σ : Store} (I : Capped σ) (s : ℕ) where
     enter-keeps len lt room c =
         let v = getD (σ .lent .values) c 0 in
         let m = recordOf σ s .count in
-        let w = appended-within (capOf σ) (logOf σ s) m c v room (part-length (σ .lent .logs) s lt len) (I .stored c) in
+        let w = appended-within (capOf σ) (logOf σ s) m c v room (log-length (σ .lent .logs) s lt len) (I .stored c) in
         let g = on-within (capOf σ) s (σ .lent .logs) lt len (λ log. appended log m c v) (grown-whole s (σ .lent .logs) m c v lt len) in
-        change-keeps σ s (lockOn c (join s) (σ .lent .locks)) (σ .lent .values) (onPart s (λ log. appended log m c v) (σ .lent .logs)) (withEntry (recordOf σ s)) (I .stored)
+        change-keeps σ s (lockOn c (join s) (σ .lent .locks)) (σ .lent .values) (onLog s (λ log. appended log m c v) (σ .lent .logs)) (withEntry (recordOf σ s)) (I .stored)
         (λ t j u. g t j (λ e. w j (λ _. subst (λ (i : ℕ). EntryWithin (capOf σ) (logOf σ i) j) e (I .logged t j u))) (λ _. I .logged t j u))
         (λ j u. g s j (λ _. w j (λ ne. I .logged s j (n, omega (arith, u .1)))) (λ ne. absurd (ne refl)))
 
@@ -166,7 +166,7 @@ logs-long B h =
 
 -- what `guarded` tells of a call that is not turned down, and the logs' length
 fitting {ℓ} : (P : Plan → Type ℓ) (B : Buffers) (s : ℕ) (x : Session) (fit : Bool) (p : Plan) → ((k : ℕ) → P (Refuse k))
-    → (length (B .logs) ≡ 2048 → s < 16 → fit ≡ true → P p) → P (admit B s (guard (size B) (part (B .logs) s) x fit p))
+    → (length (B .logs) ≡ 2048 → s < 16 → fit ≡ true → P p) → P (admit B s (guard (size B) (logIn (B .logs) s) x fit p))
 unfolding guard
 fitting P B s x fit p r f =
     test (lengthsFit B)
@@ -196,22 +196,22 @@ module _ {σ : Store} (I : Capped σ) where
       (λ len lt h. cell-known (Kept k) (size (σ .lent)) (cellOf k) p (keep-refusal k 3) (λ _. f len lt (λ e. let w = eqb-true (recordOf σ s .phase) 1 h in omega arith)))
 
   keep-read : (s c : ℕ) → Kept (Read s c) (planOf (Read s c) σ)
-  unfolding planOf plan readOn writeOn sealOn peekOn readPlan after answer lookIn entryOf
+  unfolding planOf plan readSlot after answer lookIn entryOf
   keep-read s c =
-      on-cell (Read s c) (readPlan (logOf σ s) (recordOf σ s) (lockAt (σ .lent .locks) c) c (slotIn (logOf σ s) (recordOf σ s .count) c))
+      on-cell (Read s c) (readSlot (logOf σ s) (recordOf σ s) (lockAt (σ .lent .locks) c) c (slotIn (logOf σ s) (recordOf σ s .count) c))
       (λ len lt n.
-      choose (Kept (Read s c)) (readPlan (logOf σ s) (recordOf σ s) (lockAt (σ .lent .locks) c) c) (slotIn (logOf σ s) (recordOf σ s .count) c)
+      choose (Kept (Read s c)) (readSlot (logOf σ s) (recordOf σ s) (lockAt (σ .lent .locks) c) c) (slotIn (logOf σ s) (recordOf σ s .count) c)
       (λ _. cell-new (Kept (Read s c)) (recordOf σ s) (lockAt (σ .lent .locks) c) (Enter c) (keep-refusal (Read s c) 5) (λ _. keep-rollback (Read s c))
       (λ room _. (enter-keeps I s n len lt room c, I .stored c)))
       (λ j p. (I, rw p at (current-within I s n c))))
 
   keep-write : (s c v : ℕ) → Kept (Write s c v) (planOf (Write s c v) σ)
-  unfolding planOf plan readOn writeOn sealOn peekOn writePlan writeSlot after answer slotIn
+  unfolding planOf plan writeCapped writeSlot after answer slotIn
   keep-write s c v =
       let k = getD (σ .lent .classes) c 0 in
       let call = Write s c v in
       let m = recordOf σ s .count in
-      on-cell call (cond (ltb k 16) (writePlan (logOf σ s) (recordOf σ s) (lockAt (σ .lent .locks) c) c v (cap k)) (Refuse 8))
+      on-cell call (cond (ltb k 16) (writeCapped (logOf σ s) (recordOf σ s) (lockAt (σ .lent .locks) c) c v (cap k)) (Refuse 8))
       (λ len lt n.
       split (Kept call) (ltb k 16)
       (λ _. split (Kept call) (leb v (cap k))
@@ -227,43 +227,43 @@ module _ {σ : Store} (I : Capped σ) where
       (λ _. keep-refusal call 8))
 
   keep-peek : (s c : ℕ) → Kept (Peek s c) (planOf (Peek s c) σ)
-  unfolding planOf plan readOn writeOn sealOn peekOn peekPlan after answer
+  unfolding planOf plan peekSlot after answer
   keep-peek s c =
-      on-cell (Peek s c) (peekPlan (logOf σ s) c (slotIn (logOf σ s) (recordOf σ s .count) c))
+      on-cell (Peek s c) (peekSlot (logOf σ s) c (slotIn (logOf σ s) (recordOf σ s .count) c))
       (λ _ _ _.
-      choose (Kept (Peek s c)) (peekPlan (logOf σ s) c) (slotIn (logOf σ s) (recordOf σ s .count) c) (λ _. keep-refusal (Peek s c) 14)
+      choose (Kept (Peek s c)) (peekSlot (logOf σ s) c) (slotIn (logOf σ s) (recordOf σ s .count) c) (λ _. keep-refusal (Peek s c) 14)
       (λ k _. split (Kept (Peek s c)) (entryAt (logOf σ s) k .dirty) (λ _. (I, omega arith)) (λ _. (I, omega arith))))
 
   keep-begin : (s : ℕ) → Kept (Begin s) (planOf (Begin s) σ)
-  unfolding planOf plan readOn writeOn sealOn peekOn after answer
+  unfolding planOf plan after answer
   keep-begin s =
       fitting (Kept (Begin s)) (σ .lent) s (recordOf σ s) (eqb (recordOf σ s .phase) 0) Start (keep-refusal (Begin s))
       (λ _ _ _. (shrink-keeps I s (σ .lent .locks) running (λ k u. absurd (omega (arith, u .1))), omega arith))
 
   keep-abandon : (s : ℕ) → Kept (Abandon s) (planOf (Abandon s) σ)
-  unfolding planOf plan readOn writeOn sealOn peekOn after answer
+  unfolding planOf plan after answer
   keep-abandon s =
       fitting (Kept (Abandon s)) (σ .lent) s (recordOf σ s) (eqb (recordOf σ s .phase) 1 || eqb (recordOf σ s .phase) 2) Cancel (keep-refusal (Abandon s))
       (λ _ _ _. (idle-keeps I s _, omega arith))
 
   keep-seal : (s : ℕ) → Kept (Seal s) (planOf (Seal s) σ)
-  unfolding planOf plan readOn writeOn sealOn peekOn sealPlan after answer
+  unfolding planOf plan sealTarget after answer
   keep-seal s =
       let x = recordOf σ s in
-      fitting (Kept (Seal s)) (σ .lent) s x (eqb (x .phase) 1) (sealPlan (targetIn (logOf σ s) (x .count) 0)) (keep-refusal (Seal s))
+      fitting (Kept (Seal s)) (σ .lent) s x (eqb (x .phase) 1) (sealTarget (targetIn (logOf σ s) (x .count) 0)) (keep-refusal (Seal s))
       (λ _ _ h.
-      choose (Kept (Seal s)) sealPlan (targetIn (logOf σ s) (x .count) 0) (λ _. (idle-keeps I s _, omega arith))
+      choose (Kept (Seal s)) sealTarget (targetIn (logOf σ s) (x .count) 0) (λ _. (idle-keeps I s _, omega arith))
       (λ c _. (shrink-keeps I s _ (moveTo 2 0 x) (λ k u. (λ e. let w = eqb-true (x .phase) 1 h in omega arith, u .1)), omega arith)))
 
   keep-advance : (s : ℕ) → Kept (Advance s) (planOf (Advance s) σ)
-  unfolding planOf plan readOn writeOn sealOn peekOn advancePlan promotePlan after answer releasing
+  unfolding planOf plan advanceTarget promotePlan after answer releasing
   keep-advance s =
       let x = recordOf σ s in
       let call = Advance s in
-      fitting (Kept call) (σ .lent) s x (leb 2 (x .phase)) (advancePlan s (logOf σ s) x (lockAt (σ .lent .locks)) (targetIn (logOf σ s) (x .count) (x .next))) (keep-refusal call)
+      fitting (Kept call) (σ .lent) s x (leb 2 (x .phase)) (advanceTarget s (logOf σ s) x (lockAt (σ .lent .locks)) (targetIn (logOf σ s) (x .count) (x .next))) (keep-refusal call)
       (λ _ _ h.
       let n : x .phase ≡ 0 → ⊥ = λ e. let w = leb-true 2 (x .phase) h in omega arith in
-      choose (Kept call) (advancePlan s (logOf σ s) x (lockAt (σ .lent .locks))) (targetIn (logOf σ s) (x .count) (x .next)) (λ _. keep-refusal call 9)
+      choose (Kept call) (advanceTarget s (logOf σ s) x (lockAt (σ .lent .locks))) (targetIn (logOf σ s) (x .count) (x .next)) (λ _. keep-refusal call 9)
       (λ c _.
       let handle-keeps : (L : Locks) → Capped (change σ s L (σ .lent .values) (σ .lent .logs) (handled (logOf σ s) c x)) =
       λ L. shrink-keeps I s L (handled (logOf σ s) c x) (handled-in-use (logOf σ s) c x n) in
@@ -309,7 +309,7 @@ classes-after s Cancel σ = refl
 classes-after s CommitReads σ = refl
 classes-after s BeginPromotion σ = refl
 classes-after s (Wait c) σ = refl
-classes-after s (Own c) σ = refl
+classes-after s (Acquire c) σ = refl
 classes-after s (Publish c v) σ = refl
 classes-after s (Release c) σ = refl
 classes-after s (ShowStore c) σ = refl

@@ -8,7 +8,7 @@ use Rattle.model.specs.declared.Answer.{Answer}
 use Rattle.model.specs.Buffers.{Buffers, Store, allFit, lengthsFit, fresh}
 use Rattle.model.specs.History.{Event, run, history}
 use Rattle.model.specs.Isolation.{Demand3, Ran, none, then, Demand3OfCode}
-use Rattle.model.specs.Step.{Outcome, outcome, number, taken, setUpTaken, step, reply, setUpAnswer, setUp}
+use Rattle.model.specs.Step.{Outcome, outcome, number, effect, setUpEffect, step, reply, setUpAnswer, setUp}
 use Rattle.model.proofs.Invariant.{Inv}
 use Rattle.model.proofs.Ledger.{blank}
 use Rattle.model.proofs.Runs.{inv-fresh}
@@ -39,7 +39,7 @@ demand3 σ h calls = subst (λ (φ : Store). Demand3 φ calls) (sym (set-up-fres
 
 -- what code that keeps its contract answered and left is the model's
 pub ran-is : (σ : Store) {ks : List Call} {h : List Event} {τ : Store} → Ran σ ks h τ → (h ≡ history σ ks) × (τ ≡ run σ ks)
-unfolding history run taken
+unfolding history run effect
 ran-is σ none = (refl, refl)
 ran-is σ (then r k a y e) =
     let i = ran-is σ r in
@@ -49,14 +49,14 @@ ran-is σ (then r k a y e) =
 
 -- and every list of calls can be so made
 pub ran-history : (σ : Store) (ks : List Call) → Ran σ ks (history σ ks) (run σ ks)
-unfolding history run taken
+unfolding history run effect
 ran-history σ [] = none
 ran-history σ (k ∷ ks) = then (ran-history σ ks) k (reply k (run σ ks)) (step k (run σ ks)) refl
 
 -- demand 3 of code: a set-up that kept its contract and answered 100 left σ, and the calls kept theirs
-pub demand3-of-code : (φ σ : Store) (a : Answer) → outcome a σ ≡ setUpTaken φ → number a ≡ 100
+pub demand3-of-code : (φ σ : Store) (a : Answer) → outcome a σ ≡ setUpEffect φ → number a ≡ 100
     → (calls : List Call) (h : List Event) (τ : Store) → Ran σ (reverse calls) h τ → Demand3OfCode σ calls h τ
-unfolding setUpTaken
+unfolding setUpEffect
 demand3-of-code φ σ a e n calls h τ r =
     let f = ap (λ (o : Outcome). o .answer) e in
     let g : σ ≡ setUp φ = ap (λ (o : Outcome). o .store) e in

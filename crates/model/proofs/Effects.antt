@@ -9,13 +9,13 @@ use lib.ListN.{length, getD}
 use lib.Seq.{length-sets}
 use Rattle.model.specs.declared.Session.{Session}
 use Rattle.model.specs.declared.Lock.{Lock}
-use Rattle.model.specs.Buffers.{Locks, Store, idle, running, withEntry, Entry, cellAt, entryAt, slotIn, entryOf, lookIn, isDirty, appended, updated, lockAt, lockOn, join, withdraw, part, onPart}
+use Rattle.model.specs.Buffers.{Locks, Store, idle, running, withEntry, Entry, cellAt, entryAt, slotIn, entryOf, lookIn, isDirty, appended, updated, lockAt, lockOn, join, withdraw, logIn, onLog}
 use Rattle.model.specs.History.{run}
 use Rattle.model.specs.Isolation.{at}
 use Rattle.model.specs.Search.{find}
 use Rattle.model.specs.Step.{rolledBack, change, changeLogs, recordOf, logOf}
 use Rattle.model.proofs.Invariant.{roleIn, roleOf, role, Running, Link, Shape, just-map, Inv, Frame, role-other, assemble, quiet}
-use Rattle.model.proofs.Laws.{Long, lock-same, lock-other, long-set, long-sweep, lock-sweep, withdraw-withdraw, part-length, part-own, part-other, length-on, grown-find, grown-new, grown-old, changed-old, changed-new, session-same, session-other, length-records}
+use Rattle.model.proofs.Laws.{Long, lock-same, lock-other, long-set, long-sweep, lock-sweep, withdraw-withdraw, log-length, log-same, log-other, length-on, grown-find, grown-new, grown-old, changed-old, changed-new, session-same, session-other, length-records}
 use Rattle.model.proofs.Ledger.{Txn, opened, saw, wroteTo, Commit, Ledger, blank}
 use Rattle.model.proofs.Roles.{Role, out, reading, holds, owns, pends, claims?, Locked, Valued, unowned, kept, joins, withdraws, stays, sees}
 use Rattle.model.proofs.Running.{run-enter, run-note, run-saw}
@@ -193,17 +193,17 @@ module _ {start : List ℕ} {σ : Store} {T : Ledger} (s : ℕ) (lt : s < 16) (I
     v = getD (σ .lent .values) c 0
 
     abbrev pub ε : Store
-    ε = change σ s (lockOn c (join s) (σ .lent .locks)) (σ .lent .values) (onPart s (λ log. appended log (recordOf σ s .count) c (getD (σ .lent .values) c 0)) (σ .lent .logs)) (withEntry (recordOf σ s))
+    ε = change σ s (lockOn c (join s) (σ .lent .locks)) (σ .lent .values) (onLog s (λ log. appended log (recordOf σ s .count) c (getD (σ .lent .values) c 0)) (σ .lent .logs)) (withEntry (recordOf σ s))
 
     whole : length (logOf σ s) ≡ 128
-    whole = part-length (σ .lent .logs) s lt (I .shape .logs)
+    whole = log-length (σ .lent .logs) s lt (I .shape .logs)
 
     grown-whole : length (appended (logOf σ s) (x .count) c v) ≡ 128
     unfolding appended
     grown-whole = length-sets (logOf σ s) (4 * x .count) (c ∷ v ∷ v ∷ 0 ∷ []) ∙ whole
 
-    grown-part : logOf ε s ≡ appended (logOf σ s) (x .count) c v
-    grown-part = part-own s (σ .lent .logs) lt (I .shape .logs) (λ log. appended log (x .count) c v) grown-whole
+    grown-log : logOf ε s ≡ appended (logOf σ s) (x .count) c v
+    grown-log = log-same s (σ .lent .logs) lt (I .shape .logs) (λ log. appended log (x .count) c v) grown-whole
 
     enter-acts : Acts (length start) σ s (withEntry x) ε
     enter-acts =
@@ -212,7 +212,7 @@ module _ {start : List ℕ} {σ : Store} {T : Ledger} (s : ℕ) (lt : s < 16) (I
           others = session-other (σ .sessions) s (withEntry x);
           records = length-records (σ .sessions) s (withEntry x) ∙ I .shape .records;
           logs = length-on s (σ .lent .logs) lt (I .shape .logs) (λ log. appended log (x .count) c v) grown-whole ∙ I .shape .logs;
-          notes = part-other s (σ .lent .logs) lt (I .shape .logs) (λ log. appended log (x .count) c v) grown-whole;
+          notes = log-other s (σ .lent .logs) lt (I .shape .logs) (λ log. appended log (x .count) c v) grown-whole;
           shape = I .shape;
           lt = lt;
         }
@@ -225,15 +225,15 @@ module _ {start : List ℕ} {σ : Store} {T : Ledger} (s : ℕ) (lt : s < 16) (I
 
     pub enter-look : look ε s c ≡ some (record { snapshot = getD (σ .lent .values) c 0; current = getD (σ .lent .values) c 0; dirty = false })
     unfolding appended
-    enter-look = look-mine enter-acts c ∙ rw grown-part (grown-new (logOf σ s) (x .count) c v room whole (sym (look-is σ s c) ∙ slot-none σ s c new))
+    enter-look = look-mine enter-acts c ∙ rw grown-log (grown-new (logOf σ s) (x .count) c v room whole (sym (look-is σ s c) ∙ slot-none σ s c new))
 
     pub enter-slot : slot ε s c ≡ some (recordOf σ s .count)
     unfolding appended slot slotIn
-    enter-slot = rw (ses-same enter-acts, grown-part) (grown-find (logOf σ s) (x .count) c v room whole new)
+    enter-slot = rw (ses-same enter-acts, grown-log) (grown-find (logOf σ s) (x .count) c v room whole new)
 
     old-look : (d : ℕ) → (d ≡ c → ⊥) → look ε s d ≡ look σ s d
     unfolding appended
-    old-look d n = look-mine enter-acts d ∙ rw grown-part (grown-old (logOf σ s) (x .count) c v room whole d n) ∙ sym (look-is σ s d)
+    old-look d n = look-mine enter-acts d ∙ rw grown-log (grown-old (logOf σ s) (x .count) c v room whole d n) ∙ sym (look-is σ s d)
 
     there : (d : ℕ) → (d ≡ c → ⊥) → role ε d s ≡ role σ d s
     unfolding role
@@ -270,7 +270,7 @@ module _ {start : List ℕ} {σ : Store} {T : Ledger} (s : ℕ) (lt : s < 16) (I
   -- ---- a value written into an entry
 
   pub notes : (c k v : ℕ) → recordOf σ s .phase ≡ 1 → slot σ s c ≡ some k
-      → Inv start (changeLogs σ (onPart s (λ log. updated log k v) (σ .lent .logs))) (amended s (wroteTo c v (T .mine s)) (T .commits) T)
+      → Inv start (changeLogs σ (onLog s (λ log. updated log k v) (σ .lent .logs))) (amended s (wroteTo c v (T .mine s)) (T .commits) T)
   unfolding updated
   notes c k v ph h =
       quiet s I (frame a) (shaped a (I .shape .values) (I .shape .long) (I .shape .counts s)) (wroteTo c v (T .mine s))
@@ -279,19 +279,19 @@ module _ {start : List ℕ} {σ : Store} {T : Ledger} (s : ℕ) (lt : s < 16) (I
       (link-mine a start (T .commits) (suc (T .place)) (wroteTo c v (T .mine s)) ph (run-note c v (rw ph at (I .link s)) old (entryAt (logOf σ s) k) (slot-some σ s c h) newl))
     where
       τ : Store
-      τ = changeLogs σ (onPart s (λ log. updated log k v) (σ .lent .logs))
+      τ = changeLogs σ (onLog s (λ log. updated log k v) (σ .lent .logs))
 
       f : find (cellAt (logOf σ s)) (x .count) c ≡ some k
       f = unfold slot slotIn in h
 
       whole : length (logOf σ s) ≡ 128
-      whole = part-length (σ .lent .logs) s lt (I .shape .logs)
+      whole = log-length (σ .lent .logs) s lt (I .shape .logs)
 
       long : length (updated (logOf σ s) k v) ≡ 128
       long = length-sets (logOf σ s) (4 * k + 2) (v ∷ 1 ∷ []) ∙ whole
 
-      new-part : logOf τ s ≡ updated (logOf σ s) k v
-      new-part = part-own s (σ .lent .logs) lt (I .shape .logs) (λ log. updated log k v) long
+      new-log : logOf τ s ≡ updated (logOf σ s) k v
+      new-log = log-same s (σ .lent .logs) lt (I .shape .logs) (λ log. updated log k v) long
 
       a : Acts (length start) σ s x τ
       a =
@@ -300,16 +300,16 @@ module _ {start : List ℕ} {σ : Store} {T : Ledger} (s : ℕ) (lt : s < 16) (I
             others = λ t n. refl;
             records = I .shape .records;
             logs = length-on s (σ .lent .logs) lt (I .shape .logs) (λ log. updated log k v) long ∙ I .shape .logs;
-            notes = part-other s (σ .lent .logs) lt (I .shape .logs) (λ log. updated log k v) long;
+            notes = log-other s (σ .lent .logs) lt (I .shape .logs) (λ log. updated log k v) long;
             shape = I .shape;
             lt = lt;
           }
 
       newl : look τ s c ≡ some (record { snapshot = entryAt (logOf σ s) k .snapshot; current = v; dirty = true })
-      newl = look-mine a c ∙ (unfold entryAt in rw new-part (changed-new (logOf σ s) (x .count) k c v (I .shape .counts s) whole f))
+      newl = look-mine a c ∙ (unfold entryAt in rw new-log (changed-new (logOf σ s) (x .count) k c v (I .shape .counts s) whole f))
 
       old : (d : ℕ) → (d ≡ c → ⊥) → look τ s d ≡ look σ s d
-      old d n = look-mine a d ∙ rw new-part (changed-old (logOf σ s) (x .count) k c v (I .shape .counts s) whole f d n) ∙ sym (look-is σ s d)
+      old d n = look-mine a d ∙ rw new-log (changed-old (logOf σ s) (x .count) k c v (I .shape .counts s) whole f d n) ∙ sym (look-is σ s d)
 
       same-role : (d : ℕ) → role τ d s ≡ role σ d s
       same-role d =

@@ -13,7 +13,7 @@ use borrow.Author.Tests.{eqb-true, eq-eqb, ne-eqb, ltb-true, ltb-false}
 use Rattle.model.specs.declared.Session.{Session}
 use Rattle.model.specs.declared.Sessions.{Sessions}
 use Rattle.model.specs.declared.Lock.{Lock}
-use Rattle.model.specs.Buffers.{Locks, idle, sessionAt, withSession, part, onPart, word, cellAt, entryAt, slotIn, entryOf, lookIn, lockAt, setLock, lockOn, sweep, leave, vacate, withdraw}
+use Rattle.model.specs.Buffers.{Locks, idle, sessionAt, withSession, logIn, onLog, word, cellAt, entryAt, slotIn, entryOf, lookIn, lockAt, setLock, lockOn, sweep, leave, vacate, withdraw}
 use Rattle.model.specs.Isolation.{at}
 use Rattle.model.specs.Readers.{odd, assign}
 use Rattle.model.specs.Search.{some?, orElse, find, lower, lowest, below, tally}
@@ -226,9 +226,9 @@ getD-sets-at (v ∷ vs) l i (suc m) q w =
 
 -- ---- a session's part
 
-pub part-length : (logs : List ℕ) (s : ℕ) → s < 16 → length logs ≡ 2048 → length (part logs s) ≡ 128
-unfolding part
-part-length logs s ls len = length-take-le 128 (drop (128 * s) logs) (rw length-drop (omega arith))
+pub log-length : (logs : List ℕ) (s : ℕ) → s < 16 → length logs ≡ 2048 → length (logIn logs s) ≡ 128
+unfolding logIn
+log-length logs s ls len = length-take-le 128 (drop (128 * s) logs) (rw length-drop (omega arith))
 
 module _ (s : ℕ) (logs : List ℕ) (ls : s < 16) (len : length logs ≡ 2048) where
   front : length (take (128 * s) logs) ≡ 128 * s
@@ -248,38 +248,38 @@ module _ (s : ℕ) (logs : List ℕ) (ls : s < 16) (len : length logs ≡ 2048) 
       ∙ drop-append-add (take (128 * s) logs) (p ++ rest) (length p + (128 * t - (128 * s + 128)))
       ∙ drop-append-add p rest (128 * t - (128 * s + 128))
 
-  in-parts : take (128 * s) logs ++ (part logs s ++ drop 128 (drop (128 * s) logs)) ≡ logs
-  unfolding part
+  in-parts : take (128 * s) logs ++ (logIn logs s ++ drop 128 (drop (128 * s) logs)) ≡ logs
+  unfolding logIn
   in-parts = rw (take-append-drop, take-append-drop)
 
-  module _ (f : List ℕ → List ℕ) (whole : length (f (part logs s)) ≡ 128) where
-    pub part-own : part (onPart s f logs) s ≡ f (part logs s)
-    unfolding onPart
-    part-own =
-        unfold part in
-        ap (λ (i : ℕ). take 128 (drop i (take (128 * s) logs ++ (f (part logs s) ++ drop 128 (drop (128 * s) logs))))) (sym front)
-        ∙ ap (take 128) (drop-append-seam (take (128 * s) logs) (f (part logs s) ++ drop 128 (drop (128 * s) logs)))
-        ∙ ap (λ (i : ℕ). take i (f (part logs s) ++ drop 128 (drop (128 * s) logs))) (sym whole)
-        ∙ take-append-seam (f (part logs s)) (drop 128 (drop (128 * s) logs))
+  module _ (f : List ℕ → List ℕ) (whole : length (f (logIn logs s)) ≡ 128) where
+    pub log-same : logIn (onLog s f logs) s ≡ f (logIn logs s)
+    unfolding onLog
+    log-same =
+        unfold logIn in
+        ap (λ (i : ℕ). take 128 (drop i (take (128 * s) logs ++ (f (logIn logs s) ++ drop 128 (drop (128 * s) logs))))) (sym front)
+        ∙ ap (take 128) (drop-append-seam (take (128 * s) logs) (f (logIn logs s) ++ drop 128 (drop (128 * s) logs)))
+        ∙ ap (λ (i : ℕ). take i (f (logIn logs s) ++ drop 128 (drop (128 * s) logs))) (sym whole)
+        ∙ take-append-seam (f (logIn logs s)) (drop 128 (drop (128 * s) logs))
 
-    pub part-other : (t : ℕ) → (t ≡ s → ⊥) → part (onPart s f logs) t ≡ part logs t
-    unfolding onPart
-    part-other t n =
-        unfold part in
+    pub log-other : (t : ℕ) → (t ≡ s → ⊥) → logIn (onLog s f logs) t ≡ logIn logs t
+    unfolding onLog
+    log-other t n =
+        unfold logIn in
         test (ltb t s)
         (λ h.
-        before t (f (part logs s) ++ drop 128 (drop (128 * s) logs)) (ltb-true t s h)
-        ∙ sym (before t (part logs s ++ drop 128 (drop (128 * s) logs)) (ltb-true t s h))
+        before t (f (logIn logs s) ++ drop 128 (drop (128 * s) logs)) (ltb-true t s h)
+        ∙ sym (before t (logIn logs s ++ drop 128 (drop (128 * s) logs)) (ltb-true t s h))
         ∙ ap (λ (l : List ℕ). take 128 (drop (128 * t) l)) in-parts)
         (λ h.
         let w = ltb-false t s h in
         let g : s < t = omega arith in
-        ap (take 128) (behind t (f (part logs s)) (drop 128 (drop (128 * s) logs)) whole g)
-        ∙ ap (take 128) (sym (behind t (part logs s) (drop 128 (drop (128 * s) logs)) (part-length logs s ls len) g))
+        ap (take 128) (behind t (f (logIn logs s)) (drop 128 (drop (128 * s) logs)) whole g)
+        ∙ ap (take 128) (sym (behind t (logIn logs s) (drop 128 (drop (128 * s) logs)) (log-length logs s ls len) g))
         ∙ ap (λ (l : List ℕ). take 128 (drop (128 * t) l)) in-parts)
 
-    pub length-on : length (onPart s f logs) ≡ length logs
-    unfolding onPart
+    pub length-on : length (onLog s f logs) ≡ length logs
+    unfolding onLog
     length-on =
         let g = front in
         rw (length-append, length-append, whole, length-drop, length-drop) (omega arith)

@@ -13,12 +13,12 @@ use Rattle.model.specs.declared.Lock.{Lock}
 use Rattle.model.specs.declared.Call.{Call}
 use Rattle.model.specs.declared.Call.the-variants.{Begin, Read, Write, Seal, Advance, Abandon, Peek}
 use Rattle.model.specs.declared.Plan.{Plan}
-use Rattle.model.specs.declared.Plan.the-variants.{Refuse, Start, Enter, EnterUpdate, RollBack, Cancel, Own, Publish, Release}
-use Rattle.model.specs.Buffers.{Buffers, Store, size, idle, moveTo, Entry, cellAt, entryAt, slotIn, isPublished, targetIn, currentOf, lockAt, cap, fits, lengthsFit, part}
+use Rattle.model.specs.declared.Plan.the-variants.{Refuse, Start, Enter, EnterUpdate, RollBack, Cancel, Acquire, Publish, Release}
+use Rattle.model.specs.Buffers.{Buffers, Store, size, idle, moveTo, Entry, cellAt, entryAt, slotIn, isPublished, targetIn, currentOf, lockAt, cap, fits, lengthsFit, logIn}
 use Rattle.model.specs.Isolation.{at}
 use Rattle.model.specs.Readers.{otherReaders}
 use Rattle.model.specs.Search.{some?, find, below, tally}
-use Rattle.model.specs.Step.{rolledBack, handled, change, recordOf, after, releasing, answer, recordFits, guard, known, claimed, newCell, readPlan, writeSlot, writePlan, sealPlan, promotePlan, advancePlan, peekPlan, plan, sessionOf, planOf, step, reply, logOf, admit, entriesFit, readOn, writeOn, sealOn, peekOn}
+use Rattle.model.specs.Step.{rolledBack, handled, change, recordOf, after, releasing, answer, recordFits, guard, known, claimed, newCell, readSlot, writeSlot, writeCapped, sealTarget, promotePlan, advanceTarget, peekSlot, plan, sessionOf, planOf, step, reply, logOf, admit, entriesFit, readPlan, writePlan, sealPlan, peekPlan}
 use Rattle.model.proofs.Advancing.{target-some, target-none, late, role-late, more-open, holds-more, last-done, holds-last, waits, publishes-more, publishes-last, releases-more, releases-last}
 use Rattle.model.proofs.Effects.{running-role, slot-none, slot-some, amended, rolls, started, tells, enter-phase, enter-look, enter-slot, enters, notes}
 use Rattle.model.proofs.Invariant.{roleIn, roleOf, role, Running, Promoting, Finishing, Inv, ticks}
@@ -81,11 +81,11 @@ module _ (s : ℕ) (f : Txn → Txn) (T : Ledger) (l : T .mine s .live ≡ true)
 -- ---- what a call that is not turned down has passed
 
 pub guarded {ℓ} : (P : Plan → Type ℓ) (B : Buffers) (s : ℕ) (x : Session) (fits : Bool) (p : Plan) → P (Refuse 7) → P (Refuse 1) → P (Refuse 9) → P (Refuse 2)
-    → (s < 16 → recordFits (size B) (part (B .logs) s) x ≡ true → fits ≡ true → P p) → P (admit B s (guard (size B) (part (B .logs) s) x fits p))
+    → (s < 16 → recordFits (size B) (logIn (B .logs) s) x ≡ true → fits ≡ true → P p) → P (admit B s (guard (size B) (logIn (B .logs) s) x fits p))
 unfolding guard
 guarded P B s x fits p a b c d f =
     split P (lengthsFit B)
-    (λ _. split P (ltb s 16) (λ l. split P (recordFits (size B) (part (B .logs) s) x) (λ k. split P fits (λ h. f (ltb-true s 16 l) k h) (λ _. d)) (λ _. c)) (λ _. b))
+    (λ _. split P (ltb s 16) (λ l. split P (recordFits (size B) (logIn (B .logs) s) x) (λ k. split P fits (λ h. f (ltb-true s 16 l) k h) (λ _. d)) (λ _. c)) (λ _. b))
     (λ _. a)
 
 -- a cell below n
@@ -95,7 +95,7 @@ cell-known P n c p r3 f = split P (ltb c n) (λ l. f (ltb-true c n l)) (λ _. r3
 
 -- a call of a running session on a cell
 pub running-cell {ℓ} : (P : Plan → Type ℓ) (B : Buffers) (s : ℕ) (x : Session) (c : ℕ) (p : Plan) → P (Refuse 7) → P (Refuse 1) → P (Refuse 9) → P (Refuse 2) → P (Refuse 3)
-    → (s < 16 → x .phase ≡ 1 → c < size B → P p) → P (admit B s (guard (size B) (part (B .logs) s) x (eqb (x .phase) 1) (known (size B) c p)))
+    → (s < 16 → x .phase ≡ 1 → c < size B → P p) → P (admit B s (guard (size B) (logIn (B .logs) s) x (eqb (x .phase) 1) (known (size B) c p)))
 running-cell P B s x c p r7 r1 r9 r2 r3 f =
     guarded P B s x (eqb (x .phase) 1) (known (size B) c p) r7 r1 r9 r2 (λ lt _ h. cell-known P (size B) c p r3 (f lt (eqb-true (x .phase) 1 h)))
 
@@ -172,13 +172,13 @@ module _ {first : List ℕ} {σ : Store} {T : Ledger} (I : Inv first σ T) where
   calm₂ s ph c = rw (role-late σ s c 0 ph) (test (written σ s c) (λ w. rw w (test (leb (recordOf σ s .next) c) (λ b. rw b) (λ b. rw b))) (λ w. rw w))
 
   keep-begin : (s : ℕ) → Kept (Begin s) (planOf (Begin s) σ)
-  unfolding planOf plan readOn writeOn sealOn peekOn observe news over amendBy after answer starts
+  unfolding planOf plan observe news over amendBy after answer starts
   keep-begin s =
       guarded (Kept (Begin s)) (σ .lent) s (recordOf σ s) (eqb (recordOf σ s .phase) 0) Start (ticks I) (ticks I) (ticks I) (ticks I)
       (λ lt k h. started s lt I (eqb-true (recordOf σ s .phase) 0 h))
 
   keep-abandon : (s : ℕ) → Kept (Abandon s) (planOf (Abandon s) σ)
-  unfolding planOf plan readOn writeOn sealOn peekOn observe news over amendBy after answer
+  unfolding planOf plan observe news over amendBy after answer
   keep-abandon s =
       guarded (Kept (Abandon s)) (σ .lent) s (recordOf σ s) (eqb (recordOf σ s .phase) 1 || eqb (recordOf σ s .phase) 2) Cancel (ticks I) (ticks I) (ticks I) (ticks I)
       (λ lt k h.
@@ -199,11 +199,11 @@ module _ {first : List ℕ} {σ : Store} {T : Ledger} (I : Inv first σ T) where
       running-cell (Kept k) (σ .lent) (sessionOf k) (recordOf σ (sessionOf k)) c p r7 r1 r9 r2 r3 (λ lt ph l. f lt ph (omega (arith, I .shape .values)))
 
   keep-peek : (s c : ℕ) → Kept (Peek s c) (planOf (Peek s c) σ)
-  unfolding planOf plan readOn writeOn sealOn peekOn observe news over amendBy after answer peekPlan
+  unfolding planOf plan observe news over amendBy after answer peekSlot
   keep-peek s c =
-      on-cell (Peek s c) c (peekPlan (logOf σ s) c (slotIn (logOf σ s) (recordOf σ s .count) c)) (ticks I) (ticks I) (ticks I) (ticks I) (ticks I)
+      on-cell (Peek s c) c (peekSlot (logOf σ s) c (slotIn (logOf σ s) (recordOf σ s .count) c)) (ticks I) (ticks I) (ticks I) (ticks I) (ticks I)
       (λ _ _ _.
-      choose (Kept (Peek s c)) (peekPlan (logOf σ s) c) (slotIn (logOf σ s) (recordOf σ s .count) c) (λ _. ticks I)
+      choose (Kept (Peek s c)) (peekSlot (logOf σ s) c) (slotIn (logOf σ s) (recordOf σ s .count) c) (λ _. ticks I)
       (λ k _. split (Kept (Peek s c)) (entryAt (logOf σ s) k .dirty) (λ _. ticks I) (λ _. ticks I)))
 
   pub runs : (s : ℕ) → recordOf σ s .phase ≡ 1 → Running (look σ s) (T .mine s)
@@ -217,12 +217,12 @@ module _ {first : List ℕ} {σ : Store} {T : Ledger} (I : Inv first σ T) where
   new-cell k c p r5 r6 f = cell-new (Kept k) (recordOf σ (sessionOf k)) (lockAt (σ .lent .locks) c) p r5 (λ _. r6) f
 
   keep-read : (s c : ℕ) → Kept (Read s c) (planOf (Read s c) σ)
-  unfolding planOf plan readOn writeOn sealOn peekOn observe news over amendBy after answer readPlan slot
+  unfolding planOf plan observe news over amendBy after answer readSlot slot
   keep-read s c =
-      on-cell (Read s c) c (readPlan (logOf σ s) (recordOf σ s) (lockAt (σ .lent .locks) c) c (slotIn (logOf σ s) (recordOf σ s .count) c)) (ticks I) (ticks I) (ticks I) (ticks I) (ticks I)
+      on-cell (Read s c) c (readSlot (logOf σ s) (recordOf σ s) (lockAt (σ .lent .locks) c) c (slotIn (logOf σ s) (recordOf σ s .count) c)) (ticks I) (ticks I) (ticks I) (ticks I) (ticks I)
       (λ lt ph lc.
       let r = runs s ph in
-      choose (Kept (Read s c)) (readPlan (logOf σ s) (recordOf σ s) (lockAt (σ .lent .locks) c) c) (slot σ s c)
+      choose (Kept (Read s c)) (readSlot (logOf σ s) (recordOf σ s) (lockAt (σ .lent .locks) c) c) (slot σ s c)
       (λ p. new-cell (Read s c) c (Enter c) (ticks I) (roll-back s lt (r .live) (calm₁ s ph))
       (λ room cl.
       rw (amend-same s (saw c (getD (σ .lent .values) c 0)) T (r .live) (and-not (T .mine s .done)))
@@ -232,10 +232,10 @@ module _ {first : List ℕ} {σ : Store} {T : Ledger} (I : Inv first σ T) where
       (tells s lt I c (entryAt (logOf σ s) j) ph (slot-some σ s c p))))
 
   keep-write : (s c v : ℕ) → Kept (Write s c v) (planOf (Write s c v) σ)
-  unfolding planOf plan readOn writeOn sealOn peekOn observe news over amendBy after answer writePlan writeSlot slot
+  unfolding planOf plan observe news over amendBy after answer writeCapped writeSlot slot
   keep-write s c v =
       let k = getD (σ .lent .classes) c 0 in
-      on-cell (Write s c v) c (cond (ltb k 16) (writePlan (logOf σ s) (recordOf σ s) (lockAt (σ .lent .locks) c) c v (cap k)) (Refuse 8)) (ticks I) (ticks I) (ticks I) (ticks I) (ticks I)
+      on-cell (Write s c v) c (cond (ltb k 16) (writeCapped (logOf σ s) (recordOf σ s) (lockAt (σ .lent .locks) c) c v (cap k)) (Refuse 8)) (ticks I) (ticks I) (ticks I) (ticks I) (ticks I)
       (λ lt ph lc.
       let r = runs s ph in
       split (Kept (Write s c v)) (ltb k 16)
@@ -259,15 +259,15 @@ module _ {first : List ℕ} {σ : Store} {T : Ledger} (I : Inv first σ T) where
   none-written s lt ph ins p = tally-flat (T .mine s .wrote) 0 (length first) (omega arith) (λ c _ _. wrote-is s lt I ph ins c ∙ none-targeted s p c)
 
   keep-seal : (s : ℕ) → Kept (Seal s) (planOf (Seal s) σ)
-  unfolding planOf plan readOn writeOn sealOn peekOn observe news over amendBy after answer target sealPlan
+  unfolding planOf plan observe news over amendBy after answer target sealTarget
   keep-seal s =
-      guarded (Kept (Seal s)) (σ .lent) s (recordOf σ s) (eqb (recordOf σ s .phase) 1) (sealPlan (targetIn (logOf σ s) (recordOf σ s .count) 0)) (ticks I) (ticks I) (ticks I) (ticks I)
+      guarded (Kept (Seal s)) (σ .lent) s (recordOf σ s) (eqb (recordOf σ s .phase) 1) (sealTarget (targetIn (logOf σ s) (recordOf σ s .count) 0)) (ticks I) (ticks I) (ticks I) (ticks I)
       (λ lt k h.
       let ph = eqb-true (recordOf σ s .phase) 1 h in
       let r = runs s ph in
       let non : recordOf σ s .phase ≡ 0 → ⊥ = λ e. omega arith in
       let ins = inside I s k non in
-      choose (Kept (Seal s)) sealPlan (target σ s 0)
+      choose (Kept (Seal s)) sealTarget (target σ s 0)
       (λ p.
       rw (amend-commit s (λ t. ended (sealedAt (length first) (T .place) t)) T (r .live) (rw (eq-eqb (tally (T .mine s .wrote) (length first)) 0 (none-written s lt ph ins p), r .open′)))
       (rests s lt I ph ins (none-targeted s p)))
@@ -286,7 +286,7 @@ module _ {first : List ℕ} {σ : Store} {T : Ledger} (I : Inv first σ T) where
     abbrev D : Bool
     D = advanced (length first) (T .place) (T .mine s) .done
 
-    keep-own : recordOf σ s .phase ≡ 2 → otherReaders s (lockAt (σ .lent .locks) c .readers) ≡ 0 → Kept (Advance s) (Own c)
+    keep-own : recordOf σ s .phase ≡ 2 → otherReaders s (lockAt (σ .lent .locks) c .readers) ≡ 0 → Kept (Advance s) (Acquire c)
     unfolding observe news over amendBy after answer
     keep-own ph al =
         let r : Promoting first (T .commits) (T .place) (recordOf σ s .next) (look σ s) (T .mine s) = rw ph at (I .link s) in
@@ -319,12 +319,12 @@ module _ {first : List ℕ} {σ : Store} {T : Ledger} (I : Inv first σ T) where
           (λ d p. rw (handled-more σ s c p ph) (rw p (rw on-103 (releases-more s lt I ins c tgt r ph))))
 
   keep-advance : (s : ℕ) → Kept (Advance s) (planOf (Advance s) σ)
-  unfolding planOf plan readOn writeOn sealOn peekOn observe news over amendBy after answer advancePlan promotePlan claimed target
+  unfolding planOf plan observe news over amendBy after answer advanceTarget promotePlan claimed target
   keep-advance s =
-      guarded (Kept (Advance s)) (σ .lent) s (recordOf σ s) (leb 2 (recordOf σ s .phase)) (advancePlan s (logOf σ s) (recordOf σ s) (lockAt (σ .lent .locks)) (targetIn (logOf σ s) (recordOf σ s .count) (recordOf σ s .next))) (ticks I) (ticks I) (ticks I) (ticks I)
+      guarded (Kept (Advance s)) (σ .lent) s (recordOf σ s) (leb 2 (recordOf σ s .phase)) (advanceTarget s (logOf σ s) (recordOf σ s) (lockAt (σ .lent .locks)) (targetIn (logOf σ s) (recordOf σ s .count) (recordOf σ s .next))) (ticks I) (ticks I) (ticks I) (ticks I)
       (λ lt k h.
       let two = leb-true 2 (recordOf σ s .phase) h in
-      choose (Kept (Advance s)) (advancePlan s (logOf σ s) (recordOf σ s) (lockAt (σ .lent .locks))) (target σ s (recordOf σ s .next)) (λ _. ticks I)
+      choose (Kept (Advance s)) (advanceTarget s (logOf σ s) (recordOf σ s) (lockAt (σ .lent .locks))) (target σ s (recordOf σ s .next)) (λ _. ticks I)
       (λ c tgt.
       split (Kept (Advance s)) (eqb (recordOf σ s .phase) 2)
       (λ q.

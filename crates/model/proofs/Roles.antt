@@ -7,7 +7,7 @@ use mathlib.Core.Bool.{Bool, true, false, _||_}
 use lib.Dec.{eqb}
 use borrow.Author.Tests.{eqb-true, eqb-false}
 use Rattle.model.specs.declared.Lock.{Lock}
-use Rattle.model.specs.Buffers.{join, leave, vacate, withdraw, claim, own}
+use Rattle.model.specs.Buffers.{join, leave, vacate, withdraw, claim, acquire}
 use Rattle.model.specs.Isolation.{at}
 use Rattle.model.specs.Readers.{member, assign}
 use Rattle.model.proofs.Tools.{same, split, clash, member-assign-same, member-assign-other}
@@ -189,8 +189,8 @@ module _ {p q : ℕ → Role} (s : ℕ) (o : (t : ℕ) → (t ≡ s → ⊥) →
         (λ e. leaves h (λ c. eqb-false (l .claimant) s e c))
 
     -- it is promoted: no other reads, and nobody else claims
-    pub takes : holds (p s) ≡ true → holds X ≡ true → owns X ≡ true → s < 16 → ((t : ℕ) → (t ≡ s → ⊥) → member (l .readers) t ≡ false) → Locked q (own s l)
-    unfolding own
+    pub takes : holds (p s) ≡ true → holds X ≡ true → owns X ≡ true → s < 16 → ((t : ℕ) → (t ≡ s → ⊥) → member (l .readers) t ≡ false) → Locked q (acquire s l)
+    unfolding acquire
     takes hp h w lt f =
         record {
           readers = every (λ t x. member (l .readers) t ≡ holds x) (g .readers s ∙ hp ∙ sym h) (λ t n. g .readers t);

@@ -20,7 +20,7 @@ use Rattle.model.specs.Companions.{Serial, serialStep, Undisturbed}
 use Rattle.model.specs.History.{kind, cellOf, is}
 use Rattle.model.specs.Readers.{otherReaders}
 use Rattle.model.specs.Search.{some?, tally}
-use Rattle.model.specs.Step.{number, valueOf, recordOf, releasing, answer, recordFits, guard, known, claimed, newCell, readPlan, writeSlot, writePlan, sealPlan, promotePlan, advancePlan, peekPlan, plan, sessionOf, planOf, reply, logOf, admit, readOn, writeOn, sealOn, peekOn}
+use Rattle.model.specs.Step.{number, valueOf, recordOf, releasing, answer, recordFits, guard, known, claimed, newCell, readSlot, writeSlot, writeCapped, sealTarget, promotePlan, advanceTarget, peekSlot, plan, sessionOf, planOf, reply, logOf, admit, readPlan, writePlan, sealPlan, peekPlan}
 use Rattle.model.proofs.Advancing.{target-some}
 use Rattle.model.proofs.Effects.{slot-some}
 use Rattle.model.proofs.Invariant.{latest, Promoting, Finishing, Inv}
@@ -96,11 +96,11 @@ module _ {start : List ℕ} {σ : Store} {T : Ledger} {z : Serial} (I : Inv star
       (refused 3 refl k) (λ _ ph l. f ph (omega (arith, I .shape .values)))
 
   peek-fine : (s c : ℕ) → Fine (Peek s c) (planOf (Peek s c) σ)
-  unfolding planOf plan readOn writeOn sealOn peekOn peekPlan answer observe news over amendBy serialStep
+  unfolding planOf plan peekSlot answer observe news over amendBy serialStep
   peek-fine s c =
-      on-cell (Peek s c) c (peekPlan (logOf σ s) c (slotIn (logOf σ s) (recordOf σ s .count) c))
+      on-cell (Peek s c) c (peekSlot (logOf σ s) c (slotIn (logOf σ s) (recordOf σ s .count) c))
       (λ _ _.
-      choose (Fine (Peek s c)) (peekPlan (logOf σ s) c) (slotIn (logOf σ s) (recordOf σ s .count) c) (λ _. refused 14 refl (Peek s c))
+      choose (Fine (Peek s c)) (peekSlot (logOf σ s) c) (slotIn (logOf σ s) (recordOf σ s .count) c) (λ _. refused 14 refl (Peek s c))
       (λ k _. split (Fine (Peek s c)) (entryAt (logOf σ s) k .dirty) (λ _. shown) (λ _. shown)))
     where
       shown : Serially start T z (Peek s c) Done
@@ -121,12 +121,12 @@ module _ {start : List ℕ} {σ : Store} {T : Ledger} {z : Serial} (I : Inv star
       (λ n. absurd (own-claim I s a c lc n .1 (unlogged-out σ s c new))) (λ _ _. f)
 
   read-fine : (s c : ℕ) → Fine (Read s c) (planOf (Read s c) σ)
-  unfolding planOf plan readOn writeOn sealOn peekOn readPlan answer observe news over amendBy serialStep slot
+  unfolding planOf plan readSlot answer observe news over amendBy serialStep slot
   read-fine s c =
-      on-cell (Read s c) c (readPlan (logOf σ s) (recordOf σ s) (lockAt (σ .lent .locks) c) c (slotIn (logOf σ s) (recordOf σ s .count) c))
+      on-cell (Read s c) c (readSlot (logOf σ s) (recordOf σ s) (lockAt (σ .lent .locks) c) c (slotIn (logOf σ s) (recordOf σ s .count) c))
       (λ ph lc.
       let a = alone s (runs I s ph .live) in
-      choose (Fine (Read s c)) (readPlan (logOf σ s) (recordOf σ s) (lockAt (σ .lent .locks) c) c) (slot σ s c)
+      choose (Fine (Read s c)) (readSlot (logOf σ s) (recordOf σ s) (lockAt (σ .lent .locks) c) c) (slot σ s c)
       (λ p. on-new (Read s c) c (Enter c) ph lc p (told ph lc (getD (σ .lent .values) c 0) (reads-store I s a c lc ph p)))
       (λ j p. told ph lc (entryAt (logOf σ s) j .current) (reads-entry I s a c lc ph (entryAt (logOf σ s) j) (slot-some σ s c p))))
     where
@@ -140,10 +140,10 @@ module _ {start : List ℕ} {σ : Store} {T : Ledger} {z : Serial} (I : Inv star
           }
 
   write-fine : (s c v : ℕ) → Fine (Write s c v) (planOf (Write s c v) σ)
-  unfolding planOf plan readOn writeOn sealOn peekOn writePlan writeSlot answer observe news over amendBy serialStep slot
+  unfolding planOf plan writeCapped writeSlot answer observe news over amendBy serialStep slot
   write-fine s c v =
       let k = getD (σ .lent .classes) c 0 in
-      on-cell (Write s c v) c (cond (ltb k 16) (writePlan (logOf σ s) (recordOf σ s) (lockAt (σ .lent .locks) c) c v (cap k)) (Refuse 8))
+      on-cell (Write s c v) c (cond (ltb k 16) (writeCapped (logOf σ s) (recordOf σ s) (lockAt (σ .lent .locks) c) c v (cap k)) (Refuse 8))
       (λ ph lc.
       split (Fine (Write s c v)) (ltb k 16)
       (λ _. split (Fine (Write s c v)) (leb v (cap k))
@@ -156,13 +156,13 @@ module _ {start : List ℕ} {σ : Store} {T : Ledger} {z : Serial} (I : Inv star
       wrote ph lc = let r = runs I s ph in answered (Write s c v) Done refl refl refl (follows-write F s (r .live) c v lc (r .open′))
 
   seal-fine : (s : ℕ) → Fine (Seal s) (planOf (Seal s) σ)
-  unfolding planOf plan readOn writeOn sealOn peekOn sealPlan answer observe news over amendBy serialStep target
+  unfolding planOf plan sealTarget answer observe news over amendBy serialStep target
   seal-fine s =
-      passing (Seal s) (eqb (recordOf σ s .phase) 1) (sealPlan (targetIn (logOf σ s) (recordOf σ s .count) 0))
+      passing (Seal s) (eqb (recordOf σ s .phase) 1) (sealTarget (targetIn (logOf σ s) (recordOf σ s .count) 0))
       (λ lt k h.
       let ph = eqb-true (recordOf σ s .phase) 1 h in
       let r = runs I s ph in
-      choose (Fine (Seal s)) sealPlan (target σ s 0)
+      choose (Fine (Seal s)) sealTarget (target σ s 0)
       (λ p.
       answered (Seal s) Committed refl refl refl
       (follows-commit F s (r .live) (λ t. ended (sealedAt (length start) (T .place) t)) refl refl refl
@@ -172,7 +172,7 @@ module _ {start : List ℕ} {σ : Store} {T : Ledger} {z : Serial} (I : Inv star
       (follows-on F s (r .live) (sealedAt (length start) (T .place)) (r .live) refl refl (λ d. absurd (clash (T .mine s .done) d (r .open′))))))
 
   abandon-fine : (s : ℕ) → Fine (Abandon s) (planOf (Abandon s) σ)
-  unfolding planOf plan readOn writeOn sealOn peekOn answer observe news over amendBy serialStep
+  unfolding planOf plan answer observe news over amendBy serialStep
   abandon-fine s =
       passing (Abandon s) (eqb (recordOf σ s .phase) 1 || eqb (recordOf σ s .phase) 2) Cancel
       (λ lt k h.
@@ -187,7 +187,7 @@ module _ {start : List ℕ} {σ : Store} {T : Ledger} {z : Serial} (I : Inv star
       gave-up l d = answered (Abandon s) Done refl refl refl (follows-end F s l d)
 
   begin-fine : (s : ℕ) → (is 1 100 (Begin s) (reply (Begin s) σ) ≡ true → (u : ℕ) → T .mine u .live ≡ false) → Serially start T z (Begin s) (reply (Begin s) σ)
-  unfolding reply planOf plan readOn writeOn sealOn peekOn answer observe serialStep
+  unfolding reply planOf plan answer observe serialStep
   begin-fine s =
       guarded (λ p. (is 1 100 (Begin s) (answer s p σ) ≡ true → (u : ℕ) → T .mine u .live ≡ false) → Fine (Begin s) p)
       (σ .lent) s (recordOf σ s) (eqb (recordOf σ s .phase) 0) Start
@@ -195,12 +195,12 @@ module _ {start : List ℕ} {σ : Store} {T : Ledger} {z : Serial} (I : Inv star
       (λ _ _ _ closed. answered (Begin s) Done refl refl refl (follows-start F s (closed refl)))
 
   advance-fine : (s : ℕ) → Fine (Advance s) (planOf (Advance s) σ)
-  unfolding planOf plan readOn writeOn sealOn peekOn advancePlan promotePlan claimed answer releasing observe news over amendBy serialStep target
+  unfolding planOf plan advanceTarget promotePlan claimed answer releasing observe news over amendBy serialStep target
   advance-fine s =
-      passing (Advance s) (leb 2 (recordOf σ s .phase)) (advancePlan s (logOf σ s) (recordOf σ s) (lockAt (σ .lent .locks)) (targetIn (logOf σ s) (recordOf σ s .count) (recordOf σ s .next)))
+      passing (Advance s) (leb 2 (recordOf σ s .phase)) (advanceTarget s (logOf σ s) (recordOf σ s) (lockAt (σ .lent .locks)) (targetIn (logOf σ s) (recordOf σ s .count) (recordOf σ s .next)))
       (λ lt k h.
       let two = leb-true 2 (recordOf σ s .phase) h in
-      choose (Fine (Advance s)) (advancePlan s (logOf σ s) (recordOf σ s) (lockAt (σ .lent .locks))) (target σ s (recordOf σ s .next)) (λ _. refused 9 refl (Advance s))
+      choose (Fine (Advance s)) (advanceTarget s (logOf σ s) (recordOf σ s) (lockAt (σ .lent .locks))) (target σ s (recordOf σ s .next)) (λ _. refused 9 refl (Advance s))
       (λ c tgt.
       let lc = inside-wrote I s k (λ e. omega arith) c (target-some σ s (recordOf σ s .next) tgt .1) in
       let l = lockAt (σ .lent .locks) c in

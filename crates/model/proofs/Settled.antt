@@ -13,7 +13,7 @@ use Rattle.model.specs.declared.Plan.the-variants.{Refuse, Start, Cancel
 use Rattle.model.specs.Buffers.{Store, targetIn, size, lockAt}
 use Rattle.model.specs.Isolation.{at}
 use Rattle.model.specs.Search.{some?}
-use Rattle.model.specs.Step.{number, recordOf, releasing, answer, guard, advancePlan, plan, sessionOf, planOf, reply, logOf, admit, readOn, writeOn, sealOn, peekOn}
+use Rattle.model.specs.Step.{number, recordOf, releasing, answer, guard, advanceTarget, plan, sessionOf, planOf, reply, logOf, admit, readPlan, writePlan, sealPlan, peekPlan}
 use Rattle.model.proofs.Invariant.{Running, Link, Inv}
 use Rattle.model.proofs.Ledger.{ended, advanced, over, news, Ledger}
 use Rattle.model.proofs.Matching.{OptAll, Same}
@@ -23,7 +23,7 @@ use Rattle.model.proofs.View.{look}
 
 module _ {first : List ℕ} {σ : Store} {T : Ledger} (I : Inv first σ T) where
   pub begin-idle : (s : ℕ) → number (reply (Begin s) σ) ≡ 100 → T .mine s .live ≡ false
-  unfolding reply planOf plan readOn writeOn sealOn peekOn
+  unfolding reply planOf plan
   begin-idle s =
       guarded (λ p. number (answer s p σ) ≡ 100 → T .mine s .live ≡ false) (σ .lent) s (recordOf σ s) (eqb (recordOf σ s .phase) 0) Start
       (unfold answer in λ e. absurd (omega arith)) (unfold answer in λ e. absurd (omega arith)) (unfold answer in λ e. absurd (omega arith)) (unfold answer in λ e. absurd (omega arith))
@@ -31,7 +31,7 @@ module _ {first : List ℕ} {σ : Store} {T : Ledger} (I : Inv first σ T) where
 
   -- a write is answered 100 only before the seal
   pub write-early : (s c v : ℕ) → number (reply (Write s c v) σ) ≡ 100 → (T .mine s .moved ≡ 0) × (T .mine s .snap ≡ 0)
-  unfolding reply planOf plan readOn writeOn sealOn peekOn
+  unfolding reply planOf plan
   write-early s c v =
       guarded (λ p. number (answer s p σ) ≡ 100 → (T .mine s .moved ≡ 0) × (T .mine s .snap ≡ 0)) (σ .lent) s (recordOf σ s) (eqb (recordOf σ s .phase) 1) _
       (unfold answer in λ e. absurd (omega arith)) (unfold answer in λ e. absurd (omega arith)) (unfold answer in λ e. absurd (omega arith)) (unfold answer in λ e. absurd (omega arith))
@@ -66,17 +66,17 @@ module _ {first : List ℕ} {σ : Store} {T : Ledger} (I : Inv first σ T) where
         guarded (Fine k) (σ .lent) s (recordOf σ s) (eqb (recordOf σ s .phase) m) p a b c e (λ _ _ h. absurd (let x = eqb-true (recordOf σ s .phase) m h in omega (arith, late)))
 
     fine-abandon : Fine (Abandon s) (planOf (Abandon s) σ)
-    unfolding planOf plan readOn writeOn sealOn peekOn answer news over
+    unfolding planOf plan answer news over
     fine-abandon =
         guarded (Fine (Abandon s)) (σ .lent) s (recordOf σ s) (eqb (recordOf σ s .phase) 1 || eqb (recordOf σ s .phase) 2) Cancel tt tt tt tt
         (λ _ _ h. absurd (clash (eqb (recordOf σ s .phase) 1 || eqb (recordOf σ s .phase) 2) h
         (rw (ne-eqb (recordOf σ s .phase) 1 (λ e. omega (arith, late)), ne-eqb (recordOf σ s .phase) 2 (λ e. omega (arith, late))))))
 
     fine-advance : Fine (Advance s) (planOf (Advance s) σ)
-    unfolding planOf plan readOn writeOn sealOn peekOn answer news over advancePlan releasing
+    unfolding planOf plan answer news over advanceTarget releasing
     fine-advance =
-        guarded (Fine (Advance s)) (σ .lent) s (recordOf σ s) (leb 2 (recordOf σ s .phase)) (advancePlan s (logOf σ s) (recordOf σ s) (lockAt (σ .lent .locks)) (targetIn (logOf σ s) (recordOf σ s .count) (recordOf σ s .next))) tt tt tt tt
-        (λ _ _ h. choose (Fine (Advance s)) (advancePlan s (logOf σ s) (recordOf σ s) (lockAt (σ .lent .locks))) (targetIn (logOf σ s) (recordOf σ s .count) (recordOf σ s .next)) (λ _. tt)
+        guarded (Fine (Advance s)) (σ .lent) s (recordOf σ s) (leb 2 (recordOf σ s .phase)) (advanceTarget s (logOf σ s) (recordOf σ s) (lockAt (σ .lent .locks)) (targetIn (logOf σ s) (recordOf σ s .count) (recordOf σ s .next))) tt tt tt tt
+        (λ _ _ h. choose (Fine (Advance s)) (advanceTarget s (logOf σ s) (recordOf σ s) (lockAt (σ .lent .locks))) (targetIn (logOf σ s) (recordOf σ s .count) (recordOf σ s .next)) (λ _. tt)
         (λ c _.
         split (Fine (Advance s)) (eqb (recordOf σ s .phase) 2) (λ e. absurd (let x = eqb-true (recordOf σ s .phase) 2 e in omega (arith, late)))
         (λ _. split (Fine (Advance s)) (eqb (recordOf σ s .phase) 3) (λ _. goes-on)
@@ -84,7 +84,7 @@ module _ {first : List ℕ} {σ : Store} {T : Ledger} (I : Inv first σ T) where
 
   pub keeps-settled : (n q : ℕ) (k : Call) → T .mine (sessionOf k) .live ≡ true → T .mine (sessionOf k) .done ≡ true
       → OptAll (λ f. Same (T .mine (sessionOf k)) (f (T .mine (sessionOf k)))) (news n q k (reply k σ))
-  unfolding reply planOf plan readOn writeOn sealOn peekOn answer news over
+  unfolding reply planOf plan answer news over
   keeps-settled n q (Begin s) l d = early n q s l d (Begin s) Start 0 (omega arith) tt tt tt tt
   keeps-settled n q (Read s c) l d = early n q s l d (Read s c) _ 1 (omega arith) tt tt tt tt
   keeps-settled n q (Write s c v) l d = early n q s l d (Write s c v) _ 1 (omega arith) tt tt tt tt

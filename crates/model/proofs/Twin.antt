@@ -7,14 +7,14 @@ use Rattle.model.specs.declared.Call.the-variants.{Peek}
 use Rattle.model.specs.declared.Answer.the-variants.{Done}
 use Rattle.model.specs.declared.Plan.{Plan}
 use Rattle.model.specs.declared.Plan.the-variants.{Refuse, ShowStore, ShowLog}
-use Rattle.model.specs.Buffers.{Store, entryAt, slotIn, part}
-use Rattle.model.specs.Step.{number, recordOf, answer, noWord, shown, peekPlan, plan, planOf, reply, logOf, readOn, writeOn, sealOn, peekOn}
+use Rattle.model.specs.Buffers.{Store, entryAt, slotIn, logIn}
+use Rattle.model.specs.Step.{number, recordOf, answer, noWord, shown, peekShows, peekSlot, plan, planOf, reply, logOf, readPlan, writePlan, sealPlan, peekPlan}
 use Rattle.model.proofs.Preservation.{choose, running-cell}
 use Rattle.model.proofs.Tools.{split}
 
 -- with no word a refusal, or with a word 100
 abbrev pub Tied : ℕ → Plan → Store → Type 0
-Tied s p σ = ((shown s p ≡ noWord) × (number (answer s p σ) ≡ 100 → ⊥)) ⊎ ((shown s p ≡ noWord → ⊥) × (answer s p σ ≡ Done))
+Tied s p σ = ((shown s p σ ≡ noWord) × (number (answer s p σ) ≡ 100 → ⊥)) ⊎ ((shown s p σ ≡ noWord → ⊥) × (answer s p σ ≡ Done))
 
 tied-refusal : (s k : ℕ) (σ : Store) → (k ≡ 100 → ⊥) → Tied s (Refuse k) σ
 unfolding shown answer
@@ -29,12 +29,12 @@ unfolding shown answer
 tied-log s k σ = inr (λ e. let z : _≡_ {A = ℕ} 0 1 = cc in omega arith, refl)
 
 pub peek-and-twin : (σ : Store) (s c : ℕ)
-    → ((shown s (planOf (Peek s c) σ) ≡ noWord) × (number (reply (Peek s c) σ) ≡ 100 → ⊥)) ⊎ ((shown s (planOf (Peek s c) σ) ≡ noWord → ⊥) × (reply (Peek s c) σ ≡ Done))
-unfolding reply planOf plan readOn writeOn sealOn peekOn peekPlan
+    → ((peekShows s c σ ≡ noWord) × (number (reply (Peek s c) σ) ≡ 100 → ⊥)) ⊎ ((peekShows s c σ ≡ noWord → ⊥) × (reply (Peek s c) σ ≡ Done))
+unfolding reply planOf plan peekSlot
 peek-and-twin σ s c =
     let P : Plan → Type 0 = λ p. Tied s p σ in
-    running-cell P (σ .lent) s (recordOf σ s) c (peekPlan (logOf σ s) c (slotIn (logOf σ s) (recordOf σ s .count) c))
+    running-cell P (σ .lent) s (recordOf σ s) c (peekSlot (logOf σ s) c (slotIn (logOf σ s) (recordOf σ s .count) c))
     (tied-refusal s 7 σ (λ e. omega arith)) (tied-refusal s 1 σ (λ e. omega arith)) (tied-refusal s 9 σ (λ e. omega arith))
     (tied-refusal s 2 σ (λ e. omega arith)) (tied-refusal s 3 σ (λ e. omega arith))
-    (λ _ _ _. choose P (peekPlan (logOf σ s) c) (slotIn (logOf σ s) (recordOf σ s .count) c) (λ _. tied-refusal s 14 σ (λ e. omega arith))
+    (λ _ _ _. choose P (peekSlot (logOf σ s) c) (slotIn (logOf σ s) (recordOf σ s .count) c) (λ _. tied-refusal s 14 σ (λ e. omega arith))
     (λ k _. split P (entryAt (logOf σ s) k .dirty) (λ _. tied-log s k σ) (λ _. tied-store s c σ)))

@@ -10,7 +10,7 @@ use lib.ListN.{set}
 use borrow.Author.Tests.{eqb-true, eqb-false, eq-eqb, ne-eqb, ltb-true, ltb-false, lt-ltb}
 use Rattle.model.specs.declared.Call.{Call}
 use Rattle.model.specs.declared.Call.the-variants.{Begin, Read, Write, Seal, Advance, Abandon, Peek}
-use Rattle.model.specs.Buffers.{own}
+use Rattle.model.specs.Buffers.{acquire}
 use Rattle.model.specs.History.{argument, is, Placed, ends, isOpen, ownerOf, writes, wrote, valueWritten, cellsWritten, ReadOf, readsBeforeWriting, seals, snapshot, moves, movesIn, moveNumber, commit, committed}
 use Rattle.model.specs.Isolation.{at}
 use Rattle.model.specs.Search.{tally}

@@ -56,15 +56,15 @@ moveTo phase next x = record { phase = phase; count = x .count; next = next }
 
 -- ---- logs
 
--- session s owns the 128 words from 128 × s: its part of the logs
-unfoldable pub part : List ℕ → ℕ → List ℕ
-part logs s = take 128 (drop (128 * s) logs)
+-- session s has the 128 words from 128 × s: its log
+unfoldable pub logIn : List ℕ → ℕ → List ℕ
+logIn logs s = take 128 (drop (128 * s) logs)
 
--- the logs with that part changed
-unfoldable pub onPart : ℕ → (List ℕ → List ℕ) → List ℕ → List ℕ
-onPart s f logs = take (128 * s) logs ++ (f (part logs s) ++ drop 128 (drop (128 * s) logs))
+-- the logs with that log changed
+unfoldable pub onLog : ℕ → (List ℕ → List ℕ) → List ℕ → List ℕ
+onLog s f logs = take (128 * s) logs ++ (f (logIn logs s) ++ drop 128 (drop (128 * s) logs))
 
--- entry k of a part is the four words from 4 × k
+-- entry k of a log is the four words from 4 × k
 unfoldable pub word : List ℕ → ℕ → ℕ → ℕ
 word log k j = getD log (4 * k + j) 0
 
@@ -165,8 +165,8 @@ withdraw s l = cond (eqb (l .claimant) s) (vacate s l) (leave s l)
 unfoldable pub claim : ℕ → Lock → Lock
 claim s l = record { readers = l .readers; claimant = s; exclusive = l .exclusive }
 
-unfoldable pub own : ℕ → Lock → Lock
-own s l = record { readers = l .readers; claimant = s; exclusive = 1 }
+unfoldable pub acquire : ℕ → Lock → Lock
+acquire s l = record { readers = l .readers; claimant = s; exclusive = 1 }
 
 -- ---- caps and set-up
 
@@ -186,12 +186,15 @@ allFit [] ks = true
 allFit (v ∷ vs) [] = false
 allFit (v ∷ vs) (k ∷ ks) = fits k v && allFit vs ks
 
--- n from 1 to 1,024, classes and locks n long, 2,048 words of logs
+-- n from 1 to 1,024 values; classes, reader sets, claimants and marks n long; 2,048 words of logs
+unfoldable pub lengthsMatch : ℕ → ℕ → ℕ → ℕ → ℕ → ℕ → Bool
+lengthsMatch n classes readers claimants exclusives logs =
+    leb 1 n && leb n 1024 && eqb classes n && eqb readers n && eqb claimants n && eqb exclusives n && eqb logs 2048
+
 unfoldable pub lengthsFit : Buffers → Bool
+unfolding lengthsMatch
 lengthsFit B =
-    let n = size B in
-    leb 1 n && leb n 1024 && eqb (length (B .classes)) n && eqb (length (B .locks .readers)) n
-    && eqb (length (B .locks .claimants)) n && eqb (length (B .locks .exclusives)) n && eqb (length (B .logs)) 2048
+    lengthsMatch (size B) (length (B .classes)) (length (B .locks .readers)) (length (B .locks .claimants)) (length (B .locks .exclusives)) (length (B .logs))
 
 -- all sessions idle, all locks empty, all log words 0; values and classes are not changed
 unfoldable pub fresh : Buffers → Store

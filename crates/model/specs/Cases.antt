@@ -261,7 +261,7 @@ abbrev peeked : State → Call → Part → Peeked
 peeked x k w = record { given = x; call = k; part = w }
 
 unfoldable pub handed : Peeked → Part
-handed r = shown (sessionOf (r .call)) (planOf (r .call) (storeWith (sessionOf (r .call)) (r .given)))
+handed r = let σ = storeWith (sessionOf (r .call)) (r .given) in shown (sessionOf (r .call)) (planOf (r .call) σ) σ
 
 unfoldable pub parts : List Peeked
 parts =

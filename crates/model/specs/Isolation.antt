@@ -10,7 +10,7 @@ use Rattle.model.specs.declared.Call.{Call}
 use Rattle.model.specs.declared.Answer.{Answer}
 use Rattle.model.specs.Buffers.{Store, lockAt}
 use Rattle.model.specs.History.{Event, run, history, Placed, transaction, isOpen, ownerOf, wrote, valueWritten, cellsWritten, ReadOf, readsBeforeWriting, seals, snapshot, moves, commit, committed, startingValue}
-use Rattle.model.specs.Step.{outcome, taken}
+use Rattle.model.specs.Step.{outcome, effect}
 
 abbrev pub All {ℓ} : {A : Type ℓ} → (A → Type 0) → List A → Type 0
 All P [] = Unit
@@ -102,7 +102,7 @@ pub record Demand3 (σ : Store) (calls : List Call) : Type 0 where
 -- call before left
 pub data Ran (σ : Store) : List Call → List Event → Store → Type 0 where
   none : Ran σ [] [] σ
-  then : {ks : List Call} {h : List Event} {x : Store} → Ran σ ks h x → (k : Call) (a : Answer) (y : Store) → outcome a y ≡ taken k x
+  then : {ks : List Call} {h : List Event} {x : Store} → Ran σ ks h x → (k : Call) (a : Answer) (y : Store) → outcome a y ≡ effect k x
       → Ran σ (k ∷ ks) (record { call = k; answer = a } ∷ h) y
 
 -- what code answered, and the store that it left, of a list of calls in their order: those of the model, and demand 3 holds of them

@@ -4,6 +4,7 @@ ghost use mathlib.Core.Path.{_≡_};
 ghost use Prim.Native.Nat.{suc, _<_};
 ghost use lib.ListN.{replicate};
 ghost use Rattle.model.specs.Buffers.{idle, running, withEntry, moveTo};
+ghost use Rattle.model.specs.Step.{number, valueOf};
 
 // A session's record: phase (0 idle, 1 running, 2 promoting, 3 publishing, 4 releasing), entry count, next cell.
 #[repr(C)]
@@ -37,7 +38,7 @@ pub enum Call {
     Peek(u8, u32),
 }
 
-// What a call answers; specs/Step.antt gives the number and the value of each.
+// What a call answers.
 pub enum Answer {
     Done,
     Value(u32),
@@ -46,6 +47,38 @@ pub enum Answer {
     Waiting,
     Committed,
     Refused(u8),
+}
+
+impl Answer {
+    // Document 01's number.
+    pub fn number(self) -> u8
+        ensures { λ r. ⌜ r ≡ number self ⌝ }
+    {
+        match self {
+            Answer::Done => 100,
+            Answer::Value(_) => 101,
+            Answer::Sealed => 102,
+            Answer::Moved => 103,
+            Answer::Waiting => 104,
+            Answer::Committed => 105,
+            Answer::Refused(k) => k,
+        }
+    }
+
+    // The value: 0 except with 101.
+    pub fn value(self) -> u32
+        ensures { λ r. ⌜ r ≡ valueOf self ⌝ }
+    {
+        match self {
+            Answer::Done => 0,
+            Answer::Value(v) => v,
+            Answer::Sealed => 0,
+            Answer::Moved => 0,
+            Answer::Waiting => 0,
+            Answer::Committed => 0,
+            Answer::Refused(_) => 0,
+        }
+    }
 }
 
 // What a call decides before it changes anything; specs/Step.antt says what each leaves and answers.
@@ -61,7 +94,7 @@ pub enum Plan {
     CommitReads,
     BeginPromotion,
     Wait(u32),
-    Own(u32),
+    Acquire(u32),
     Publish(u32, u32),
     Release(u32),
     ShowStore(u32),
@@ -87,7 +120,7 @@ impl Session {
     }
 
     // Going idle: count and next are 0.
-    pub fn rested(self) -> Session
+    pub fn idled(self) -> Session
         ensures { λ r. ⌜ r ≡ idle ⌝ }
     {
         Session {

@@ -10,8 +10,8 @@ use lib.ListN.{length, set}
 use Rattle.model.specs.Readers.{otherReaders}
 use Rattle.model.specs.Search.{below}
 use Rattle.model.specs.Buffers
-use Rattle.model.specs.Buffers.{Locks, Store, size, idle, sessionAt, cellAt, entryAt, lockAt, setLock, claim, vacate}
-use Rattle.model.specs.Step.{outcome, taken, planOf, recordOf, handled, releasing, claimed, promotePlan}
+use Rattle.model.specs.Buffers.{Locks, Store, size, idle, sessionAt, cellAt, entryAt, lockAt, setLock, claim, vacate, logIn}
+use Rattle.model.specs.Step.{outcome, effect, planOf, recordOf, handled, releasing, claimed, promotePlan}
 use Rattle.model.specs.declared.Session.{Session}
 use Rattle.model.specs.declared.Lock.{Lock}
 use Rattle.model.specs.declared.Call.the-variants.{Advance}
@@ -21,9 +21,8 @@ use Rattle.model.specs.declared.Plan.{Plan}
 use Rattle.model.specs.declared.Plan.the-variants.{RollBack, Wait, Own, Publish, Release}
 use Rattle.model.proofs.Tools.{split}
 use Rattle.model.proofs.Laws.{below-is}
-use Rattle.log.specs.Slots.{part}
 use Rattle.locks.specs.Sweeps.{Swept, rolledBackIn}
-use Rattle.decide.specs.Own.{dueOn, advanceOn, handledOn}
+use Rattle.decide.specs.Pieces.{dueOn, advanceOn, handledOn}
 use Rattle.decide.specs.declared.Due.the-variants.{Refused, Slot}
 use Rattle.decide.specs.declared.Handled.{Handled}
 use Rattle.decide.proofs.Agree.{part-below, advance-refused, advance-agree, due-known, handled-agree, handled-moves, handled-releases}
@@ -43,7 +42,7 @@ atEntry σ s k =
 
 module _ (σ : Store) (s : ℕ) (z : Sized σ s) where
   pub due-refused : (r : ℕ) → dueOn (length (σ .lent .values)) (cut (σ .lent .logs) s) (own σ s) ≡ Refused r
-      → outcome (the-variants.Refused r) σ ≡ taken (Advance s) σ
+      → outcome (the-variants.Refused r) σ ≡ effect (Advance s) σ
   unfolding planOf size sessionAt
   due-refused r e = refuses (Advance s) σ r (advance-refused (σ .lent) s (own σ s) (z .lengths) (z .session) r (rw cut-is at e))
 
@@ -52,7 +51,7 @@ module _ (σ : Store) (s : ℕ) (z : Sized σ s) where
     unfolding planOf size sessionAt
     due-planned = advance-agree (σ .lent) s (own σ s) (z .lengths) (z .session) k (rw cut-is at e)
 
-    pub due-carried : carried s (atEntry σ s k) σ ≡ taken (Advance s) σ
+    pub due-carried : carried s (atEntry σ s k) σ ≡ effect (Advance s) σ
     due-carried = carries (Advance s) σ (atEntry σ s k) due-planned
 
     pub due-admits : Admitted σ s × (k < recordOf σ s .count) × (2 ≤ recordOf σ s .phase) × (recordOf σ s .phase ≤ 4)

@@ -4,7 +4,7 @@ use Prim.Native.Nat.{ℕ}
 use mathlib.Core.List.{List}
 use lib.ListN.{getD, set}
 use Rattle.model.specs.Buffers.{Locks, Store, idle, running, withSession, withEntry, moveTo, lockAt, setLock, lockOn, join, claim, own, vacate, appended, updated}
-use Rattle.model.specs.Step.{outcome, taken, reply, step, planOf, sessionOf, recordOf, answer, after, rolledBack, readsDropped, handled, releasing}
+use Rattle.model.specs.Step.{outcome, effect, reply, step, planOf, sessionOf, recordOf, answer, after, rolledBack, readsDropped, handled, releasing}
 use Rattle.model.specs.declared.Session.{Session}
 use Rattle.model.specs.declared.Lock.{Lock}
 use Rattle.model.specs.declared.Call.{Call}
@@ -14,8 +14,8 @@ use Rattle.model.specs.declared.Plan.{Plan}
 use Rattle.model.specs.declared.Plan.the-variants.{Refuse, Start, Tell, Enter, Update, EnterUpdate, RollBack, Cancel, CommitReads, BeginPromotion, Wait, Own, Publish, Release, ShowStore, ShowLog}
 use Rattle.store.specs.Lent.{carried}
 
-pub carries : (k : Call) (σ : Store) (p : Plan) → p ≡ planOf k σ → carried (sessionOf k) p σ ≡ taken k σ
-unfolding carried taken reply step
+pub carries : (k : Call) (σ : Store) (p : Plan) → p ≡ planOf k σ → carried (sessionOf k) p σ ≡ effect k σ
+unfolding carried effect reply step
 carries k σ p e = rw e
 
 -- the lock of a cell, changed by f and put back
@@ -123,5 +123,5 @@ module _ (s : ℕ) (σ : Store) where
     carry-release L e l = rw (l, e, record-is)
 
 -- a call whose plan is a refusal
-pub refuses : (k : Call) (σ : Store) (r : ℕ) → Refuse r ≡ planOf k σ → outcome (Refused r) σ ≡ taken k σ
+pub refuses : (k : Call) (σ : Store) (r : ℕ) → Refuse r ≡ planOf k σ → outcome (Refused r) σ ≡ effect k σ
 refuses k σ r e = carry-refuse (sessionOf k) σ r ∙ carries k σ (Refuse r) e

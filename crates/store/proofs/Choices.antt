@@ -9,14 +9,14 @@ use borrow.Author.Tests.{ltb-true, eqb-true}
 use lib.ListN.{getD}
 use lib.Dec.{T, leb, ltb, eqb}
 use Rattle.model.specs.Buffers.{entryAt, slotIn, cap}
-use Rattle.model.specs.Step.{newCell, claimed}
+use Rattle.model.specs.Step.{newCell, claimed, recordFits, readSlot, readPlan, writeSlot, writeCapped, writePlan}
 use Rattle.model.specs.declared.Session.{Session}
 use Rattle.model.specs.declared.Lock.{Lock}
 use Rattle.model.specs.declared.Plan.{Plan}
 use Rattle.model.specs.declared.Plan.the-variants.{Refuse, Tell, Enter, Update, EnterUpdate, RollBack}
 use Rattle.model.proofs.Tools.{split, which}
 use Rattle.log.proofs.Targets.{slot-some}
-use Rattle.decide.specs.Own.{recordOn, guardOn, readSlot, readOn, writeSlot, writeCapped, writeOn}
+use Rattle.decide.specs.Pieces.{guardOn}
 use Rattle.decide.proofs.Ways.{Entries, record-entries}
 use Rattle.store.proofs.Tags.{tag, Passed, Passes, passed, apart}
 
@@ -31,10 +31,10 @@ module _ (n : ℕ) (log : List ℕ) (x : Session) (l : Lock) (c : ℕ) where
   -- past the tests, and with no entry of the cell
   module _ (known : ℕ → Plan) (new : Plan) where
     past : (p : Plan) → (Entries n log x → c < n → Choice n log x c known new p)
-        → Choice n log x c known new (guardOn (recordOn n log x) (eqb (x .phase) 1) (cond (ltb c n) p (Refuse 3)))
+        → Choice n log x c known new (guardOn (recordFits n log x) (eqb (x .phase) 1) (cond (ltb c n) p (Refuse 3)))
     unfolding guardOn
     past p f =
-        split (Choice n log x c known new) (recordOn n log x)
+        split (Choice n log x c known new) (recordFits n log x)
         (λ w.
         split (Choice n log x c known new) (eqb (x .phase) 1)
         (λ r.
@@ -53,14 +53,14 @@ module _ (n : ℕ) (log : List ℕ) (x : Session) (l : Lock) (c : ℕ) where
   spot : Entries n log x → (k : ℕ) → slotIn log 0 (x .count) c ≡ some k → k < 32
   spot e k q = let i = slot-some log (x .count) c q .0 in let f = e .count in omega arith
 
-  pub read-choice : Choice n log x c (λ k. Tell (entryAt log 0 k .current)) (Enter c) (readOn n log x l c)
-  unfolding readOn readSlot
+  pub read-choice : Choice n log x c (λ k. Tell (entryAt log 0 k .current)) (Enter c) (readPlan n log x l c)
+  unfolding readPlan readSlot
   read-choice =
       past (λ k. Tell (entryAt log 0 k .current)) (Enter c) _
       (λ e i. which (slotIn log 0 (x .count) c) (λ q. rw q (fresh (λ k. Tell (entryAt log 0 k .current)) (Enter c) e i)) (λ k q. rw q (knows k (spot e k q) refl)))
 
-  pub write-choice : (classes : List ℕ) (v : ℕ) → Choice n log x c (λ k. Update k v) (EnterUpdate c v) (writeOn classes n log x l c v)
-  unfolding writeOn writeCapped writeSlot
+  pub write-choice : (classes : List ℕ) (v : ℕ) → Choice n log x c (λ k. Update k v) (EnterUpdate c v) (writePlan classes n log x l c v)
+  unfolding writePlan writeCapped writeSlot
   write-choice classes v =
       past (λ k. Update k v) (EnterUpdate c v) _
       (λ e i.

@@ -7,7 +7,7 @@ use native.Mathlib.Omega.{arith}
 use lib.Dec.{T, eqb}
 use lib.ListN.{length, getD, length-set}
 use Rattle.model.specs.Buffers.{Locks, Store, size, idle, sessionAt, withEntry, lockAt, lockOn, entryAt, join, appended, updated}
-use Rattle.model.specs.Step.{outcome, taken, planOf, sessionOf}
+use Rattle.model.specs.Step.{outcome, effect, planOf, sessionOf, readPlan, writePlan}
 use Rattle.model.specs.declared.Session.{Session}
 use Rattle.model.specs.declared.Lock.{Lock}
 use Rattle.model.specs.declared.Call.{Call}
@@ -16,7 +16,6 @@ use Rattle.model.specs.declared.Answer.the-variants.{Done, Value, Refused}
 use Rattle.model.specs.declared.Plan.{Plan}
 use Rattle.model.specs.declared.Plan.the-variants.{Refuse, Tell, Enter, Update, EnterUpdate, RollBack}
 use Rattle.locks.specs.Sweeps.{rolledBackIn}
-use Rattle.decide.specs.Own.{readOn, writeOn}
 use Rattle.decide.proofs.Ways.{Entries}
 use Rattle.decide.proofs.Agree.{read-agree, write-agree}
 use Rattle.store.specs.Lent.{Sized}
@@ -54,7 +53,7 @@ abbrev pub OfWrite : (Store → Call → ℕ → Lock → (ℕ → Plan) → Pla
 OfWrite D σ s c v l p = D σ (Write s c v) c l (λ j. Update j v) (EnterUpdate c v) p
 
 module _ (σ : Store) (s c : ℕ) (z : Sized σ s) (l : Lock) (f : l ≡ lockAt (σ .lent .locks) c) (p : Plan) where
-  pub read-decided : p ≡ readOn (length (σ .lent .values)) (cut (σ .lent .logs) s) (own σ s) l c → OfRead Decided σ s c l p
+  pub read-decided : p ≡ readPlan (length (σ .lent .values)) (cut (σ .lent .logs) s) (own σ s) l c → OfRead Decided σ s c l p
   unfolding planOf size sessionAt
   read-decided e =
       record {
@@ -64,7 +63,7 @@ module _ (σ : Store) (s c : ℕ) (z : Sized σ s) (l : Lock) (f : l ≡ lockAt 
         choice = rw e (read-choice (length (σ .lent .values)) (cut (σ .lent .logs) s) (own σ s) l c);
       }
 
-  pub write-decided : (v : ℕ) → p ≡ writeOn (σ .lent .classes) (length (σ .lent .classes)) (cut (σ .lent .logs) s) (own σ s) l c v
+  pub write-decided : (v : ℕ) → p ≡ writePlan (σ .lent .classes) (length (σ .lent .classes)) (cut (σ .lent .logs) s) (own σ s) l c v
       → OfWrite Decided σ s c v l p
   unfolding planOf size sessionAt
   write-decided v e =
@@ -80,7 +79,7 @@ module _ (σ : Store) (s c : ℕ) (z : Sized σ s) (l : Lock) (f : l ≡ lockAt 
 
 module _ {σ : Store} {k : Call} {c : ℕ} {l : Lock} {known : ℕ → Plan} {new p : Plan} where
   module _ (d : Decided σ k c l known new p) where
-    pub refused : (r : ℕ) → p ≡ Refuse r → outcome (Refused r) σ ≡ taken k σ
+    pub refused : (r : ℕ) → p ≡ Refuse r → outcome (Refused r) σ ≡ effect k σ
     refused r e = refuses k σ r (sym e ∙ d .planned)
 
     -- a match told the variant of a new cell, or passed over those of a known cell, of refusals and of a new cell
@@ -105,7 +104,7 @@ module _ {σ : Store} {k : Call} {c : ℕ} {l : Lock} {known : ℕ → Plan} {ne
 
   pub rolled : Left σ k c l known new p → (L : Locks) (y : Session)
       → L ≡ rolledBackIn (cut (σ .lent .logs) (sessionOf k)) (own σ (sessionOf k) .count) (sessionOf k) (σ .lent .locks) → y ≡ idle
-      → outcome (Refused 6) (leaves σ (sessionOf k) L (σ .lent .values) (σ .lent .logs) y) ≡ taken k σ
+      → outcome (Refused 6) (leaves σ (sessionOf k) L (σ .lent .values) (σ .lent .logs) y) ≡ effect k σ
   unfolding sessionAt
   rolled w L y h e =
       carry-roll-back (sessionOf k) σ L y (rolled-back σ (sessionOf k) (own σ (sessionOf k)) (w .entries .count) L h) e
@@ -114,12 +113,12 @@ module _ {σ : Store} {k : Call} {c : ℕ} {l : Lock} {known : ℕ → Plan} {ne
 -- ---- read
 
 module _ {σ : Store} {s c : ℕ} {l : Lock} {p : Plan} where
-  pub read-told : OfRead Decided σ s c l p → (v : ℕ) → p ≡ Tell v → outcome (Value v) σ ≡ taken (Read s c) σ
+  pub read-told : OfRead Decided σ s c l p → (v : ℕ) → p ≡ Tell v → outcome (Value v) σ ≡ effect (Read s c) σ
   read-told d v e = carry-tell s σ v ∙ carries (Read s c) σ (Tell v) (sym e ∙ d .planned)
 
   pub read-entered : OfRead New σ s c l p → (L : Locks) (P : List ℕ) (y : Session) → L ≡ lockOn c (join s) (σ .lent .locks)
       → P ≡ appended (cut (σ .lent .logs) s) 0 (own σ s .count) c (getD (σ .lent .values) c 0) → y ≡ withEntry (own σ s)
-      → outcome (Value (getD (σ .lent .values) c 0)) (leaves σ s L (σ .lent .values) (puts (σ .lent .logs) s P) y) ≡ taken (Read s c) σ
+      → outcome (Value (getD (σ .lent .values) c 0)) (leaves σ s L (σ .lent .values) (puts (σ .lent .logs) s P) y) ≡ effect (Read s c) σ
   unfolding sessionAt
   read-entered n L P y g h e =
       let z = n .decided .sized in
@@ -135,7 +134,7 @@ module _ {σ : Store} {s c v : ℕ} {l : Lock} {p : Plan} where
     can-update = in-part d j (when-known (d .choice) j u e)
 
     pub write-updated : (P : List ℕ) → P ≡ updated (cut (σ .lent .logs) s) 0 j u
-        → outcome Done (keeps σ (σ .lent .locks) (puts (σ .lent .logs) s P)) ≡ taken (Write s c v) σ
+        → outcome Done (keeps σ (σ .lent .locks) (puts (σ .lent .logs) s P)) ≡ effect (Write s c v) σ
     write-updated P h =
         carry-update s σ j u (puts (σ .lent .logs) s P)
         (put-updated (σ .lent .logs) s (lengths-of (σ .lent) (d .sized .lengths) .logs) (d .sized .session) P j u (when-known (d .choice) j u e) h)
@@ -172,7 +171,7 @@ module _ {σ : Store} {s c v : ℕ} {l : Lock} {p : Plan} where
       logs-still = ap length updated-is ∙ simp length-set
 
       pub write-entered : (L : Locks) (y : Session) → L ≡ lockOn c (join s) (σ .lent .locks) → y ≡ withEntry (own σ s)
-          → outcome Done (leaves σ s L (σ .lent .values) (puts (puts (σ .lent .logs) s P) s Q) y) ≡ taken (Write s c v) σ
+          → outcome Done (leaves σ s L (σ .lent .values) (puts (puts (σ .lent .logs) s P) s Q) y) ≡ effect (Write s c v) σ
       unfolding sessionAt
       write-entered L y g r =
           let f : u ≡ v = let w = n .plan in cc in

@@ -9,14 +9,14 @@ use native.Mathlib.Nat.{mod-eq-of-lt, mod-lt, zero-lt-suc}
 use native.Mathlib.Omega.{arith}
 use lib.Seq.{set-getD}
 use Rattle.model.specs.Buffers.{Locks, Store, sessionAt, withSession, withEntry, moveTo, appended, updated}
-use Rattle.model.specs.Step.{Outcome, outcome}
+use Rattle.model.specs.Step.{Outcome, outcome, recordFits, readPlan, writePlan, sealPlan}
 use Rattle.model.specs.declared.Session.{Session}
 use Rattle.model.specs.declared.Sessions.{Sessions}
 use Rattle.model.specs.declared.Answer.{Answer}
 use Rattle.model.specs.declared.Lock.{Lock}
 use Rattle.model.specs.declared.Plan.{Plan}
 use Rattle.locks.specs.Sweeps.{Swept, rolledBackIn, DropsReads}
-use Rattle.decide.specs.Own.{recordOn, tested, readOn, writeOn, sealOn, dueOn, advanceOn, handledOn}
+use Rattle.decide.specs.Pieces.{tested, dueOn, advanceOn, handledOn}
 use Rattle.decide.specs.declared.Due.{Due}
 use Rattle.decide.specs.declared.Handled.{Handled}
 use Rattle.decide.proofs.Ways.{Entries}
@@ -55,14 +55,14 @@ put-place σ s y L vs W a o l p = rw (low-place s l) p
 -- ---- x in place of a record y that it is
 
 module _ (x y : Session) (e : x ≡ y) where
-  pub read-at : (n : ℕ) (A : List ℕ) (l : Lock) (c : ℕ) {p : Plan} → p ≡ readOn n A x l c → p ≡ readOn n A y l c
-  read-at n A l c h = h ∙ ap (λ z. readOn n A z l c) e
+  pub read-at : (n : ℕ) (A : List ℕ) (l : Lock) (c : ℕ) {p : Plan} → p ≡ readPlan n A x l c → p ≡ readPlan n A y l c
+  read-at n A l c h = h ∙ ap (λ z. readPlan n A z l c) e
 
-  pub write-at : (cs : List ℕ) (n : ℕ) (A : List ℕ) (l : Lock) (c v : ℕ) {p : Plan} → p ≡ writeOn cs n A x l c v → p ≡ writeOn cs n A y l c v
-  write-at cs n A l c v h = h ∙ ap (λ z. writeOn cs n A z l c v) e
+  pub write-at : (cs : List ℕ) (n : ℕ) (A : List ℕ) (l : Lock) (c v : ℕ) {p : Plan} → p ≡ writePlan cs n A x l c v → p ≡ writePlan cs n A y l c v
+  write-at cs n A l c v h = h ∙ ap (λ z. writePlan cs n A z l c v) e
 
-  pub seal-at : (n : ℕ) (A : List ℕ) {p : Plan} → p ≡ sealOn n A x → p ≡ sealOn n A y
-  seal-at n A h = h ∙ ap (sealOn n A) e
+  pub seal-at : (n : ℕ) (A : List ℕ) {p : Plan} → p ≡ sealPlan n A x → p ≡ sealPlan n A y
+  seal-at n A h = h ∙ ap (sealPlan n A) e
 
   pub due-at : (n : ℕ) (A : List ℕ) {d : Due} → d ≡ dueOn n A x → d ≡ dueOn n A y
   due-at n A h = h ∙ ap (dueOn n A) e
@@ -73,8 +73,8 @@ module _ (x y : Session) (e : x ≡ y) where
   pub handled-at : (A : List ℕ) (c : ℕ) {r : Handled} → r ≡ handledOn A x c → r ≡ handledOn A y c
   handled-at A c h = h ∙ ap (λ z. handledOn A z c) e
 
-  pub tested-at : (n : ℕ) (A : List ℕ) (fit : ℕ → Bool) {r : ℕ} → r ≡ tested (recordOn n A x) (fit (x .phase)) → r ≡ tested (recordOn n A y) (fit (y .phase))
-  tested-at n A fit h = h ∙ ap (λ z. tested (recordOn n A z) (fit (z .phase))) e
+  pub tested-at : (n : ℕ) (A : List ℕ) (fit : ℕ → Bool) {r : ℕ} → r ≡ tested (recordFits n A x) (fit (x .phase)) → r ≡ tested (recordFits n A y) (fit (y .phase))
+  tested-at n A fit h = h ∙ ap (λ z. tested (recordFits n A z) (fit (z .phase))) e
 
   pub room-at : y .count < 32 → x .count < 32
   room-at h = rw e h

@@ -10,13 +10,12 @@ use lib.ListN.{length, getD, set, take, drop, length-set, take-append-drop}
 use lib.Seq.{length-take-le, set-append-left, sets}
 use mir.Syntax.{w64}
 use mir.Val.{Fits}
-use Rattle.model.specs.Buffers.{Locks, Store, idle, cellAt, appended, updated, sweep, leave, withdraw}
+use Rattle.model.specs.Buffers.{Locks, Store, idle, cellAt, appended, updated, sweep, leave, withdraw, logIn}
 use Rattle.model.specs.Step.{rolledBack, readsDropped}
 use Rattle.model.specs.declared.Session.{Session}
 use Rattle.model.specs.declared.Lock.{Lock}
-use Rattle.log.specs.Slots.{part}
 use Rattle.locks.specs.Sweeps.{locksOf, Swept, rolledBackIn, DropsReads}
-use Rattle.decide.proofs.Agree.{part-length, part-cell, part-publishes}
+use Rattle.decide.proofs.Agree.{log-length, part-cell, part-publishes}
 use Rattle.decide.proofs.Ways.{Entries}
 use Rattle.store.specs.Lent.{Sized}
 use Rattle.store.proofs.Refusals.{Lengths, lengths-of}
@@ -64,7 +63,7 @@ module _ (logs : List ℕ) (s : ℕ) where
         ∙ ap (λ (r : List ℕ). sets r (suc j) vs) (put-set p i j v (omega arith) e)
 
     pub part-long : length (cut logs s) ≡ 128
-    part-long = rw cut-is (part-length logs s long low)
+    part-long = rw cut-is (log-length logs s long low)
 
     pub put-appended : (p : List ℕ) (k c v : ℕ) → k < 32 → p ≡ appended (cut logs s) 0 k c v → puts logs s p ≡ appended logs s k c v
     unfolding appended

@@ -12,16 +12,14 @@ use base.Fml.{GName}
 use denote.Ref.{RefT}
 use lib.Dec.{T, ltb, eqb}
 use lib.ListN.{length, take, drop, length-take, length-drop}
-use Rattle.model.specs.Buffers.{Store, size, sessionAt, entryAt, slotIn, lengthsFit}
-use Rattle.model.specs.Step.{outcome, taken, planOf, recordOf, recordFits, guard, known, peekPlan, plan, shown}
+use Rattle.model.specs.Buffers.{Store, size, sessionAt, entryAt, slotIn, lengthsFit, logIn}
+use Rattle.model.specs.Step.{outcome, effect, planOf, recordOf, recordFits, guard, known, peekSlot, plan, shown, peekPlan}
 use Rattle.model.specs.declared.Call.the-variants.{Peek}
 use Rattle.model.specs.declared.Answer.the-variants.{Done, Refused}
 use Rattle.model.specs.declared.Plan.{Plan}
 use Rattle.model.specs.declared.Plan.the-variants.{Refuse, ShowStore, ShowLog}
 use Rattle.model.proofs.Tools.{split}
 use Rattle.model.proofs.Laws.{find-some}
-use Rattle.log.specs.Slots.{part}
-use Rattle.decide.specs.Own.{peekOn}
 use Rattle.decide.proofs.Agree.{record-agree, peek-agree}
 use Rattle.decide.proofs.Ways.{record-entries}
 use Rattle.store.specs.Lent.{carried, Sized, PartOf, Handed}
@@ -31,7 +29,7 @@ use Rattle.store.proofs.Parts.{own, cut, cut-is}
 use Rattle.store.proofs.Tags.{tag, Passed, passed, apart}
 
 -- what the code decides from the part is the model's plan
-pub peek-planned : (σ : Store) (s : ℕ) → Sized σ s → (c : ℕ) (p : Plan) → p ≡ peekOn (length (σ .lent .values)) (cut (σ .lent .logs) s) (own σ s) c
+pub peek-planned : (σ : Store) (s : ℕ) → Sized σ s → (c : ℕ) (p : Plan) → p ≡ peekPlan (length (σ .lent .values)) (cut (σ .lent .logs) s) (own σ s) c
     → p ≡ planOf (Peek s c) σ
 unfolding planOf size sessionAt
 peek-planned σ s z c p e = e ∙ rw cut-is (peek-agree (σ .lent) s (own σ s) (z .lengths) (z .session) c)
@@ -45,8 +43,8 @@ data Peeked (σ : Store) (s c : ℕ) (p : Plan) : Type 0 where
 
 module _ (σ : Store) (s c : ℕ) where
   by-slot : lengthsFit (σ .lent) ≡ true → s < 16 → c < length (σ .lent .values) → recordOf σ s .count ≤ 32
-      → (o : Option ℕ) → slotIn (σ .lent .logs) s (recordOf σ s .count) c ≡ o → Peeked σ s c (peekPlan (σ .lent) s c o)
-  unfolding peekPlan slotIn
+      → (o : Option ℕ) → slotIn (σ .lent .logs) s (recordOf σ s .count) c ≡ o → Peeked σ s c (peekSlot (σ .lent) s c o)
+  unfolding peekSlot slotIn
   by-slot l h i few none e = turned 14 refl
   by-slot l h i few (some k) e =
       let f = find-some _ c (recordOf σ s .count) e .0 in
@@ -123,10 +121,10 @@ module _ (σ : Store) (s c : ℕ) (p : Plan) (e : p ≡ planOf (Peek s c) σ) wh
   pub peek-logged : (k : ℕ) → p ≡ ShowLog k → 128 * s + (4 * k + 2) + 1 ≤ length (σ .lent .logs)
   peek-logged k f = of-log way k f
 
-  pub peek-refused : (r : ℕ) → p ≡ Refuse r → outcome (Refused r) σ ≡ taken (Peek s c) σ
+  pub peek-refused : (r : ℕ) → p ≡ Refuse r → outcome (Refused r) σ ≡ effect (Peek s c) σ
   peek-refused r f = refuses (Peek s c) σ r (sym f ∙ e)
 
-  pub peek-done : Passed 0 p → outcome Done σ ≡ taken (Peek s c) σ
+  pub peek-done : Passed 0 p → outcome Done σ ≡ effect (Peek s c) σ
   peek-done a = of-either way a ∙ carries (Peek s c) σ p e
 
   -- past both words there is a refusal

@@ -7,14 +7,13 @@ use native.Mathlib.Omega.{arith}
 use borrow.Author.Tests.{le-ltb, eqb-true, leb-true}
 use lib.ListN.{length}
 use lib.Dec.{leb, eqb}
-use Rattle.model.specs.Buffers.{Buffers, Store, size, lengthsFit}
-use Rattle.model.specs.Step.{outcome, taken, planOf, plan, guard, sessionOf}
+use Rattle.model.specs.Buffers.{Buffers, Store, size, lengthsFit, lengthsMatch}
+use Rattle.model.specs.Step.{outcome, effect, planOf, plan, guard, sessionOf}
 use Rattle.model.specs.declared.Call.{Call}
 use Rattle.model.specs.declared.Call.the-variants.{Begin, Read, Write, Seal, Advance, Abandon, Peek}
 use Rattle.model.specs.declared.Answer.the-variants.{Refused}
 use Rattle.model.specs.declared.Plan.the-variants.{Refuse}
 use Rattle.model.proofs.Tools.{test, clash, and-false}
-use Rattle.decide.specs.Own.{lengthsOn}
 use Rattle.store.specs.Lent.{Sized}
 use Rattle.store.proofs.Carry.{refuses}
 
@@ -69,15 +68,15 @@ plan-1 (Peek s c) σ h l = rw (h, le-ltb s 16 l)
 
 -- the same where the code has the test's answer b: of the call's whole outcome, and of what is known past both
 module _ (σ : Store) (b : Bool)
-    (e : b ≡ lengthsOn (length (σ .lent .values)) (length (σ .lent .classes)) (length (σ .lent .locks .readers)) (length (σ .lent .locks .claimants)) (length (σ .lent .locks .exclusives)) (length (σ .lent .logs))) where
+    (e : b ≡ lengthsMatch (length (σ .lent .values)) (length (σ .lent .classes)) (length (σ .lent .locks .readers)) (length (σ .lent .locks .claimants)) (length (σ .lent .locks .exclusives)) (length (σ .lent .logs))) where
   pub fit-is : b ≡ lengthsFit (σ .lent)
-  unfolding lengthsOn lengthsFit size
+  unfolding lengthsMatch lengthsFit size
   fit-is = e
 
-  pub refused-7 : (k : Call) → b ≡ false → outcome (Refused 7) σ ≡ taken k σ
+  pub refused-7 : (k : Call) → b ≡ false → outcome (Refused 7) σ ≡ effect k σ
   refused-7 k h = refuses k σ 7 (sym (plan-7 k σ (sym fit-is ∙ h)))
 
-  pub refused-1 : (k : Call) → b ≡ true → 15 < sessionOf k → outcome (Refused 1) σ ≡ taken k σ
+  pub refused-1 : (k : Call) → b ≡ true → 15 < sessionOf k → outcome (Refused 1) σ ≡ effect k σ
   refused-1 k h l = refuses k σ 1 (sym (plan-1 k σ (sym fit-is ∙ h) l))
 
   pub sized : (s : ℕ) → b ≡ true → s ≤ 15 → Sized σ s

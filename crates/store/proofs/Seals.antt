@@ -8,7 +8,7 @@ use borrow.Author.Tests.{eqb-true}
 use lib.Dec.{eqb}
 use lib.ListN.{length}
 use Rattle.model.specs.Buffers.{Store, size, idle, sessionAt, moveTo, targetIn}
-use Rattle.model.specs.Step.{outcome, taken, planOf, sealPlan}
+use Rattle.model.specs.Step.{outcome, effect, planOf, sealTarget, recordFits, sealPlan}
 use Rattle.model.specs.declared.Session.{Session}
 use Rattle.model.specs.declared.Call.the-variants.{Seal}
 use Rattle.model.specs.declared.Answer.the-variants.{Sealed, Committed, Refused}
@@ -16,7 +16,7 @@ use Rattle.model.specs.declared.Plan.{Plan}
 use Rattle.model.specs.declared.Plan.the-variants.{Refuse, CommitReads, BeginPromotion}
 use Rattle.model.proofs.Tools.{split}
 use Rattle.locks.specs.Sweeps.{locksOf, Swept, DropsReads}
-use Rattle.decide.specs.Own.{recordOn, guardOn, sealOn}
+use Rattle.decide.specs.Pieces.{guardOn}
 use Rattle.decide.proofs.Agree.{seal-agree}
 use Rattle.decide.proofs.Ways.{Entries, record-entries}
 use Rattle.store.specs.Lent.{Sized}
@@ -32,15 +32,15 @@ data Sealing (n : ℕ) (log : List ℕ) (x : Session) (p : Plan) : Type 0 where
   promotes : Entries n log x → p ≡ BeginPromotion → Sealing n log x p
 
 module _ (n : ℕ) (log : List ℕ) (x : Session) where
-  by-target : Entries n log x → (o : Option ℕ) → Sealing n log x (sealPlan o)
-  unfolding sealPlan
+  by-target : Entries n log x → (o : Option ℕ) → Sealing n log x (sealTarget o)
+  unfolding sealTarget
   by-target w none = commits w refl
   by-target w (some c) = promotes w refl
 
-  sealing : Sealing n log x (sealOn n log x)
-  unfolding sealOn guardOn
+  sealing : Sealing n log x (sealPlan n log x)
+  unfolding sealPlan guardOn
   sealing =
-      split (Sealing n log x) (recordOn n log x)
+      split (Sealing n log x) (recordFits n log x)
       (λ w.
       split (Sealing n log x) (eqb (x .phase) 1)
       (λ f. let h = eqb-true (x .phase) 1 f in by-target (record-entries n log x w (omega arith)) (targetIn log 0 (x .count) 0))
@@ -59,7 +59,7 @@ module _ {n : ℕ} {log : List ℕ} {x : Session} {p : Plan} where
   begins (promotes w e) h i = e
 
 -- of the code's plan p, which is no refusal
-module _ (n : ℕ) (log : List ℕ) (x : Session) (p : Plan) (e : p ≡ sealOn n log x) (h : Passed 0 p) where
+module _ (n : ℕ) (log : List ℕ) (x : Session) (p : Plan) (e : p ≡ sealPlan n log x) (h : Passed 0 p) where
   way : Sealing n log x p
   way = rw e (sealing n log x)
 
@@ -70,12 +70,12 @@ module _ (n : ℕ) (log : List ℕ) (x : Session) (p : Plan) (e : p ≡ sealOn n
   seal-begins = begins way h
 
 -- the code's plan p
-module _ (σ : Store) (s : ℕ) (z : Sized σ s) (p : Plan) (e : p ≡ sealOn (length (σ .lent .values)) (cut (σ .lent .logs) s) (own σ s)) where
+module _ (σ : Store) (s : ℕ) (z : Sized σ s) (p : Plan) (e : p ≡ sealPlan (length (σ .lent .values)) (cut (σ .lent .logs) s) (own σ s)) where
   pub seal-planned : p ≡ planOf (Seal s) σ
   unfolding planOf size sessionAt
   seal-planned = e ∙ rw cut-is (seal-agree (σ .lent) s (own σ s) (z .lengths) (z .session))
 
-  pub seal-refused : (r : ℕ) → p ≡ Refuse r → outcome (Refused r) σ ≡ taken (Seal s) σ
+  pub seal-refused : (r : ℕ) → p ≡ Refuse r → outcome (Refused r) σ ≡ effect (Seal s) σ
   seal-refused r f = refuses (Seal s) σ r (sym f ∙ seal-planned)
 
   -- no refusal
@@ -89,14 +89,14 @@ module _ (σ : Store) (s : ℕ) (z : Sized σ s) (p : Plan) (e : p ≡ sealOn (l
     -- the reader sets R that the sweep leaves, and the record y
     module _ (R : List ℕ) (d : DropsReads (cut (σ .lent .logs) s) (own σ s .count) s (σ .lent .locks .readers) R) (y : Session) where
       pub seal-commits : p ≡ CommitReads → y ≡ idle
-          → outcome Committed (leaves σ s (locksOf R (σ .lent .locks .claimants) (σ .lent .locks .exclusives)) (σ .lent .values) (σ .lent .logs) y) ≡ taken (Seal s) σ
+          → outcome Committed (leaves σ s (locksOf R (σ .lent .locks .claimants) (σ .lent .locks .exclusives)) (σ .lent .values) (σ .lent .logs) y) ≡ effect (Seal s) σ
       unfolding sessionAt
       seal-commits f i =
           let l = locks-even σ s z in
           carry-commit-reads s σ _ y (reads-dropped σ s (own σ s) (fit .count) R (l .0) (l .1) d) i ∙ carries (Seal s) σ CommitReads (sym f ∙ seal-planned)
 
       pub seal-promotes : Passed 8 p → y ≡ moveTo 2 0 (own σ s)
-          → outcome Sealed (leaves σ s (locksOf R (σ .lent .locks .claimants) (σ .lent .locks .exclusives)) (σ .lent .values) (σ .lent .logs) y) ≡ taken (Seal s) σ
+          → outcome Sealed (leaves σ s (locksOf R (σ .lent .locks .claimants) (σ .lent .locks .exclusives)) (σ .lent .values) (σ .lent .logs) y) ≡ effect (Seal s) σ
       unfolding sessionAt
       seal-promotes f i =
           let l = locks-even σ s z in

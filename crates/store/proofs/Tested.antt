@@ -5,14 +5,14 @@ use Prim.Native.Nat.{ℕ}
 use lib.Dec.{eqb}
 use lib.ListN.{length}
 use Rattle.model.specs.Buffers.{Locks, Store, size, idle, running, sessionAt}
-use Rattle.model.specs.Step.{outcome, taken, planOf}
+use Rattle.model.specs.Step.{outcome, effect, planOf, recordFits}
 use Rattle.model.specs.declared.Session.{Session}
 use Rattle.model.specs.declared.Call.the-variants.{Begin, Abandon}
 use Rattle.model.specs.declared.Answer.the-variants.{Done, Refused}
 use Rattle.model.specs.declared.Plan.the-variants.{Start, Cancel}
 use Rattle.model.proofs.Tools.{clash}
 use Rattle.locks.specs.Sweeps.{rolledBackIn}
-use Rattle.decide.specs.Own.{recordOn, tested}
+use Rattle.decide.specs.Pieces.{tested}
 use Rattle.decide.proofs.Ways.{Entries, passes, record-entries}
 use Rattle.decide.proofs.Agree.{begin-passes, begin-turned, abandon-passes, abandon-turned}
 use Rattle.store.specs.Lent.{Sized}
@@ -20,19 +20,19 @@ use Rattle.store.proofs.Carry.{carries, refuses, leaves, carry-start, c
 use Rattle.store.proofs.Parts.{own, cut, cut-is, rolled-back}
 
 module _ (σ : Store) (s : ℕ) (z : Sized σ s) (r : ℕ) where
-  module _ (e : r ≡ tested (recordOn (length (σ .lent .values)) (cut (σ .lent .logs) s) (own σ s)) (eqb (own σ s .phase) 0)) where
-    pub begin-refused : (r ≡ 0 → ⊥) → outcome (Refused r) σ ≡ taken (Begin s) σ
+  module _ (e : r ≡ tested (recordFits (length (σ .lent .values)) (cut (σ .lent .logs) s) (own σ s)) (eqb (own σ s .phase) 0)) where
+    pub begin-refused : (r ≡ 0 → ⊥) → outcome (Refused r) σ ≡ effect (Begin s) σ
     unfolding planOf size sessionAt
     begin-refused n = refuses (Begin s) σ r (begin-turned (σ .lent) s (own σ s) (z .lengths) (z .session) r (rw cut-is at e) n)
 
     pub begin-starts : r ≡ 0 → (y : Session) → y ≡ running
-        → outcome Done (leaves σ s (σ .lent .locks) (σ .lent .values) (σ .lent .logs) y) ≡ taken (Begin s) σ
+        → outcome Done (leaves σ s (σ .lent .locks) (σ .lent .values) (σ .lent .logs) y) ≡ effect (Begin s) σ
     unfolding planOf size sessionAt
     begin-starts o y f =
         carry-start s σ y f ∙ carries (Begin s) σ Start (begin-passes (σ .lent) s (own σ s) (z .lengths) (z .session) (sym (rw cut-is at e) ∙ o))
 
-  module _ (e : r ≡ tested (recordOn (length (σ .lent .values)) (cut (σ .lent .logs) s) (own σ s)) (eqb (own σ s .phase) 1 || eqb (own σ s .phase) 2)) where
-    pub abandon-refused : (r ≡ 0 → ⊥) → outcome (Refused r) σ ≡ taken (Abandon s) σ
+  module _ (e : r ≡ tested (recordFits (length (σ .lent .values)) (cut (σ .lent .logs) s) (own σ s)) (eqb (own σ s .phase) 1 || eqb (own σ s .phase) 2)) where
+    pub abandon-refused : (r ≡ 0 → ⊥) → outcome (Refused r) σ ≡ effect (Abandon s) σ
     unfolding planOf size sessionAt
     abandon-refused n = refuses (Abandon s) σ r (abandon-turned (σ .lent) s (own σ s) (z .lengths) (z .session) r (rw cut-is at e) n)
 
@@ -44,7 +44,7 @@ module _ (σ : Store) (s : ℕ) (z : Sized σ s) (r : ℕ) where
           record-entries _ _ _ (w .0) (λ q. clash (eqb (own σ s .phase) 1 || eqb (own σ s .phase) 2) (w .1) (rw q))
 
       pub abandon-cancels : (L : Locks) (y : Session) → L ≡ rolledBackIn (cut (σ .lent .logs) s) (own σ s .count) s (σ .lent .locks) → y ≡ idle
-          → outcome Done (leaves σ s L (σ .lent .values) (σ .lent .logs) y) ≡ taken (Abandon s) σ
+          → outcome Done (leaves σ s L (σ .lent .values) (σ .lent .logs) y) ≡ effect (Abandon s) σ
       unfolding planOf size sessionAt
       abandon-cancels L y l f =
           carry-cancel s σ L y (rolled-back σ s (own σ s) (abandon-entries .count) L l) f

@@ -3,12 +3,11 @@
 ghost use mathlib.Core.Path.{_≡_};
 ghost use Prim.Native.Nat.{_+_, _*_, _%_, _<_, _≤_};
 ghost use lib.ListN.{length, replicate};
-ghost use Rattle.model.specs.Buffers.{sessionAt, withSession, cellAt, lockAt, lockOn, join, appended};
-ghost use Rattle.model.specs.Step.{outcome, taken, setUpTaken, planOf, shown};
+ghost use Rattle.model.specs.Buffers.{sessionAt, withSession, cellAt, lockAt, lockOn, join, appended, logIn};
+ghost use Rattle.model.specs.Step.{outcome, effect, setUpEffect, planOf, shown};
 ghost use Rattle.model.specs.declared.Call.the-variants.{Begin, Read, Write, Seal, Advance, Abandon, Peek};
-ghost use Rattle.log.specs.Slots.{part};
 ghost use Rattle.locks.specs.Sweeps.{locksOf};
-ghost use Rattle.decide.specs.Own.{advanceOn};
+ghost use Rattle.decide.specs.Pieces.{advanceOn};
 ghost use Rattle.store.specs.Lent.{storeOf, carried, Sized, Admitted, Handed};
 use decide::Due;
 use model::Answer;
@@ -60,7 +59,7 @@ pub fn set_up(
     exclusives: &mut [u8],
     logs: &mut [u32],
 ) -> Reply
-    ensures { λ r. ⌜ outcome (r .answer) (storeOf (now (values .entry)) (now (classes .entry)) (now (readers .exit)) (now (claimants .exit)) (now (exclusives .exit)) (now (logs .exit)) (r .sessions)) ≡ setUpTaken (storeOf (now (values .entry)) (now (classes .entry)) (now (readers .entry)) (now (claimants .entry)) (now (exclusives .entry)) (now (logs .entry)) sessions) ⌝ }
+    ensures { λ r. ⌜ outcome (r .answer) (storeOf (now (values .entry)) (now (classes .entry)) (now (readers .exit)) (now (claimants .exit)) (now (exclusives .exit)) (now (logs .exit)) (r .sessions)) ≡ setUpEffect (storeOf (now (values .entry)) (now (classes .entry)) (now (readers .entry)) (now (claimants .entry)) (now (exclusives .entry)) (now (logs .entry)) sessions) ⌝ }
 {
     if !decide::lengths_fit(
         values.len(),
@@ -107,7 +106,7 @@ fn begin_own(
     session: u8,
 ) -> Kept
     requires { ⌜ x ≡ sessionAt sessions (session % 16) ⌝ }
-    ensures { λ r. ⌜ outcome (r .answer) (storeOf (now (values .entry)) (now (classes .entry)) (now (readers .entry)) (now (claimants .entry)) (now (exclusives .entry)) (now (logs .entry)) (withSession sessions (session % 16) (r .session))) ≡ taken (Begin session) (storeOf (now (values .entry)) (now (classes .entry)) (now (readers .entry)) (now (claimants .entry)) (now (exclusives .entry)) (now (logs .entry)) sessions) ⌝ }
+    ensures { λ r. ⌜ outcome (r .answer) (storeOf (now (values .entry)) (now (classes .entry)) (now (readers .entry)) (now (claimants .entry)) (now (exclusives .entry)) (now (logs .entry)) (withSession sessions (session % 16) (r .session))) ≡ effect (Begin session) (storeOf (now (values .entry)) (now (classes .entry)) (now (readers .entry)) (now (claimants .entry)) (now (exclusives .entry)) (now (logs .entry)) sessions) ⌝ }
 {
     let n = values.len();
     if !decide::lengths_fit(
@@ -158,7 +157,7 @@ pub fn begin(
     logs: &[u32],
     session: u8,
 ) -> Reply
-    ensures { λ r. ⌜ outcome (r .answer) (storeOf (now (values .entry)) (now (classes .entry)) (now (readers .entry)) (now (claimants .entry)) (now (exclusives .entry)) (now (logs .entry)) (r .sessions)) ≡ taken (Begin session) (storeOf (now (values .entry)) (now (classes .entry)) (now (readers .entry)) (now (claimants .entry)) (now (exclusives .entry)) (now (logs .entry)) sessions) ⌝ }
+    ensures { λ r. ⌜ outcome (r .answer) (storeOf (now (values .entry)) (now (classes .entry)) (now (readers .entry)) (now (claimants .entry)) (now (exclusives .entry)) (now (logs .entry)) (r .sessions)) ≡ effect (Begin session) (storeOf (now (values .entry)) (now (classes .entry)) (now (readers .entry)) (now (claimants .entry)) (now (exclusives .entry)) (now (logs .entry)) sessions) ⌝ }
 {
     let i = (session % 16) as usize;
     let x = sessions.records[i];
@@ -218,7 +217,7 @@ fn read_as(
     cell: u32,
 ) -> Kept
     requires { ⌜ (Sized (storeOf (now values) (now classes) (now readers) (now claimants) (now exclusives) (now logs) sessions) session) × (x ≡ sessionAt sessions session) ⌝ }
-    ensures { λ r. ⌜ outcome (r .answer) (storeOf (now (values .entry)) (now (classes .entry)) (now (readers .exit)) (now (claimants .exit)) (now (exclusives .exit)) (now (logs .exit)) (withSession sessions session (r .session))) ≡ taken (Read session cell) (storeOf (now (values .entry)) (now (classes .entry)) (now (readers .entry)) (now (claimants .entry)) (now (exclusives .entry)) (now (logs .entry)) sessions) ⌝ }
+    ensures { λ r. ⌜ outcome (r .answer) (storeOf (now (values .entry)) (now (classes .entry)) (now (readers .exit)) (now (claimants .exit)) (now (exclusives .exit)) (now (logs .exit)) (withSession sessions session (r .session))) ≡ effect (Read session cell) (storeOf (now (values .entry)) (now (classes .entry)) (now (readers .entry)) (now (claimants .entry)) (now (exclusives .entry)) (now (logs .entry)) sessions) ⌝ }
 {
     let n = values.len();
     let i = session as usize;
@@ -259,7 +258,7 @@ fn read_as(
         };
     }
     locks::roll_back(&logs[a..e], count, readers, claimants, exclusives, session);
-    let y = x.rested();
+    let y = x.idled();
     Kept {
         answer: Answer::Refused(6),
         session: y,
@@ -280,7 +279,7 @@ fn read_own(
     cell: u32,
 ) -> Kept
     requires { ⌜ x ≡ sessionAt sessions (session % 16) ⌝ }
-    ensures { λ r. ⌜ outcome (r .answer) (storeOf (now (values .entry)) (now (classes .entry)) (now (readers .exit)) (now (claimants .exit)) (now (exclusives .exit)) (now (logs .exit)) (withSession sessions (session % 16) (r .session))) ≡ taken (Read session cell) (storeOf (now (values .entry)) (now (classes .entry)) (now (readers .entry)) (now (claimants .entry)) (now (exclusives .entry)) (now (logs .entry)) sessions) ⌝ }
+    ensures { λ r. ⌜ outcome (r .answer) (storeOf (now (values .entry)) (now (classes .entry)) (now (readers .exit)) (now (claimants .exit)) (now (exclusives .exit)) (now (logs .exit)) (withSession sessions (session % 16) (r .session))) ≡ effect (Read session cell) (storeOf (now (values .entry)) (now (classes .entry)) (now (readers .entry)) (now (claimants .entry)) (now (exclusives .entry)) (now (logs .entry)) sessions) ⌝ }
 {
     if !decide::lengths_fit(
         values.len(),
@@ -327,7 +326,7 @@ pub fn read(
     session: u8,
     cell: u32,
 ) -> Reply
-    ensures { λ r. ⌜ outcome (r .answer) (storeOf (now (values .entry)) (now (classes .entry)) (now (readers .exit)) (now (claimants .exit)) (now (exclusives .exit)) (now (logs .exit)) (r .sessions)) ≡ taken (Read session cell) (storeOf (now (values .entry)) (now (classes .entry)) (now (readers .entry)) (now (claimants .entry)) (now (exclusives .entry)) (now (logs .entry)) sessions) ⌝ }
+    ensures { λ r. ⌜ outcome (r .answer) (storeOf (now (values .entry)) (now (classes .entry)) (now (readers .exit)) (now (claimants .exit)) (now (exclusives .exit)) (now (logs .exit)) (r .sessions)) ≡ effect (Read session cell) (storeOf (now (values .entry)) (now (classes .entry)) (now (readers .entry)) (now (claimants .entry)) (now (exclusives .entry)) (now (logs .entry)) sessions) ⌝ }
 {
     let i = (session % 16) as usize;
     let x = sessions.records[i];
@@ -364,7 +363,7 @@ fn write_as(
     value: u32,
 ) -> Kept
     requires { ⌜ (Sized (storeOf (now values) (now classes) (now readers) (now claimants) (now exclusives) (now logs) sessions) session) × (x ≡ sessionAt sessions session) ⌝ }
-    ensures { λ r. ⌜ outcome (r .answer) (storeOf (now (values .entry)) (now (classes .entry)) (now (readers .exit)) (now (claimants .exit)) (now (exclusives .exit)) (now (logs .exit)) (withSession sessions session (r .session))) ≡ taken (Write session cell value) (storeOf (now (values .entry)) (now (classes .entry)) (now (readers .entry)) (now (claimants .entry)) (now (exclusives .entry)) (now (logs .entry)) sessions) ⌝ }
+    ensures { λ r. ⌜ outcome (r .answer) (storeOf (now (values .entry)) (now (classes .entry)) (now (readers .exit)) (now (claimants .exit)) (now (exclusives .exit)) (now (logs .exit)) (withSession sessions session (r .session))) ≡ effect (Write session cell value) (storeOf (now (values .entry)) (now (classes .entry)) (now (readers .entry)) (now (claimants .entry)) (now (exclusives .entry)) (now (logs .entry)) sessions) ⌝ }
 {
     let i = session as usize;
     let a = 128 * i;
@@ -406,7 +405,7 @@ fn write_as(
         };
     }
     locks::roll_back(&logs[a..e], count, readers, claimants, exclusives, session);
-    let y = x.rested();
+    let y = x.idled();
     Kept {
         answer: Answer::Refused(6),
         session: y,
@@ -428,7 +427,7 @@ fn write_own(
     value: u32,
 ) -> Kept
     requires { ⌜ x ≡ sessionAt sessions (session % 16) ⌝ }
-    ensures { λ r. ⌜ outcome (r .answer) (storeOf (now (values .entry)) (now (classes .entry)) (now (readers .exit)) (now (claimants .exit)) (now (exclusives .exit)) (now (logs .exit)) (withSession sessions (session % 16) (r .session))) ≡ taken (Write session cell value) (storeOf (now (values .entry)) (now (classes .entry)) (now (readers .entry)) (now (claimants .entry)) (now (exclusives .entry)) (now (logs .entry)) sessions) ⌝ }
+    ensures { λ r. ⌜ outcome (r .answer) (storeOf (now (values .entry)) (now (classes .entry)) (now (readers .exit)) (now (claimants .exit)) (now (exclusives .exit)) (now (logs .exit)) (withSession sessions (session % 16) (r .session))) ≡ effect (Write session cell value) (storeOf (now (values .entry)) (now (classes .entry)) (now (readers .entry)) (now (claimants .entry)) (now (exclusives .entry)) (now (logs .entry)) sessions) ⌝ }
 {
     if !decide::lengths_fit(
         values.len(),
@@ -477,7 +476,7 @@ pub fn write(
     cell: u32,
     value: u32,
 ) -> Reply
-    ensures { λ r. ⌜ outcome (r .answer) (storeOf (now (values .entry)) (now (classes .entry)) (now (readers .exit)) (now (claimants .exit)) (now (exclusives .exit)) (now (logs .exit)) (r .sessions)) ≡ taken (Write session cell value) (storeOf (now (values .entry)) (now (classes .entry)) (now (readers .entry)) (now (claimants .entry)) (now (exclusives .entry)) (now (logs .entry)) sessions) ⌝ }
+    ensures { λ r. ⌜ outcome (r .answer) (storeOf (now (values .entry)) (now (classes .entry)) (now (readers .exit)) (now (claimants .exit)) (now (exclusives .exit)) (now (logs .exit)) (r .sessions)) ≡ effect (Write session cell value) (storeOf (now (values .entry)) (now (classes .entry)) (now (readers .entry)) (now (claimants .entry)) (now (exclusives .entry)) (now (logs .entry)) sessions) ⌝ }
 {
     let i = (session % 16) as usize;
     let x = sessions.records[i];
@@ -513,7 +512,7 @@ fn seal_own(
     session: u8,
 ) -> Kept
     requires { ⌜ x ≡ sessionAt sessions (session % 16) ⌝ }
-    ensures { λ r. ⌜ outcome (r .answer) (storeOf (now (values .entry)) (now (classes .entry)) (now (readers .exit)) (now (claimants .entry)) (now (exclusives .entry)) (now (logs .entry)) (withSession sessions (session % 16) (r .session))) ≡ taken (Seal session) (storeOf (now (values .entry)) (now (classes .entry)) (now (readers .entry)) (now (claimants .entry)) (now (exclusives .entry)) (now (logs .entry)) sessions) ⌝ }
+    ensures { λ r. ⌜ outcome (r .answer) (storeOf (now (values .entry)) (now (classes .entry)) (now (readers .exit)) (now (claimants .entry)) (now (exclusives .entry)) (now (logs .entry)) (withSession sessions (session % 16) (r .session))) ≡ effect (Seal session) (storeOf (now (values .entry)) (now (classes .entry)) (now (readers .entry)) (now (claimants .entry)) (now (exclusives .entry)) (now (logs .entry)) sessions) ⌝ }
 {
     let n = values.len();
     if !decide::lengths_fit(
@@ -548,7 +547,7 @@ fn seal_own(
     let count = x.count as usize;
     locks::drop_reads(&logs[a..e], count, readers, session);
     if let Plan::CommitReads = p {
-        let y = x.rested();
+        let y = x.idled();
         return Kept {
             answer: Answer::Committed,
             session: y,
@@ -572,7 +571,7 @@ pub fn seal(
     logs: &[u32],
     session: u8,
 ) -> Reply
-    ensures { λ r. ⌜ outcome (r .answer) (storeOf (now (values .entry)) (now (classes .entry)) (now (readers .exit)) (now (claimants .entry)) (now (exclusives .entry)) (now (logs .entry)) (r .sessions)) ≡ taken (Seal session) (storeOf (now (values .entry)) (now (classes .entry)) (now (readers .entry)) (now (claimants .entry)) (now (exclusives .entry)) (now (logs .entry)) sessions) ⌝ }
+    ensures { λ r. ⌜ outcome (r .answer) (storeOf (now (values .entry)) (now (classes .entry)) (now (readers .exit)) (now (claimants .entry)) (now (exclusives .entry)) (now (logs .entry)) (r .sessions)) ≡ effect (Seal session) (storeOf (now (values .entry)) (now (classes .entry)) (now (readers .entry)) (now (claimants .entry)) (now (exclusives .entry)) (now (logs .entry)) sessions) ⌝ }
 {
     let i = (session % 16) as usize;
     let x = sessions.records[i];
@@ -632,7 +631,7 @@ fn advance_at(
     if let Plan::RollBack = p {
         let count = x.count as usize;
         locks::roll_back(log, count, readers, claimants, exclusives, session);
-        let y = x.rested();
+        let y = x.idled();
         return Kept {
             answer: Answer::Refused(6),
             session: y,
@@ -641,7 +640,7 @@ fn advance_at(
     let h = decide::handle(log, values.len(), x, cell);
     let answer = h.answer;
     let y = h.session;
-    if let Plan::Own(_) = p {
+    if let Plan::Acquire(_) = p {
         locks::put(
             readers,
             claimants,
@@ -678,7 +677,7 @@ fn advance_own(
     session: u8,
 ) -> Kept
     requires { ⌜ x ≡ sessionAt sessions (session % 16) ⌝ }
-    ensures { λ r. ⌜ outcome (r .answer) (storeOf (now (values .exit)) (now (classes .entry)) (now (readers .exit)) (now (claimants .exit)) (now (exclusives .exit)) (now (logs .entry)) (withSession sessions (session % 16) (r .session))) ≡ taken (Advance session) (storeOf (now (values .entry)) (now (classes .entry)) (now (readers .entry)) (now (claimants .entry)) (now (exclusives .entry)) (now (logs .entry)) sessions) ⌝ }
+    ensures { λ r. ⌜ outcome (r .answer) (storeOf (now (values .exit)) (now (classes .entry)) (now (readers .exit)) (now (claimants .exit)) (now (exclusives .exit)) (now (logs .entry)) (withSession sessions (session % 16) (r .session))) ≡ effect (Advance session) (storeOf (now (values .entry)) (now (classes .entry)) (now (readers .entry)) (now (claimants .entry)) (now (exclusives .entry)) (now (logs .entry)) sessions) ⌝ }
 {
     let n = values.len();
     if !decide::lengths_fit(
@@ -735,7 +734,7 @@ pub fn advance(
     logs: &[u32],
     session: u8,
 ) -> Reply
-    ensures { λ r. ⌜ outcome (r .answer) (storeOf (now (values .exit)) (now (classes .entry)) (now (readers .exit)) (now (claimants .exit)) (now (exclusives .exit)) (now (logs .entry)) (r .sessions)) ≡ taken (Advance session) (storeOf (now (values .entry)) (now (classes .entry)) (now (readers .entry)) (now (claimants .entry)) (now (exclusives .entry)) (now (logs .entry)) sessions) ⌝ }
+    ensures { λ r. ⌜ outcome (r .answer) (storeOf (now (values .exit)) (now (classes .entry)) (now (readers .exit)) (now (claimants .exit)) (now (exclusives .exit)) (now (logs .entry)) (r .sessions)) ≡ effect (Advance session) (storeOf (now (values .entry)) (now (classes .entry)) (now (readers .entry)) (now (claimants .entry)) (now (exclusives .entry)) (now (logs .entry)) sessions) ⌝ }
 {
     let i = (session % 16) as usize;
     let x = sessions.records[i];
@@ -769,7 +768,7 @@ fn abandon_own(
     session: u8,
 ) -> Kept
     requires { ⌜ x ≡ sessionAt sessions (session % 16) ⌝ }
-    ensures { λ r. ⌜ outcome (r .answer) (storeOf (now (values .entry)) (now (classes .entry)) (now (readers .exit)) (now (claimants .exit)) (now (exclusives .exit)) (now (logs .entry)) (withSession sessions (session % 16) (r .session))) ≡ taken (Abandon session) (storeOf (now (values .entry)) (now (classes .entry)) (now (readers .entry)) (now (claimants .entry)) (now (exclusives .entry)) (now (logs .entry)) sessions) ⌝ }
+    ensures { λ r. ⌜ outcome (r .answer) (storeOf (now (values .entry)) (now (classes .entry)) (now (readers .exit)) (now (claimants .exit)) (now (exclusives .exit)) (now (logs .entry)) (withSession sessions (session % 16) (r .session))) ≡ effect (Abandon session) (storeOf (now (values .entry)) (now (classes .entry)) (now (readers .entry)) (now (claimants .entry)) (now (exclusives .entry)) (now (logs .entry)) sessions) ⌝ }
 {
     let n = values.len();
     if !decide::lengths_fit(
@@ -804,7 +803,7 @@ fn abandon_own(
     }
     let count = x.count as usize;
     locks::roll_back(&logs[a..e], count, readers, claimants, exclusives, session);
-    let y = x.rested();
+    let y = x.idled();
     Kept {
         answer: Answer::Done,
         session: y,
@@ -822,7 +821,7 @@ pub fn abandon(
     logs: &[u32],
     session: u8,
 ) -> Reply
-    ensures { λ r. ⌜ outcome (r .answer) (storeOf (now (values .entry)) (now (classes .entry)) (now (readers .exit)) (now (claimants .exit)) (now (exclusives .exit)) (now (logs .entry)) (r .sessions)) ≡ taken (Abandon session) (storeOf (now (values .entry)) (now (classes .entry)) (now (readers .entry)) (now (claimants .entry)) (now (exclusives .entry)) (now (logs .entry)) sessions) ⌝ }
+    ensures { λ r. ⌜ outcome (r .answer) (storeOf (now (values .entry)) (now (classes .entry)) (now (readers .exit)) (now (claimants .exit)) (now (exclusives .exit)) (now (logs .entry)) (r .sessions)) ≡ effect (Abandon session) (storeOf (now (values .entry)) (now (classes .entry)) (now (readers .entry)) (now (claimants .entry)) (now (exclusives .entry)) (now (logs .entry)) sessions) ⌝ }
 {
     let i = (session % 16) as usize;
     let x = sessions.records[i];
@@ -930,7 +929,7 @@ pub fn peek_number(
     session: u8,
     cell: u32,
 ) -> Reply
-    ensures { λ r. ⌜ outcome (r .answer) (storeOf (now (values .entry)) (now (classes .entry)) (now (readers .entry)) (now (claimants .entry)) (now (exclusives .entry)) (now (logs .entry)) (r .sessions)) ≡ taken (Peek session cell) (storeOf (now (values .entry)) (now (classes .entry)) (now (readers .entry)) (now (claimants .entry)) (now (exclusives .entry)) (now (logs .entry)) sessions) ⌝ }
+    ensures { λ r. ⌜ outcome (r .answer) (storeOf (now (values .entry)) (now (classes .entry)) (now (readers .entry)) (now (claimants .entry)) (now (exclusives .entry)) (now (logs .entry)) (r .sessions)) ≡ effect (Peek session cell) (storeOf (now (values .entry)) (now (classes .entry)) (now (readers .entry)) (now (claimants .entry)) (now (exclusives .entry)) (now (logs .entry)) sessions) ⌝ }
 {
     let p = peek_plan(
         sessions,
@@ -968,7 +967,7 @@ pub fn step(
     exclusives: &mut [u8],
     logs: &mut [u32],
 ) -> Reply
-    ensures { λ r. ⌜ outcome (r .answer) (storeOf (now (values .exit)) (now (classes .entry)) (now (readers .exit)) (now (claimants .exit)) (now (exclusives .exit)) (now (logs .exit)) (r .sessions)) ≡ taken call (storeOf (now (values .entry)) (now (classes .entry)) (now (readers .entry)) (now (claimants .entry)) (now (exclusives .entry)) (now (logs .entry)) sessions) ⌝ }
+    ensures { λ r. ⌜ outcome (r .answer) (storeOf (now (values .exit)) (now (classes .entry)) (now (readers .exit)) (now (claimants .exit)) (now (exclusives .exit)) (now (logs .exit)) (r .sessions)) ≡ effect call (storeOf (now (values .entry)) (now (classes .entry)) (now (readers .entry)) (now (claimants .entry)) (now (exclusives .entry)) (now (logs .entry)) sessions) ⌝ }
 {
     match call {
         Call::Begin(s) => begin(

@@ -11,7 +11,7 @@ use borrow.Author.Tests.{le-leb, lt-leb, eq-eqb, ne-eqb}
 use Rattle.model.specs.declared.Answer.{Answer}
 use Rattle.model.specs.declared.Sessions.{Sessions}
 use Rattle.model.specs.Buffers.{Store, size, lengthsFit, fresh}
-use Rattle.model.specs.Step.{number, Outcome, outcome, setUpAnswer, setUp, setUpTaken}
+use Rattle.model.specs.Step.{number, Outcome, outcome, setUpAnswer, setUp, setUpEffect}
 use Rattle.model.proofs.Demand3.{set-up-fresh}
 use Rattle.model.proofs.Tools.{test}
 use Rattle.store.specs.Lent.{storeOf}
@@ -39,13 +39,13 @@ module _ (vs ks readers claimants exclusives logs : List ℕ) (ss : Sessions) (f
   unfolding fresh size given
   same-fresh = refl
 
-  module _ {a : Answer} {φ : Store} (e : outcome a φ ≡ setUpTaken (storeOf vs ks readers claimants exclusives logs ss)) where
+  module _ {a : Answer} {φ : Store} (e : outcome a φ ≡ setUpEffect (storeOf vs ks readers claimants exclusives logs ss)) where
     said : a ≡ setUpAnswer (given vs ks .lent)
-    unfolding setUpTaken
+    unfolding setUpEffect
     said = ap (λ (r : Outcome). r .answer) e ∙ same-answer
 
     left : number a ≡ 100 → φ ≡ setUp (given vs ks)
-    unfolding setUpTaken
+    unfolding setUpEffect
     left h =
         let mine = ap (λ (r : Outcome). r .answer) e in
         ap (λ (r : Outcome). r .store) e

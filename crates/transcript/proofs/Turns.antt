@@ -8,7 +8,7 @@ use types.Run.{OneOf, miss}
 use Rattle.model.specs.declared.Answer.{Answer}
 use Rattle.model.specs.declared.Call.{Call}
 use Rattle.model.specs.Buffers.{Store}
-use Rattle.model.specs.Step.{Outcome, outcome, taken, step, reply}
+use Rattle.model.specs.Step.{Outcome, outcome, effect, step, reply}
 use Rattle.transcript.specs.declared.Next.{Next}
 use Rattle.transcript.specs.declared.Next.the-variants as next
 use Rattle.transcript.specs.Items.{Item, asked, following}
@@ -20,8 +20,8 @@ use Rattle.transcript.proofs.Next.{the-type}
 use Rattle.transcript.proofs.Puts.{after}
 
 module _ (k : Call) (i : ℕ) (o : List ℕ) (at : ℕ) (σ : Store) where
-  pub turning : {x : Answer} {φ : Store} {a : ℕ} {p : List ℕ} → outcome x φ ≡ taken k σ → out a p ≡ put o at (answerLine i x) → turned (out a p) φ ≡ turn k i o at σ
-  unfolding taken turn
+  pub turning : {x : Answer} {φ : Store} {a : ℕ} {p : List ℕ} → outcome x φ ≡ effect k σ → out a p ≡ put o at (answerLine i x) → turned (out a p) φ ≡ turn k i o at σ
+  unfolding effect turn
   turning {x} {φ} {a} {p} e f =
       let said : x ≡ reply k σ = ap (λ (r : Outcome). r .answer) e in
       let left : φ ≡ step k σ = ap (λ (r : Outcome). r .store) e in

@@ -10,7 +10,7 @@ returns c = handle-next _ _ _ _ (c .before .before .target .ensures) _ (c .befor
 returns-2 : tie.Need-returns-2
 returns-2 c =
     let i = c .before .before in
-    handle-rests _ _ _ _ (i .before .target .ensures) _ (i .if1 .left) (c .before .if2 .taken) (c .rested .ensures)
+    handle-rests _ _ _ _ (i .before .target .ensures) _ (i .if1 .left) (c .before .if2 .taken) (c .idled .ensures)
 
 returns-3 : tie.Need-returns-3
 returns-3 c =

@@ -1,12 +1,12 @@
 -- Each return is a way through `peekOn`.
 use borrow.Author.Needs.{needs}
-use Rattle.model.specs.Step.{guard, peekOn}
+use Rattle.model.specs.Step.{guard, peekPlan}
 use Rattle.decide.proofs.Ways.{turned, room, inside, peek-outside, peek-new, peek-written, peek-read}
 use Rattle.decide.proofs.peek.Statement.{statement}
 use Rattle.decide.proofs.peek.Tie as tie
 
 returns : tie.Need-returns
-unfolding guard peekOn
+unfolding guard peekPlan
 returns c = turned _ _ _ _ (c .before .tests .ensures) (c .if1 .taken)
 
 returns-2 : tie.Need-returns-2

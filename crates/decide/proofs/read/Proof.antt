@@ -1,12 +1,12 @@
 -- Each return is a way through `readOn`: the tests' number, the cell outside, known, or new.
 use borrow.Author.Needs.{needs}
-use Rattle.model.specs.Step.{guard, readOn}
+use Rattle.model.specs.Step.{guard, readPlan}
 use Rattle.decide.proofs.Ways.{turned, room, inside, read-outside, read-known, read-new}
 use Rattle.decide.proofs.read.Statement.{statement}
 use Rattle.decide.proofs.read.Tie as tie
 
 returns : tie.Need-returns
-unfolding guard readOn
+unfolding guard readPlan
 returns c = turned _ _ _ _ (c .before .tests .ensures) (c .if1 .taken)
 
 returns-2 : tie.Need-returns-2

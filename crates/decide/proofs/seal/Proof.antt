@@ -1,12 +1,12 @@
 -- Each return is a way through `sealOn`.
 use borrow.Author.Needs.{needs}
-use Rattle.model.specs.Step.{guard, sealOn}
+use Rattle.model.specs.Step.{guard, sealPlan}
 use Rattle.decide.proofs.Ways.{turned, room, seal-writes, seal-reads}
 use Rattle.decide.proofs.seal.Statement.{statement}
 use Rattle.decide.proofs.seal.Tie as tie
 
 returns : tie.Need-returns
-unfolding guard sealOn
+unfolding guard sealPlan
 returns c = turned _ _ _ _ (c .before .tests .ensures) (c .if1 .taken)
 
 any-publishes-requires : tie.Need-any-publishes-requires

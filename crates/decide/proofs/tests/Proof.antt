@@ -2,7 +2,7 @@
 use mathlib.Core.Path.{sym, _∙_}
 use borrow.Author.Tests.{not-true, not-false}
 use borrow.Author.Needs.{needs}
-use Rattle.decide.specs.Own.{tested}
+use Rattle.decide.specs.Pieces.{tested}
 use Rattle.decide.proofs.tests.Statement.{statement}
 use Rattle.decide.proofs.tests.Tie as tie
 

@@ -1,12 +1,12 @@
 -- Each return is a way through `writeOn`: the tests' number, the cell outside, an odd class, or what the cap leaves.
 use borrow.Author.Needs.{needs}
-use Rattle.model.specs.Step.{guard, writeOn}
+use Rattle.model.specs.Step.{guard, writePlan}
 use Rattle.decide.proofs.Ways.{turned, few, write-outside, write-odd, write-class}
 use Rattle.decide.proofs.write.Statement.{statement}
 use Rattle.decide.proofs.write.Tie as tie
 
 returns : tie.Need-returns
-unfolding guard writeOn
+unfolding guard writePlan
 returns c = turned _ _ _ _ (c .before .tests .ensures) (c .if1 .taken)
 
 returns-2 : tie.Need-returns-2

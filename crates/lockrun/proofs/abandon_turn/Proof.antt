@@ -26,7 +26,7 @@ returns-3 : tie.Need-returns-3
 returns-3 c = let a = c .before .before .before .before .before .before .before .before .before .before .before .args in abandon-turned (a .values .now) (a .classes .now) (a .logs .now) (a .t1) (a .locks) (a .session) (sizes (c .before .before .before .before .before)) _ _ (c .before .before .tests .ensures) (c .before .if3 .taken) _ (c .kept3 .ensures)
 
 returns-4 : tie.Need-returns-4
-returns-4 c = let a = c .before .before .before .before .before .before .before .before .before .before .before .args in abandons (a .values .now) (a .classes .now) (a .logs .now) (a .t1) (a .locks) (a .session) (sizes (c .before .before .before .before .before)) _ _ (c .before .before .tests .ensures) (c .before .if3 .left) _ (c .rested .ensures)
+returns-4 c = let a = c .before .before .before .before .before .before .before .before .before .before .before .args in abandons (a .values .now) (a .classes .now) (a .logs .now) (a .t1) (a .locks) (a .session) (sizes (c .before .before .before .before .before)) _ _ (c .before .before .tests .ensures) (c .before .if3 .left) _ (c .idled .ensures)
 
 pub abandon-turn-spec : {M : Type 1} → statement M
 abandon-turn-spec =

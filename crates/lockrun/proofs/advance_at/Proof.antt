@@ -23,7 +23,7 @@ element-set-from-sessions : tie.Need-element-set-from-sessions
 element-set-from-sessions c = let a = c .before .before .before .before .before .before .before .before .before .before .before .args in can-advance (a .values .now) (a .classes .now) (a .logs .now) (a .t1) (a .locks) (a .session) (a .k) (c .before .before .before .before .before .before .before .before .before .before .before .pre) .0
 
 returns-2 : tie.Need-returns-2
-returns-2 c = let a = c .before .before .before .before .before .before .before .before .before .before .before .args in advance-rolls (a .values .now) (a .classes .now) (a .logs .now) (a .t1) (a .locks) (a .session) (a .k) (c .before .before .before .before .before .before .before .before .before .before .before .pre) _ (c .before .before .before .before .before .cell-at .ensures) _ _ (c .before .before .before .before .advance .ensures) (c .before .enum-told2 .given .1) _ (c .rested .ensures)
+returns-2 c = let a = c .before .before .before .before .before .before .before .before .before .before .before .args in advance-rolls (a .values .now) (a .classes .now) (a .logs .now) (a .t1) (a .locks) (a .session) (a .k) (c .before .before .before .before .before .before .before .before .before .before .before .pre) _ (c .before .before .before .before .before .cell-at .ensures) _ _ (c .before .before .before .before .advance .ensures) (c .before .enum-told2 .given .1) _ (c .idled .ensures)
 
 handle-requires : tie.Need-handle-requires
 handle-requires c κs = let a = c .before .before .before .before .before .before .before .before .before .args in handles (a .values .now) (a .classes .now) (a .logs .now) (a .t1) (a .locks) (a .session) (a .k) (c .before .before .before .before .before .before .before .before .before .pre) _ (c .before .before .before .cell-at .ensures)

@@ -70,12 +70,12 @@ module _ {M : Type 1} (𝓤 : URA M) (H : Heap 𝓤) (A : Atoms 𝓤) (W : Given
   abbrev Post : Val → SProp 𝓤
   Post = walkOf 𝓤 H A lock-at.ended stayed (lock-at.clauses 𝓤 H A mem run) .post (((κ, tt), (q, tt), tt, (x, (c, tt)), at), tt)
 
-  abbrev Own : Fml
-  Own = ShrSlice (named 0) κ R .own x (s ∷ [])
+  abbrev Acquire : Fml
+  Acquire = ShrSlice (named 0) κ R .own x (s ∷ [])
 
-  exits : (d : Lock) → d ≡ e → Is R d (vals d) → ent 𝓤 (⋆ 𝓤 H A (‵ (flft κ q) ∷ ‵ Own ∷ ‵ (usize .own c (vint w64 c ∷ [])) ∷ [])) (Post (low d))
+  exits : (d : Lock) → d ≡ e → Is R d (vals d) → ent 𝓤 (⋆ 𝓤 H A (‵ (flft κ q) ∷ ‵ Acquire ∷ ‵ (usize .own c (vint w64 c ∷ [])) ∷ [])) (Post (low d))
   exits d is g =
-      qed W (‵ (flft κ q) ∷ ‵ Own ∷ ‵ (usize .own c (vint w64 c ∷ [])) ∷ []) ∵
+      qed W (‵ (flft κ q) ∷ ‵ Acquire ∷ ‵ (usize .own c (vint w64 c ∷ [])) ∷ []) ∵
       suffices ! _ (ends-at 𝓤 H A lock-at.ended stayed (lock-at.clauses 𝓤 H A mem run) W (((κ, tt), (q, tt), tt, (x, (c, tt)), at), tt) (low d) d (tt, (tt, tt)) (tt, (tt, tt))) $ says ! is $
       nothing ! $ move ! (1 ∷ 0 ∷ []) $ join ! $ nothing ! $ move ! (3 ∷ 0 ∷ []) $ fjoin ! $ move ! (2 ∷ 0 ∷ []) $ fjoin ! $ move ! (1 ∷ 0 ∷ []) $
       frame ! $ frame ! $ owned ! R (Is R) (makes 𝓤 H A) d (low d ∷ []) g $ done !
@@ -96,7 +96,7 @@ module _ {M : Type 1} (𝓤 : URA M) (H : Heap 𝓤) (A : Atoms 𝓤) (W : Given
         assigns ! (bin ! (load ! (from ! (fld ! refl (stop !))) (look-in ! 14 (sub ! 0 refl (whole !)))) (load ! (from ! (stop !)) (look ! 4 refl)) tt) (from ! (stop !)) (init ! 2 refl (tt, tt)) $
         rewrite ! 2 (λ (p : ℕ). ‵ (fat fullShare tyPtr l₇ 0 (vptr b p))) (sym (place-is 4 o c)) refl $
         -- the reference is Copy: one copy of what it owns is kept for the exit, and the other is looked into
-        move ! (19 ∷ []) $ fsplit ! $ use1 W (‵ Own ⊛ ‵ Own) (shr-slice-copy 𝓤 H A W (named 0) κ R .twice x (s ∷ [])) $ split ! $
+        move ! (19 ∷ []) $ fsplit ! $ use1 W (‵ Acquire ⊛ ‵ Acquire) (shr-slice-copy 𝓤 H A W (named 0) κ R .twice x (s ∷ [])) $ split ! $
         fsplit ! $ drop ! $ fsplit ! $ drop ! $ move ! (21 ∷ []) $ split ! $ move ! (2 ∷ 0 ∷ []) $
         looks-slice ! tt R (Is R) (shows 𝓤 H A R) vals tells (copy 𝓤 H A W) ys b o (λ q′. elem-out ! R (Is R) (shows 𝓤 H A R) vals tells q′ ys c free b o l (λ g.
         -- [locks[c]; what it owns; the others; what shuts; the fractured borrow; true; what locks owns; c's; _8; …; _0; …]

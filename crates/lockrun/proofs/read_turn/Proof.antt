@@ -49,7 +49,7 @@ returns-5 : tie.Need-returns-5
 returns-5 c = let a = c .before .before .before .before .before .before .before .before .before .before .before .before .before .before .before .before .before .before .before .before .args in read-enters (a .values .now) (a .classes .now) (a .logs .now) (a .t1) (a .locks) (a .session) (sizes (c .before .before .before .before .before .before .before .before .before .before .before .before .before .before)) (a .cell) (a .l) _ (c .before .before .before .before .before .before .before .before .before .before .read .ensures) _ (c .before .before .before .before .before .before .enum-told .given .1) _ _ (c .before .before .before .append .ensures) (c .with-entry .ensures)
 
 returns-6 : tie.Need-returns-6
-returns-6 c = let a = c .before .before .before .before .before .before .before .before .before .before .before .before .before .before .args in rolls-back (a .values .now) (a .classes .now) (a .logs .now) (a .t1) (a .locks) (Read (a .session) (a .cell)) (sizes (c .before .before .before .before .before .before .before .before)) (a .cell) (a .l) _ _ _ (read-known (a .values .now) (a .classes .now) (a .logs .now) (a .t1) (a .locks) (a .session) (sizes (c .before .before .before .before .before .before .before .before)) (a .cell) (a .l) _ (c .before .before .before .before .read .ensures)) (read-left (a .values .now) (a .classes .now) (a .logs .now) (a .t1) (a .locks) (a .session) (sizes (c .before .before .before .before .before .before .before .before)) (a .cell) (a .l) _ (c .before .before .before .before .read .ensures) (c .before .before .before .match .keys2) (c .before .before .match2 .keys2) (c .before .match3 .keys2)) _ (c .rested .ensures)
+returns-6 c = let a = c .before .before .before .before .before .before .before .before .before .before .before .before .before .before .args in rolls-back (a .values .now) (a .classes .now) (a .logs .now) (a .t1) (a .locks) (Read (a .session) (a .cell)) (sizes (c .before .before .before .before .before .before .before .before)) (a .cell) (a .l) _ _ _ (read-known (a .values .now) (a .classes .now) (a .logs .now) (a .t1) (a .locks) (a .session) (sizes (c .before .before .before .before .before .before .before .before)) (a .cell) (a .l) _ (c .before .before .before .before .read .ensures)) (read-left (a .values .now) (a .classes .now) (a .logs .now) (a .t1) (a .locks) (a .session) (sizes (c .before .before .before .before .before .before .before .before)) (a .cell) (a .l) _ (c .before .before .before .before .read .ensures) (c .before .before .before .match .keys2) (c .before .before .match2 .keys2) (c .before .match3 .keys2)) _ (c .idled .ensures)
 
 pub read-turn-spec : {M : Type 1} → statement M
 read-turn-spec =

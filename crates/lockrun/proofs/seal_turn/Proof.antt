@@ -26,7 +26,7 @@ returns-3 : tie.Need-returns-3
 returns-3 c = let a = c .before .before .before .before .before .before .before .before .before .before .before .before .before .args in seal-turned (a .values .now) (a .classes .now) (a .logs .now) (a .t1) (a .locks) (a .session) (sizes (c .before .before .before .before .before .before .before)) _ _ (c .before .before .before .before .seal .ensures) _ (c .before .before .p .given .1) _ (c .kept3 .ensures)
 
 returns-4 : tie.Need-returns-4
-returns-4 c = let a = c .before .before .before .before .before .before .before .before .before .before .before .before .before .args in seal-commits (a .values .now) (a .classes .now) (a .logs .now) (a .t1) (a .locks) (a .session) (sizes (c .before .before .before .before .before .before .before)) _ _ (c .before .before .before .before .seal .ensures) (c .before .before .before .match .keys2) (c .before .enum-told .given .1) _ (c .rested .ensures)
+returns-4 c = let a = c .before .before .before .before .before .before .before .before .before .before .before .before .before .args in seal-commits (a .values .now) (a .classes .now) (a .logs .now) (a .t1) (a .locks) (a .session) (sizes (c .before .before .before .before .before .before .before)) _ _ (c .before .before .before .before .seal .ensures) (c .before .before .before .match .keys2) (c .before .enum-told .given .1) _ (c .idled .ensures)
 
 returns-5 : tie.Need-returns-5
 returns-5 c = let a = c .before .before .before .before .before .before .before .before .before .before .before .before .args in seal-promotes (a .values .now) (a .classes .now) (a .logs .now) (a .t1) (a .locks) (a .session) (sizes (c .before .before .before .before .before .before)) _ _ (c .before .before .before .seal .ensures) (c .before .before .match .keys2) (c .before .match2 .keys2) _ (c .sealed .ensures)

@@ -74,7 +74,7 @@ returns-5 : tie.Need-returns-5
 returns-5 c = let a = c .before .before .before .before .before .before .before .before .before .before .before .before .before .before .before .before .before .before .before .before .before .before .before .before .before .args in write-enters (a .values .now) (a .classes .now) (a .logs .now) (a .t1) (a .locks) (a .session) (sizes (c .before .before .before .before .before .before .before .before .before .before .before .before .before .before .before .before .before .before .before)) (a .cell) (a .l) _ (a .value) (c .before .before .before .before .before .before .before .before .before .before .before .before .before .before .before .write .ensures) _ _ (c .before .before .before .before .before .before .before .before .before .before .before .p3 .given .1) _ (c .before .before .before .before .before .before .before .append .ensures) _ _ (c .before .before .before .update2 .ensures) (c .with-entry .ensures)
 
 returns-6 : tie.Need-returns-6
-returns-6 c = let a = c .before .before .before .before .before .before .before .before .before .before .before .before .before .before .args in rolls-back (a .values .now) (a .classes .now) (a .logs .now) (a .t1) (a .locks) (Write (a .session) (a .cell) (a .value)) (sizes (c .before .before .before .before .before .before .before .before)) (a .cell) (a .l) _ _ _ (write-known (a .values .now) (a .classes .now) (a .logs .now) (a .t1) (a .locks) (a .session) (sizes (c .before .before .before .before .before .before .before .before)) (a .cell) (a .l) _ (a .value) (c .before .before .before .before .write .ensures)) (write-left (a .values .now) (a .classes .now) (a .logs .now) (a .t1) (a .locks) (a .session) (sizes (c .before .before .before .before .before .before .before .before)) (a .cell) (a .l) _ (a .value) (c .before .before .before .before .write .ensures) (c .before .before .before .match .keys2) (c .before .before .match2 .keys2) (c .before .match3 .keys2)) _ (c .rested .ensures)
+returns-6 c = let a = c .before .before .before .before .before .before .before .before .before .before .before .before .before .before .args in rolls-back (a .values .now) (a .classes .now) (a .logs .now) (a .t1) (a .locks) (Write (a .session) (a .cell) (a .value)) (sizes (c .before .before .before .before .before .before .before .before)) (a .cell) (a .l) _ _ _ (write-known (a .values .now) (a .classes .now) (a .logs .now) (a .t1) (a .locks) (a .session) (sizes (c .before .before .before .before .before .before .before .before)) (a .cell) (a .l) _ (a .value) (c .before .before .before .before .write .ensures)) (write-left (a .values .now) (a .classes .now) (a .logs .now) (a .t1) (a .locks) (a .session) (sizes (c .before .before .before .before .before .before .before .before)) (a .cell) (a .l) _ (a .value) (c .before .before .before .before .write .ensures) (c .before .before .before .match .keys2) (c .before .before .match2 .keys2) (c .before .match3 .keys2)) _ (c .idled .ensures)
 
 pub write-turn-spec : {M : Type 1} → statement M
 write-turn-spec =

@@ -1,11 +1,11 @@
 -- The record is that of the definition.
 use mathlib.Core.Path.{refl}
-use Rattle.model.specs.Buffers.{own}
+use Rattle.model.specs.Buffers.{acquire}
 use Rattle.locks.proofs.owned.Statement.{statement}
 use Rattle.locks.proofs.owned.Tie as tie
 
 returns : tie.Need-returns
-unfolding own
+unfolding acquire
 returns c = refl
 
 pub owned-spec : {M : Type 1} → statement M

@@ -8,7 +8,7 @@ use Rattle.model.specs.Buffers.{Store, sessionAt}
 use Rattle.store.specs.Lent.{storeOf, Sized}
 use Rattle.store.proofs.Refusals.{refused-7, refused-1, sized}
 use Rattle.store.proofs.Parts.{own, part-fits, can-decide, can-roll-back, part-start, part-stop, part-bytes, part-some}
-use Rattle.store.proofs.Own.{unchanged, own-place, put-place, tested-at, entries-at, rolled-at}
+use Rattle.store.proofs.Pieces.{unchanged, own-place, put-place, tested-at, entries-at, rolled-at}
 use Rattle.store.proofs.Tested.{abandon-refused, abandon-entries, abandon-cancels}
 use Rattle.store.proofs.abandon_own.Statement.{statement}
 use Rattle.store.proofs.abandon_own.Tie as tie
@@ -56,7 +56,7 @@ returns-4 : tie.Need-returns-4
 returns-4 c = let i = c .before .before .before .before .before .before .before .before .before .before .before .before .before in let z = i .before .before .before in
     put-place (given (start z)) _ _ _ _ _ _ _ (z .if2 .left)
     (abandon-cancels (given (start z)) _ (fits z) _ (tested-at _ _ (mine z) _ _ (λ p. eqb p 1 || eqb p 2) (i .before .tests .ensures)) (i .if3 .left) _ _
-    (rolled-at _ _ (mine z) _ _ _ _ (c .before .before .before .before .before .before .before .roll-back .ensures)) (c .rested .ensures))
+    (rolled-at _ _ (mine z) _ _ _ _ (c .before .before .before .before .before .before .before .roll-back .ensures)) (c .idled .ensures))
 
 pub abandon-own-spec : {M : Type 1} → statement M
 abandon-own-spec =

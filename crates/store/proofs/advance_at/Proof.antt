@@ -4,7 +4,7 @@ use borrow.Author.Needs.{needs}
 use Rattle.model.specs.Buffers.{Store, sessionAt, withSession}
 use Rattle.store.specs.Lent.{storeOf}
 use Rattle.store.proofs.Parts.{own, part-fits, locks-even, part-start, part-stop, part-bytes, part-some}
-use Rattle.store.proofs.Own.{unchanged, advance-at, handled-at, swept-at, rolled-at}
+use Rattle.store.proofs.Pieces.{unchanged, advance-at, handled-at, swept-at, rolled-at}
 use Rattle.store.proofs.Advances.{Decided, cell-inside, can-put, can-roll, can-handle, leaves-rolled, leaves-waiting, leaves-owned, leaves-published, leaves-released}
 use Rattle.store.proofs.advance_at.Statement.{statement}
 use Rattle.store.proofs.advance_at.Tie as tie
@@ -55,7 +55,7 @@ roll-back-requires c κs = let d = c .before .before .before .before .before .be
 returns-2 : tie.Need-returns-2
 unfolding withSession
 returns-2 c = let q = c .before .before .before .before .before .before .before in let d = q .before .before .before .before .before .before .before .before in
-    leaves-rolled (decided d) (q .before .before .before .before .before .enum-told2 .given .1) _ _ (rolled-at _ _ (mine d) _ _ _ _ (q .roll-back .ensures)) (c .rested .ensures)
+    leaves-rolled (decided d) (q .before .before .before .before .before .enum-told2 .given .1) _ _ (rolled-at _ _ (mine d) _ _ _ _ (q .roll-back .ensures)) (c .idled .ensures)
 
 handle-requires : tie.Need-handle-requires
 handle-requires c κs = let d = c .before .before in rw (mine d) (can-handle (decided d))

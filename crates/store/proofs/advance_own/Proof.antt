@@ -6,7 +6,7 @@ use Rattle.model.specs.Buffers.{Store, sessionAt, withSession}
 use Rattle.store.specs.Lent.{storeOf, Sized}
 use Rattle.store.proofs.Refusals.{refused-7, refused-1, sized}
 use Rattle.store.proofs.Parts.{own, part-fits, can-decide, part-start, part-stop, part-bytes, part-some}
-use Rattle.store.proofs.Own.{unchanged, own-place, put-place, due-at}
+use Rattle.store.proofs.Pieces.{unchanged, own-place, put-place, due-at}
 use Rattle.store.proofs.Advances.{due-refused, due-carried, due-admits}
 use Rattle.store.proofs.advance_own.Statement.{statement}
 use Rattle.store.proofs.advance_own.Tie as tie

@@ -10,7 +10,7 @@ use Rattle.model.specs.declared.Plan.the-variants.{Enter}
 use Rattle.store.specs.Lent.{storeOf}
 use Rattle.store.proofs.Parts.{own, part-fits, can-decide, locks-even, can-roll-back, part-start, part-stop, part-bytes, part-some}
 use Rattle.store.proofs.Entering.{Decided, New, Left, OfRead, read-decided, refused, told-new, told-left, can-enter, rolled, read-told, read-entered}
-use Rattle.store.proofs.Own.{unchanged, read-at, room-at, inside-at, entries-at, appended-at, rolled-at, entered-at}
+use Rattle.store.proofs.Pieces.{unchanged, read-at, room-at, inside-at, entries-at, appended-at, rolled-at, entered-at}
 use Rattle.store.proofs.read_as.Statement.{statement}
 use Rattle.store.proofs.read_as.Tie as tie
 
@@ -81,7 +81,7 @@ roll-back-requires c κs = let m = c .before .before .before .before .before in 
 
 returns-4 : tie.Need-returns-4
 unfolding withSession
-returns-4 c = let r = c .before .before .before .before .before .before .before in let m = r .before .before .before .before .before .before in rolled (is-left m) _ _ (rolled-at _ _ (mine (m .before .before .before .before)) _ _ _ _ (r .roll-back .ensures)) (c .rested .ensures)
+returns-4 c = let r = c .before .before .before .before .before .before .before in let m = r .before .before .before .before .before .before in rolled (is-left m) _ _ (rolled-at _ _ (mine (m .before .before .before .before)) _ _ _ _ (r .roll-back .ensures)) (c .idled .ensures)
 
 pub read-as-spec : {M : Type 1} → statement M
 read-as-spec =

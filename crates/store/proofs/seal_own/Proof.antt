@@ -6,7 +6,7 @@ use Rattle.model.specs.Buffers.{Store, sessionAt}
 use Rattle.store.specs.Lent.{storeOf, Sized}
 use Rattle.store.proofs.Refusals.{refused-7, refused-1, sized}
 use Rattle.store.proofs.Parts.{own, part-fits, can-decide, part-start, part-stop, part-bytes, part-some}
-use Rattle.store.proofs.Own.{unchanged, own-place, put-place, seal-at, swept-at, dropped-at, moved-at}
+use Rattle.store.proofs.Pieces.{unchanged, own-place, put-place, seal-at, swept-at, dropped-at, moved-at}
 use Rattle.store.proofs.Seals.{seal-refused, can-drop, seal-commits, seal-promotes}
 use Rattle.store.proofs.seal_own.Statement.{statement}
 use Rattle.store.proofs.seal_own.Tie as tie
@@ -55,7 +55,7 @@ drop-reads-requires c κs = let t = c .before .before .before in let z = t .befo
 returns-4 : tie.Need-returns-4
 returns-4 c = let d = c .before .before .before .before .before in let t = d .before .before .before .before in let z = t .before .before .before in
     put-place (given (start z)) _ _ _ _ _ _ _ (z .if2 .left)
-    (seal-commits (given (start z)) _ (fits z) _ (seal-at _ _ (mine z) _ _ (t .before .seal .ensures)) (t .match .keys2) _ (dropped-at _ _ (mine z) _ _ _ _ (d .drop-reads .ensures)) _ (c .before .enum-told .given .1) (c .rested .ensures))
+    (seal-commits (given (start z)) _ (fits z) _ (seal-at _ _ (mine z) _ _ (t .before .seal .ensures)) (t .match .keys2) _ (dropped-at _ _ (mine z) _ _ _ _ (d .drop-reads .ensures)) _ (c .before .enum-told .given .1) (c .idled .ensures))
 
 returns-5 : tie.Need-returns-5
 returns-5 c = let d = c .before .before .before .before in let t = d .before .before .before .before in let z = t .before .before .before in

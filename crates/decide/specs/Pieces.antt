@@ -1,26 +1,21 @@
--- What deciding answers where it is no plan: the lengths' test, the tests of record and phase as a number, the entry that an advance handles, a handled cell.
-use Prim.Native.Nat.{ℕ, suc}
-use mathlib.Core.Bool.{Bool, cond, _&&_, _||_}
+-- What deciding answers where the code splits a plan: the tests of record and phase as a number, the entry that an advance handles and its plan there,
+-- and a handled cell.
+use Prim.Native.Nat.{ℕ}
+use mathlib.Core.Bool.{Bool, cond}
 use mathlib.Core.Option.{Option, none, some}
 use mathlib.Core.List.{List}
 use lib.Dec.{leb, eqb}
-use Rattle.model.specs.Search.{some?}
-use Rattle.model.specs.Buffers.{idle, moveTo, cellAt, entryAt, targetIn}
-use Rattle.model.specs.Step.{entriesFit, promotePlan}
+use Rattle.model.specs.Buffers.{cellAt, entryAt}
+use Rattle.model.specs.Step.{entriesFit, promotePlan, handled, releasing}
 use Rattle.model.specs.declared.Session.{Session}
 use Rattle.model.specs.declared.Lock.{Lock}
-use Rattle.model.specs.declared.Answer.the-variants.{Moved, Committed}
+use Rattle.model.specs.declared.Answer.the-variants.{Moved}
 use Rattle.model.specs.declared.Plan.{Plan}
 use Rattle.model.specs.declared.Plan.the-variants.{Publish, Release}
 use Rattle.log.specs.Slots.{targetSlot}
 use Rattle.decide.specs.declared.Due.{Due}
 use Rattle.decide.specs.declared.Due.the-variants.{Refused, Slot}
 use Rattle.decide.specs.declared.Handled.{Handled}
-
--- the lengths of the values, classes, reader sets, claimants, marks and logs
-unfoldable pub lengthsOn : ℕ → ℕ → ℕ → ℕ → ℕ → ℕ → Bool
-lengthsOn n classes readers claimants exclusives logs =
-    leb 1 n && leb n 1024 && eqb classes n && eqb readers n && eqb claimants n && eqb exclusives n && eqb logs 2048
 
 -- 9, 2 or 0
 unfoldable pub tested : Bool → Bool → ℕ
@@ -40,9 +35,6 @@ advanceOn log x l s k =
     cond (eqb (x .phase) 2) (promotePlan s (cellAt log k) l)
     (cond (eqb (x .phase) 3) (Publish (cellAt log k) (entryAt log k .current)) (Release (cellAt log k)))
 
--- the record once cell c is handled, and the answer
+-- the record once cell c is handled, and the answer: before phase 4 always 103
 unfoldable pub handledOn : List ℕ → Session → ℕ → Handled
-handledOn log x c =
-    cond (some? (targetIn log (x .count) (suc c))) (record { session = moveTo (x .phase) (suc c) x; answer = Moved })
-    (cond (eqb (x .phase) 4) (record { session = idle; answer = Committed }) (record { session = moveTo (suc (x .phase)) 0 x; answer = Moved }))
-
+handledOn log x c = record { session = handled log c x; answer = cond (eqb (x .phase) 4) (releasing log c x) Moved }
