@@ -2,15 +2,15 @@
 use Prim.Native.Nat.{ℕ}
 use mathlib.Core.Path.{_≡_}
 use mathlib.Core.List.{List, [], _∷_, map}
-use denote.Ref.{RefT, now}
-use denote.Triple.Both.{Both}
+use denote.Ref.{now}
 use Rattle.model.specs.Buffers.{Store}
+use Rattle.model.specs.Slices.{Slice, Number}
 use Rattle.model.specs.History.{Event}
 use Rattle.model.specs.Isolation.{Demand3OfCode}
 use Rattle.model.specs.Step.{Outcome, number, valueOf, effect, setUpEffect, peekShows, Part, storeWord, logWord, noWord}
 use Rattle.model.specs.declared.Call.{Call}
 use Rattle.model.specs.declared.Sessions.{Sessions}
-use Rattle.store.specs.Lent.{Slice, before, afterwards}
+use Rattle.store.specs.Lent.{before, afterwards}
 
 pub record NumberReply : Type 0 where
   pub number : ℕ
@@ -22,10 +22,6 @@ replied n v σ = record { number = n; value = v; store = σ }
 
 abbrev pub inNumbers : Outcome → NumberReply
 inNumbers o = replied (number (o .answer)) (valueOf (o .answer)) (o .store)
-
--- a lent number, as it is passed and as it is left
-abbrev pub Number : Type 0
-Number = Both (RefT ℕ) (RefT ℕ)
 
 -- the call k tells its answer in two lent numbers, and leaves what the model says
 abbrev pub TakesInNumbers : Call → Slice → Slice → Slice → Slice → Slice → Slice → Sessions → Number → Number → Sessions → Type 0
