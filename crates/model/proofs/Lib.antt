@@ -20,11 +20,4 @@ pub mod Writers
 pub mod Demand3
 pub mod Orders
 pub mod Cases
-pub mod Histories
-pub mod Caps
-pub mod SerialLedger
-pub mod SerialLocks
-pub mod SerialCalls
-pub mod Serial
-pub mod SerialExamples
 pub mod Twin

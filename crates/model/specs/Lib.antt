@@ -2,11 +2,10 @@ pub mod Search
 pub mod Readers
 pub mod Buffers
 pub mod Step
+pub mod Told
 pub mod History
 pub mod Computing
 pub mod Isolation
-pub mod Companions
 pub mod Orders
 pub mod Cases
 pub mod SetUpCases
-pub mod Histories
