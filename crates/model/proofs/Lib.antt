@@ -21,3 +21,9 @@ pub mod Demand3
 pub mod Orders
 pub mod Cases
 pub mod Twin
+pub mod Caps
+pub mod SerialLedger
+pub mod SerialLocks
+pub mod SerialCalls
+pub mod Serial
+pub mod SerialExamples

@@ -6,6 +6,8 @@ pub mod Told
 pub mod History
 pub mod Computing
 pub mod Isolation
+pub mod Caps
+pub mod Serial
 pub mod Orders
 pub mod Cases
 pub mod SetUpCases

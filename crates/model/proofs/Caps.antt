@@ -1,0 +1,410 @@
+-- No value in the store and none that a call answers is ever above its cell's cap: `WithinCaps` of specs/Caps.antt. The invariant is that
+-- the store's values and the current values of all entries in use are within the caps: a write is tested against the cap of its cell, and
+-- whatever else comes into a log, the store or an answer comes out of one of the two.
+use Prim.Native.Nat.{ℕ, zero, suc, _+_, _*_, _≤_, _<_}
+use native.Mathlib.Omega.{arith}
+use mathlib.Core.Path.{_≡_, refl, sym, _∙_, ap, subst, fun-ext}
+use mathlib.Core.Bool.{Bool, true, false, cond, not, _&&_, _||_}
+use mathlib.Core.List.{List, [], _∷_, reverse}
+use lib.Dec.{leb, ltb, eqb}
+use lib.ListN.{length, getD, set}
+use lib.Seq.{sets, length-sets}
+use borrow.Author.Tests.{eqb-true, leb-true}
+use Rattle.model.specs.declared.Session.{Session}
+use Rattle.model.specs.declared.Call.{Call}
+use Rattle.model.specs.declared.Call.the-variants.{Begin, Read, Write, Seal, Advance, Abandon, Peek}
+use Rattle.model.specs.declared.Answer.{Answer}
+use Rattle.model.specs.declared.Plan.{Plan}
+use Rattle.model.specs.declared.Plan.the-variants.{Refuse, Start, Tell, Enter, Update, EnterUpdate, RollBack, Cancel, CommitReads, BeginPromotion, Wait, Acquire, Publish, Release, ShowStore, ShowLog}
+use Rattle.model.specs.Buffers.{Locks, Buffers, Store, idle, running, sessionAt, withSession, withEntry, moveTo, word, cellAt, entryAt, slotIn, entryOf, lookIn, targetIn, currentOf, appended, updated, lockAt, lockOn, join, cap, fits, allFit, lengthsFit, fresh, logIn, onLog, size}
+use Rattle.model.specs.Caps.{capOf, GotWithin, WithinCaps}
+use Rattle.model.specs.History.{run, Item, events, told, history, add}
+use Rattle.model.specs.Isolation.{All}
+use Rattle.model.specs.Readers.{otherReaders}
+use Rattle.model.specs.Search.{some?, find}
+use Rattle.model.specs.Step.{number, valueOf, handled, change, changeLogs, recordOf, after, releasing, answer, guard, known, claimed, readSlot, writeSlot, writeCapped, sealTarget, promotePlan, advanceTarget, peekSlot, plan, sessionOf, planOf, step, reply, setUpAnswer, setUp, logOf, admit, readPlan, writePlan, sealPlan, peekPlan}
+use Rattle.model.specs.Told.{Told, ended, ending, tells, WhereGot}
+use Rattle.model.proofs.Demand3.{set-up-passed, set-up-fresh}
+use Rattle.model.proofs.Laws.{find-some, getD-sets-other, log-length, log-same, log-other, length-on, grown-word, grown-apart}
+use Rattle.model.proofs.Preservation.{choose, guarded, cell-known, cell-new}
+use Rattle.model.proofs.Runs.{first, history-step}
+use Rattle.model.proofs.Tools.{same, split, test, which, clash, both-l, both-r, and-false}
+
+-- ---- the invariant
+
+-- entry k is in use: of a session that is not idle, below its count
+abbrev pub InUse : Session → ℕ → Type 0
+InUse x k = (x .phase ≡ 0 → ⊥) × (k < x .count)
+
+-- the current value of entry k of a part is within the bound of its cell
+abbrev pub EntryWithin : (ℕ → ℕ) → List ℕ → ℕ → Type 0
+EntryWithin bound log k = entryAt log k .current ≤ bound (cellAt log k)
+
+pub record Capped (σ : Store) : Type 0 where
+  pub stored : (c : ℕ) → getD (σ .lent .values) c 0 ≤ capOf σ c
+  pub logged : (s k : ℕ) → InUse (recordOf σ s) k → EntryWithin (capOf σ) (logOf σ s) k
+
+-- ---- lists and logs
+
+-- element j after element i is made a: what holds of it before, and of a where j is i
+set-either {ℓ κ} : {A : Type ℓ} (P : A → Type κ) (l : List A) (i j : ℕ) (a d : A) → (j ≡ i → P a) → P (getD l j d) → P (getD (set l i a) j d)
+set-either P [] i j a d f h = h
+set-either P (x ∷ l) zero zero a d f h = f refl
+set-either P (x ∷ l) zero (suc j) a d f h = h
+set-either P (x ∷ l) (suc i) zero a d f h = h
+set-either P (x ∷ l) (suc i) (suc j) a d f h = set-either P l i j a d (λ e. f (ap suc e)) h
+
+module _ (bound : ℕ → ℕ) (log : List ℕ) (k : ℕ) where
+  appended-within : (c v : ℕ) → k < 32 → length log ≡ 128 → v ≤ bound c → (j : ℕ) → ((j ≡ k → ⊥) → EntryWithin bound log j) → EntryWithin bound (appended log k c v) j
+  unfolding cellAt entryAt appended
+  appended-within c v lk len h j f =
+      same j k
+      (λ e. rw e (rw (grown-word log k c v lk len 2 (omega arith), grown-word log k c v lk len 0 (omega arith)) h))
+      (λ n. rw (grown-apart log k c v lk len j 2 n (omega arith), grown-apart log k c v lk len j 0 n (omega arith)) (f n))
+
+  updated-within : (v : ℕ) → v ≤ bound (cellAt log k) → (j : ℕ) → EntryWithin bound log j → EntryWithin bound (updated log k v) j
+  unfolding cellAt entryAt updated word
+  updated-within v h j old =
+      let q : getD (sets log (4 * k + 2) (v ∷ 1 ∷ [])) (4 * j + 0) 0 ≡ getD log (4 * j + 0) 0 =
+      getD-sets-other (v ∷ 1 ∷ []) log (4 * k + 2) (4 * j + 0) (λ m p e. omega arith) in
+      rw q
+      (set-either (λ x. x ≤ bound (word log j 0)) (set log (4 * k + 2) v) (suc (4 * k + 2)) (4 * j + 2) 1 0
+      (λ e. absurd (omega arith))
+      (set-either (λ x. x ≤ bound (word log j 0)) log (4 * k + 2) (4 * j + 2) v 0
+      (λ e. let w : j ≡ k = omega arith in rw w h) old))
+
+-- the entries where session s's part is changed by f: those of the changed part, and the other sessions' as before
+on-within : (bound : ℕ → ℕ) (s : ℕ) (logs : List ℕ) → s < 16 → length logs ≡ 2048 → (f : List ℕ → List ℕ) → length (f (logIn logs s)) ≡ 128 → (t j : ℕ)
+    → (t ≡ s → EntryWithin bound (f (logIn logs s)) j) → ((t ≡ s → ⊥) → EntryWithin bound (logIn logs t) j) → EntryWithin bound (logIn (onLog s f logs) t) j
+on-within bound s logs lt len f w t j new old =
+    same t s (λ e. rw e (rw (log-same s logs lt len f w) (new e))) (λ n. rw (log-other s logs lt len f w t n) (old n))
+
+module _ (s : ℕ) (logs : List ℕ) (k c v : ℕ) (lt : s < 16) (len : length logs ≡ 2048) where
+  grown-whole : length (appended (logIn logs s) k c v) ≡ 128
+  unfolding appended
+  grown-whole = length-sets (logIn logs s) (4 * k) (c ∷ v ∷ v ∷ 0 ∷ []) ∙ log-length logs s lt len
+
+  changed-whole : length (updated (logIn logs s) k v) ≡ 128
+  unfolding updated
+  changed-whole = length-sets (logIn logs s) (4 * k + 2) (v ∷ 1 ∷ []) ∙ log-length logs s lt len
+
+  entered-length : length (onLog s (λ log. appended log k c v) logs) ≡ 2048
+  entered-length = length-on s logs lt len (λ log. appended log k c v) grown-whole ∙ len
+
+  entered-cell : k < 32 → cellAt (logIn (onLog s (λ log. appended log k c v) logs) s) k ≡ c
+  unfolding cellAt
+  entered-cell lk =
+      rw (log-same s logs lt len (λ log. appended log k c v) grown-whole) (unfold appended in grown-word (logIn logs s) k c v lk (log-length logs s lt len) 0 (omega arith))
+
+-- ---- what a plan leaves
+
+-- session s acts: the values, the entries in use before, and those of its new record are within the caps
+change-keeps : (σ : Store) (s : ℕ) (L : Locks) (vs W : List ℕ) (x : Session) → ((c : ℕ) → getD vs c 0 ≤ capOf σ c)
+    → ((t k : ℕ) → InUse (recordOf σ t) k → EntryWithin (capOf σ) (logIn W t) k) → ((k : ℕ) → InUse x k → EntryWithin (capOf σ) (logIn W s) k)
+    → Capped (change σ s L vs W x)
+unfolding sessionAt withSession
+change-keeps σ s L vs W x h old new =
+    record {
+      stored = h;
+      logged = λ t k. set-either (λ (y : Session). InUse y k → EntryWithin (capOf σ) (logIn W t) k) (σ .sessions .records) s t x idle (λ e. rw e (new k)) (old t k);
+    }
+
+-- a value written into an entry
+update-keeps : {σ : Store} → Capped σ → (s k v : ℕ) → s < 16 → length (σ .lent .logs) ≡ 2048 → v ≤ capOf σ (cellAt (logOf σ s) k)
+    → Capped (changeLogs σ (onLog s (λ log. updated log k v) (σ .lent .logs)))
+update-keeps {σ} I s k v lt len h =
+    record {
+      stored = I .stored;
+      logged = λ t j u. on-within (capOf σ) s (σ .lent .logs) lt len (λ log. updated log k v) (changed-whole s (σ .lent .logs) k 0 v lt len) t j
+          (λ e. updated-within (capOf σ) (logOf σ s) k v h j (subst (λ (i : ℕ). EntryWithin (capOf σ) (logOf σ i) j) e (I .logged t j u))) (λ _. I .logged t j u);
+    }
+
+handled-in-use : (log : List ℕ) (c : ℕ) (x : Session) → (x .phase ≡ 0 → ⊥) → (k : ℕ) → InUse (handled log c x) k → InUse x k
+unfolding handled
+handled-in-use log c x n k =
+    split (λ (y : Session). InUse y k → InUse x k) (some? (targetIn log (x .count) (suc c))) (λ _ u. (n, u .1))
+    (λ _. split (λ (y : Session). InUse y k → InUse x k) (eqb (x .phase) 4) (λ _ u. absurd (u .0 refl)) (λ _ u. (n, u .1)))
+
+module _ {σ : Store} (I : Capped σ) (s : ℕ) where
+  -- values and logs stay, and no more entries are in use
+  shrink-keeps : (L : Locks) (x : Session) → ((k : ℕ) → InUse x k → InUse (recordOf σ s) k) → Capped (change σ s L (σ .lent .values) (σ .lent .logs) x)
+  shrink-keeps L x f = change-keeps σ s L (σ .lent .values) (σ .lent .logs) x (I .stored) (I .logged) (λ k u. I .logged s k (f k u))
+
+  idle-keeps : (L : Locks) → Capped (change σ s L (σ .lent .values) (σ .lent .logs) idle)
+  idle-keeps L = shrink-keeps L idle (λ k u. absurd (u .0 refl))
+
+  module _ (n : recordOf σ s .phase ≡ 0 → ⊥) where
+    -- what the log has for a cell
+    current-within : (c : ℕ) → currentOf (lookIn (logOf σ s) (recordOf σ s .count) c) ≤ capOf σ c
+    unfolding lookIn slotIn entryOf
+    current-within c =
+        which (find (cellAt (logOf σ s)) (recordOf σ s .count) c) (λ p. rw p (omega arith))
+        (λ k p. let f = find-some (cellAt (logOf σ s)) c (recordOf σ s .count) p in rw p (rw (f .1) at (I .logged s k (n, f .0))))
+
+    enter-keeps : length (σ .lent .logs) ≡ 2048 → s < 16 → recordOf σ s .count < 32 → (c : ℕ) → Capped (after s (Enter c) σ)
+    unfolding after
+    enter-keeps len lt room c =
+        let v = getD (σ .lent .values) c 0 in
+        let m = recordOf σ s .count in
+        let w = appended-within (capOf σ) (logOf σ s) m c v room (log-length (σ .lent .logs) s lt len) (I .stored c) in
+        let g = on-within (capOf σ) s (σ .lent .logs) lt len (λ log. appended log m c v) (grown-whole s (σ .lent .logs) m c v lt len) in
+        change-keeps σ s (lockOn c (join s) (σ .lent .locks)) (σ .lent .values) (onLog s (λ log. appended log m c v) (σ .lent .logs)) (withEntry (recordOf σ s)) (I .stored)
+        (λ t j u. g t j (λ e. w j (λ _. subst (λ (i : ℕ). EntryWithin (capOf σ) (logOf σ i) j) e (I .logged t j u))) (λ _. I .logged t j u))
+        (λ j u. g s j (λ _. w j (λ ne. I .logged s j (n, omega (arith, u .1)))) (λ ne. absurd (ne refl)))
+
+    publish-keeps : (c v : ℕ) → v ≤ capOf σ c → Capped (after s (Publish c v) σ)
+    unfolding after
+    publish-keeps c v h =
+        change-keeps σ s (σ .lent .locks) (set (σ .lent .values) c v) (σ .lent .logs) (handled (logOf σ s) c (recordOf σ s))
+        (λ d. set-either (λ x. x ≤ capOf σ d) (σ .lent .values) c d v 0 (λ e. rw e h) (I .stored d)) (I .logged)
+        (λ k u. I .logged s k (handled-in-use (logOf σ s) c (recordOf σ s) n k u))
+
+-- ---- the calls
+
+logs-long : (B : Buffers) → lengthsFit B ≡ true → length (B .logs) ≡ 2048
+unfolding lengthsFit
+logs-long B h =
+    test (eqb (length (B .logs)) 2048) (eqb-true (length (B .logs)) 2048) (λ q. absurd (clash (lengthsFit B) h (rw (q, and-false))))
+
+-- what `guarded` tells of a call that is not turned down, and the logs' length
+fitting {ℓ} : (P : Plan → Type ℓ) (B : Buffers) (s : ℕ) (x : Session) (fit : Bool) (p : Plan) → ((k : ℕ) → P (Refuse k))
+    → (length (B .logs) ≡ 2048 → s < 16 → fit ≡ true → P p) → P (admit B s (guard (size B) (logIn (B .logs) s) x fit p))
+unfolding guard
+fitting P B s x fit p r f =
+    test (lengthsFit B)
+    (λ h. guarded P B s x fit p (r 7) (r 1) (r 9) (r 2) (λ lt _ q. f (logs-long B h) lt q))
+    (λ h. rw h (r 7))
+
+-- a read's value is within the bound of its cell
+abbrev Bounded : (ℕ → ℕ) → Call → ℕ → Type 0
+Bounded bound (Begin s) v = Unit
+Bounded bound (Read s c) v = v ≤ bound c
+Bounded bound (Write s c w) v = Unit
+Bounded bound (Seal s) v = Unit
+Bounded bound (Advance s) v = Unit
+Bounded bound (Abandon s) v = Unit
+Bounded bound (Peek s c) v = Unit
+
+bounded-zero : (bound : ℕ → ℕ) (k : Call) → Bounded bound k 0
+bounded-zero bound (Begin s) = tt
+bounded-zero bound (Read s c) = omega arith
+bounded-zero bound (Write s c v) = tt
+bounded-zero bound (Seal s) = tt
+bounded-zero bound (Advance s) = tt
+bounded-zero bound (Abandon s) = tt
+bounded-zero bound (Peek s c) = tt
+
+-- so is what the call tells
+abbrev TellsWithin : (ℕ → ℕ) → List Told → Type 0
+TellsWithin bound ws = All (WhereGot (λ c v. v ≤ bound c)) ws
+
+bounded-tells : (bound : ℕ → ℕ) (k : Call) (a : Answer) → Bounded bound k (valueOf a) → TellsWithin bound (tells k a)
+unfolding tells ending
+bounded-tells bound k a b = go k b
+  where
+    P : List Told → Type 0
+    P = TellsWithin bound
+
+    end : P (cond (eqb (number a) 6 || eqb (number a) 105) (ended ∷ []) [])
+    end = split P (eqb (number a) 6 || eqb (number a) 105) (λ _. (tt, tt)) (λ _. tt)
+
+    go : (k : Call) → Bounded bound k (valueOf a) → P (tells k a)
+    go (Begin s) b = split P (eqb (number a) 100) (λ _. (tt, tt)) (λ _. end)
+    go (Read s c) b = split P (eqb (number a) 101) (λ _. (b, tt)) (λ _. end)
+    go (Write s c v) b = split P (eqb (number a) 100) (λ _. (tt, tt)) (λ _. end)
+    go (Seal s) b = split P (eqb (number a) 102) (λ _. (tt, tt)) (λ _. split P (eqb (number a) 105) (λ _. (tt, (tt, tt))) (λ _. end))
+    go (Advance s) b = split P (eqb (number a) 103) (λ _. (tt, tt)) (λ _. end)
+    go (Abandon s) b = split P (eqb (number a) 100) (λ _. (tt, tt)) (λ _. end)
+    go (Peek s c) b = end
+
+module _ {σ : Store} (I : Capped σ) where
+  -- what a plan leaves and what it answers are within the caps
+  abbrev Kept : Call → Plan → Type 0
+  Kept k p = Capped (after (sessionOf k) p σ) × Bounded (capOf σ) k (valueOf (answer (sessionOf k) p σ))
+
+  keep-refusal : (k : Call) (m : ℕ) → Kept k (Refuse m)
+  unfolding after answer
+  keep-refusal k m = (I, bounded-zero (capOf σ) k)
+
+  keep-rollback : (k : Call) → Kept k RollBack
+  unfolding after answer
+  keep-rollback k = (idle-keeps I (sessionOf k) _, bounded-zero (capOf σ) k)
+
+  -- a call of a running session on a cell
+  on-cell : (k : Call) (c : ℕ) (p : Plan) → let s = sessionOf k in
+      (length (σ .lent .logs) ≡ 2048 → s < 16 → (recordOf σ s .phase ≡ 0 → ⊥) → Kept k p)
+      → Kept k (admit (σ .lent) s (guard (size (σ .lent)) (logOf σ s) (recordOf σ s) (eqb (recordOf σ s .phase) 1) (known (size (σ .lent)) c p)))
+  on-cell k c p f =
+      let s = sessionOf k in
+      fitting (Kept k) (σ .lent) s (recordOf σ s) (eqb (recordOf σ s .phase) 1) (known (size (σ .lent)) c p) (keep-refusal k)
+      (λ len lt h. cell-known (Kept k) (size (σ .lent)) c p (keep-refusal k 3) (λ _. f len lt (λ e. let w = eqb-true (recordOf σ s .phase) 1 h in omega arith)))
+
+  keep-read : (s c : ℕ) → Kept (Read s c) (planOf (Read s c) σ)
+  unfolding planOf plan readSlot after answer lookIn entryOf
+  keep-read s c =
+      on-cell (Read s c) c (readSlot (logOf σ s) (recordOf σ s) (lockAt (σ .lent .locks) c) c (slotIn (logOf σ s) (recordOf σ s .count) c))
+      (λ len lt n.
+      choose (Kept (Read s c)) (readSlot (logOf σ s) (recordOf σ s) (lockAt (σ .lent .locks) c) c) (slotIn (logOf σ s) (recordOf σ s .count) c)
+      (λ _. cell-new (Kept (Read s c)) (recordOf σ s) (lockAt (σ .lent .locks) c) (Enter c) (keep-refusal (Read s c) 5) (λ _. keep-rollback (Read s c))
+      (λ room _. (enter-keeps I s n len lt room c, I .stored c)))
+      (λ j p. (I, rw p at (current-within I s n c))))
+
+  keep-write : (s c v : ℕ) → Kept (Write s c v) (planOf (Write s c v) σ)
+  unfolding planOf plan writeCapped writeSlot after answer slotIn
+  keep-write s c v =
+      let k = getD (σ .lent .classes) c 0 in
+      let call = Write s c v in
+      let m = recordOf σ s .count in
+      on-cell call c (cond (ltb k 16) (writeCapped (logOf σ s) (recordOf σ s) (lockAt (σ .lent .locks) c) c v (cap k)) (Refuse 8))
+      (λ len lt n.
+      split (Kept call) (ltb k 16)
+      (λ _. split (Kept call) (leb v (cap k))
+      (λ h.
+      let le : v ≤ capOf σ c = leb-true v (cap k) h in
+      choose (Kept call) (writeSlot (recordOf σ s) (lockAt (σ .lent .locks) c) c v) (slotIn (logOf σ s) m c)
+      (λ _. cell-new (Kept call) (recordOf σ s) (lockAt (σ .lent .locks) c) (EnterUpdate c v) (keep-refusal call 5) (λ _. keep-rollback call)
+      (λ room _.
+      let u = getD (σ .lent .values) c 0 in
+      (update-keeps (enter-keeps I s n len lt room c) s m v lt (entered-length s (σ .lent .logs) m c u lt len) (rw (entered-cell s (σ .lent .logs) m c u lt len room) le), tt)))
+      (λ j p. (update-keeps I s j v lt len (rw (find-some (cellAt (logOf σ s)) c m p .1) le), tt)))
+      (λ _. keep-refusal call 4))
+      (λ _. keep-refusal call 8))
+
+  keep-peek : (s c : ℕ) → Kept (Peek s c) (planOf (Peek s c) σ)
+  unfolding planOf plan peekSlot after answer
+  keep-peek s c =
+      on-cell (Peek s c) c (peekSlot (logOf σ s) c (slotIn (logOf σ s) (recordOf σ s .count) c))
+      (λ _ _ _.
+      choose (Kept (Peek s c)) (peekSlot (logOf σ s) c) (slotIn (logOf σ s) (recordOf σ s .count) c) (λ _. keep-refusal (Peek s c) 14)
+      (λ k _. split (Kept (Peek s c)) (entryAt (logOf σ s) k .dirty) (λ _. (I, tt)) (λ _. (I, tt))))
+
+  keep-begin : (s : ℕ) → Kept (Begin s) (planOf (Begin s) σ)
+  unfolding planOf plan after answer
+  keep-begin s =
+      fitting (Kept (Begin s)) (σ .lent) s (recordOf σ s) (eqb (recordOf σ s .phase) 0) Start (keep-refusal (Begin s))
+      (λ _ _ _. (shrink-keeps I s (σ .lent .locks) running (λ k u. absurd (omega (arith, u .1))), tt))
+
+  keep-abandon : (s : ℕ) → Kept (Abandon s) (planOf (Abandon s) σ)
+  unfolding planOf plan after answer
+  keep-abandon s =
+      fitting (Kept (Abandon s)) (σ .lent) s (recordOf σ s) (eqb (recordOf σ s .phase) 1 || eqb (recordOf σ s .phase) 2) Cancel (keep-refusal (Abandon s))
+      (λ _ _ _. (idle-keeps I s _, tt))
+
+  keep-seal : (s : ℕ) → Kept (Seal s) (planOf (Seal s) σ)
+  unfolding planOf plan sealTarget after answer
+  keep-seal s =
+      let x = recordOf σ s in
+      fitting (Kept (Seal s)) (σ .lent) s x (eqb (x .phase) 1) (sealTarget (targetIn (logOf σ s) (x .count) 0)) (keep-refusal (Seal s))
+      (λ _ _ h.
+      choose (Kept (Seal s)) sealTarget (targetIn (logOf σ s) (x .count) 0) (λ _. (idle-keeps I s _, tt))
+      (λ c _. (shrink-keeps I s _ (moveTo 2 0 x) (λ k u. (λ e. let w = eqb-true (x .phase) 1 h in omega arith, u .1)), tt)))
+
+  keep-advance : (s : ℕ) → Kept (Advance s) (planOf (Advance s) σ)
+  unfolding planOf plan advanceTarget promotePlan after answer releasing
+  keep-advance s =
+      let x = recordOf σ s in
+      let call = Advance s in
+      fitting (Kept call) (σ .lent) s x (leb 2 (x .phase)) (advanceTarget s (logOf σ s) x (lockAt (σ .lent .locks)) (targetIn (logOf σ s) (x .count) (x .next))) (keep-refusal call)
+      (λ _ _ h.
+      let n : x .phase ≡ 0 → ⊥ = λ e. let w = leb-true 2 (x .phase) h in omega arith in
+      choose (Kept call) (advanceTarget s (logOf σ s) x (lockAt (σ .lent .locks))) (targetIn (logOf σ s) (x .count) (x .next)) (λ _. keep-refusal call 9)
+      (λ c _.
+      let handle-keeps : (L : Locks) → Capped (change σ s L (σ .lent .values) (σ .lent .logs) (handled (logOf σ s) c x)) =
+      λ L. shrink-keeps I s L (handled (logOf σ s) c x) (handled-in-use (logOf σ s) c x n) in
+      split (Kept call) (eqb (x .phase) 2)
+      (λ _.
+      let l = lockAt (σ .lent .locks) c in
+      split (Kept call) (claimed l && not (eqb (l .claimant) s)) (λ _. keep-rollback call)
+      (λ _. split (Kept call) (eqb (otherReaders s (l .readers)) 0) (λ _. (handle-keeps _, tt))
+      (λ _. (record { stored = I .stored; logged = I .logged }, tt))))
+      (λ _. split (Kept call) (eqb (x .phase) 3) (λ _. (publish-keeps I s n c _ (current-within I s n c), tt))
+      (λ _. (handle-keeps _, tt)))))
+
+  keep : (k : Call) → Kept k (planOf k σ)
+  unfolding planOf
+  keep (Begin s) = keep-begin s
+  keep (Read s c) = keep-read s c
+  keep (Write s c v) = keep-write s c v
+  keep (Seal s) = keep-seal s
+  keep (Advance s) = keep-advance s
+  keep (Abandon s) = keep-abandon s
+  keep (Peek s c) = keep-peek s c
+
+  pub keeps-capped : (k : Call) → Capped (step k σ)
+  unfolding step
+  keeps-capped k = keep k .0
+
+  pub answers-within : (k : Call) → Bounded (capOf σ) k (valueOf (reply k σ))
+  unfolding reply
+  answers-within k = keep k .1
+
+-- ---- classes never change
+
+classes-after : (s : ℕ) (p : Plan) (σ : Store) → after s p σ .lent .classes ≡ σ .lent .classes
+unfolding after
+classes-after s (Refuse k) σ = refl
+classes-after s Start σ = refl
+classes-after s (Tell v) σ = refl
+classes-after s (Enter c) σ = refl
+classes-after s (Update k v) σ = refl
+classes-after s (EnterUpdate c v) σ = refl
+classes-after s RollBack σ = refl
+classes-after s Cancel σ = refl
+classes-after s CommitReads σ = refl
+classes-after s BeginPromotion σ = refl
+classes-after s (Wait c) σ = refl
+classes-after s (Acquire c) σ = refl
+classes-after s (Publish c v) σ = refl
+classes-after s (Release c) σ = refl
+classes-after s (ShowStore c) σ = refl
+classes-after s (ShowLog k) σ = refl
+
+pub classes-run : (σ : Store) (ks : List Call) → run σ ks .lent .classes ≡ σ .lent .classes
+unfolding run step
+classes-run σ [] = refl
+classes-run σ (k ∷ ks) = classes-after (sessionOf k) (planOf k (run σ ks)) (run σ ks) ∙ classes-run σ ks
+
+cap-run : (σ : Store) (ks : List Call) (c : ℕ) → capOf (run σ ks) c ≡ capOf σ c
+cap-run σ ks c = ap (λ (l : List ℕ). cap (getD l c 0)) (classes-run σ ks)
+
+-- ---- every list of calls
+
+-- from any store with the invariant
+module _ {σ : Store} (I : Capped σ) where
+  pub capped-run : (ks : List Call) → Capped (run σ ks)
+  unfolding run
+  capped-run [] = I
+  capped-run (k ∷ ks) = keeps-capped (capped-run ks) k
+
+  got-within : (ks : List Call) → All (GotWithin σ) (history [] σ ks)
+  got-within [] = unfold told events in tt
+  got-within (k ∷ ks) =
+      subst (All (GotWithin σ)) (sym (history-step [] σ k ks))
+      (more (got-within ks) (tells k (reply k (run σ ks)))
+      (subst (λ (bound : ℕ → ℕ). TellsWithin bound (tells k (reply k (run σ ks)))) (fun-ext (cap-run σ ks))
+      (bounded-tells (capOf (run σ ks)) k (reply k (run σ ks)) (answers-within (capped-run ks) k))))
+    where
+      more : All (GotWithin σ) (history [] σ ks) → (ws : List Told) → TellsWithin (capOf σ) ws
+          → All (GotWithin σ) (add (suc (length ks)) (sessionOf k) ws (history [] σ ks))
+      more g [] a = g
+      more g (w ∷ ws) a = (a .0, more g ws (a .1))
+
+  pub within-from : (ks : List Call) → WithinCaps σ ks
+  within-from ks = record { stored = λ c. omega (arith, capped-run ks .stored c, cap-run σ ks c); got = got-within ks }
+
+-- what set-up tested
+pub all-fit : (vs ks : List ℕ) → allFit vs ks ≡ true → (c : ℕ) → getD vs c 0 ≤ cap (getD ks c 0)
+unfolding allFit fits
+all-fit [] ks h c = omega arith
+all-fit (v ∷ vs) [] h c = absurd (clash false h refl)
+all-fit (v ∷ vs) (k ∷ ks) h zero = leb-true v (cap k) (both-r (ltb k 16) (leb v (cap k)) (both-l (fits k v) (allFit vs ks) h))
+all-fit (v ∷ vs) (k ∷ ks) h (suc c) = all-fit vs ks (both-r (fits k v) (allFit vs ks) h) c
+
+pub capped-fresh : (B : Buffers) → allFit (B .values) (B .classes) ≡ true → Capped (fresh B)
+unfolding fresh
+capped-fresh B h = record { stored = all-fit (B .values) (B .classes) h; logged = λ s k u. absurd (u .0 (ap (λ (x : Session). x .phase) (first B s))) }
+
+-- any store that set-up answers 100, and any list of calls from what it leaves
+pub within-caps : (σ : Store) → number (setUpAnswer (σ .lent)) ≡ 100 → (calls : List Call) → WithinCaps (setUp σ) (reverse calls)
+within-caps σ h calls =
+    subst (λ (φ : Store). WithinCaps φ (reverse calls)) (sym (set-up-fresh σ h)) (within-from (capped-fresh (σ .lent) (set-up-passed (σ .lent) h .1)) (reverse calls))
