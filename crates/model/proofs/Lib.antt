@@ -11,6 +11,7 @@ pub mod Sealing
 pub mod Advancing
 pub mod Preservation
 pub mod Matching
+pub mod Names
 pub mod Settled
 pub mod Runs
 pub mod Words
@@ -20,6 +21,7 @@ pub mod Writers
 pub mod Demand3
 pub mod Orders
 pub mod Cases
+pub mod Anomalies
 pub mod Twin
 pub mod Caps
 pub mod SerialLedger

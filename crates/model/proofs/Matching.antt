@@ -6,7 +6,7 @@ use mathlib.Core.Bool.{Bool, true, false, cond, not, _&&_, _||_}
 use mathlib.Core.List.{List, [], _∷_}
 use lib.Dec.{eqb}
 use borrow.Author.Tests.{eqb-true, eq-eqb, ne-eqb, not-true}
-use Rattle.model.specs.History.{Item, Name, extend, transaction, isOpen, wrote, valueWritten, readsBeforeWriting, snapshot, commit, committed}
+use Rattle.model.specs.History.{Item, Name, name, extend, transaction, isOpen, wrote, valueWritten, readsBeforeWriting, snapshot, commit, committed}
 use Rattle.model.specs.Isolation.{All}
 use Rattle.model.specs.Told.{Told, began, got, put, sealed, moved, ended, begins, ends, ReadOf}
 use Rattle.model.proofs.Invariant.{all-map}
@@ -14,13 +14,10 @@ use Rattle.model.proofs.Ledger.{Txn, opened, Commit, Ledger, asCommit, 
 use Rattle.model.proofs.Tools.{same, test, clash, both-l, both-r, upd, upd-same, upd-other}
 use Rattle.model.proofs.Words.{summary, Fits, more, empty-committed, alone, settled, commits-here}
 
-abbrev pub name : ℕ → ℕ → Name
-name p s = record { place = p; session = s }
-
-name-is : (p s : ℕ) (x : Name) → p ≡ x .place → s ≡ x .session → name p s ≡ x
+pub name-is : (p s : ℕ) (x : Name) → p ≡ x .place → s ≡ x .session → name p s ≡ x
 name-is p s x a b = rw (a, b)
 
-cond-at {ℓ} : {A : Type ℓ} (b : Bool) (x y : A) → b ≡ true → cond b x y ≡ x
+pub cond-at {ℓ} : {A : Type ℓ} (b : Bool) (x y : A) → b ≡ true → cond b x y ≡ x
 cond-at b x y h = rw h
 
 cond-off {ℓ} : {A : Type ℓ} (b : Bool) (x y : A) → b ≡ false → cond b x y ≡ y
@@ -302,25 +299,3 @@ module _ {n : ℕ} {h : List Item} {T : Ledger} (M : Matches n h T) (s : ℕ) (l
   one-told sealed f e = goes-on sealed refl f
   one-told moved f e = goes-on moved refl f
   one-told ended f e = goes-on ended refl f
-
--- ---- a test of every name
-
--- a test that the names of all begins of a list pass: a transaction that tells anything passes it
-abbrev pub eachBegan : (Name → Bool) → List Item → Bool
-eachBegan f [] = true
-eachBegan f (i ∷ h) = cond (begins (i .told)) (f (name (i .place) (i .session))) true && eachBegan f h
-
-pub began-in : (f : Name → Bool) (x : Name) (h : List Item) → eachBegan f h ≡ true → (transaction x h ≡ []) ⊎ (f x ≡ true)
-began-in f x [] e = inl (unfold transaction in refl)
-began-in f x (i ∷ h) e = go (began-in f x h (both-r here (eachBegan f h) e)) (next x i h)
-  where
-    here : Bool
-    here = cond (begins (i .told)) (f (name (i .place) (i .session))) true
-
-    go : (transaction x h ≡ []) ⊎ (f x ≡ true) → Next x i h → (transaction x (i ∷ h) ≡ []) ⊎ (f x ≡ true)
-    go (inr y) s = inr y
-    go (inl y) (stays d _) = inl (d ∙ y)
-    go (inl y) (grows _ o _) = absurd (clash (isOpen (transaction x h)) o (rw y))
-    go (inl y) (starts-here b p s _ _) =
-        inr (subst (λ (x : Name). f x ≡ true) (name-is (i .place) (i .session) x (sym p) (sym s))
-        (sym (cond-at (begins (i .told)) (f (name (i .place) (i .session))) true b) ∙ both-l here (eachBegan f h) e))

@@ -9,14 +9,13 @@ use lib.Seq.{ext-getD}
 use Rattle.model.specs.declared.Call.{Call}
 use Rattle.model.specs.Buffers.{Store, fresh}
 use Rattle.model.specs.Serial.{serial, NoneOpen, OneAtATime, ReadsSerially, Undisturbed, SeriallyEqual}
-use Rattle.model.specs.History.{Event, run, events, history, transaction, isOpen}
+use Rattle.model.specs.History.{Event, run, events, name, history, transaction, isOpen}
 use Rattle.model.specs.Isolation.{All}
 use Rattle.model.specs.Step.{number, reply, setUpAnswer, setUp}
 use Rattle.model.specs.Told.{tells}
 use Rattle.model.proofs.Demand3.{set-up-fresh}
 use Rattle.model.proofs.Invariant.{latest, all-map, Inv}
 use Rattle.model.proofs.Ledger.{blank, ledger}
-use Rattle.model.proofs.Matching.{name}
 use Rattle.model.proofs.Roles.{flip}
 use Rattle.model.proofs.Runs.{inv-fresh, ready, ledger-of, inv-run, match-run}
 use Rattle.model.proofs.SerialCalls.{Serially, serially}

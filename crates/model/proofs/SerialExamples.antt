@@ -12,12 +12,12 @@ use Rattle.model.specs.declared.Answer.{Answer}
 use Rattle.model.specs.declared.Answer.the-variants.{Done, Value, Sealed, Moved, Waiting, Committed, Refused}
 use Rattle.model.specs.Buffers.{Store, idle}
 use Rattle.model.specs.Computing.{computing, counting}
-use Rattle.model.specs.History.{Event, run, events, Item, told, transaction, isOpen}
+use Rattle.model.specs.History.{Event, run, events, Item, told, name, transaction, isOpen}
 use Rattle.model.specs.Isolation.{All}
 use Rattle.model.specs.Serial.{tellsOf, serialStep, serial, NoneOpen, OneAtATime, SeriallyEqual}
 use Rattle.model.specs.Step.{number, setUpAnswer, setUp}
 use Rattle.model.specs.Told.{Told, begins}
-use Rattle.model.proofs.Matching.{name, eachBegan, began-in}
+use Rattle.model.proofs.Names.{eachBegan, began-in}
 use Rattle.model.proofs.Serial.{serially-equal}
 use Rattle.model.proofs.Tools.{test, clash, both-l, both-r}
 

@@ -14,13 +14,13 @@ use Rattle.model.specs.declared.Answer.{Answer}
 use Rattle.model.specs.declared.Plan.{Plan}
 use Rattle.model.specs.declared.Plan.the-variants.{Refuse, Start}
 use Rattle.model.specs.Buffers.{Store, size}
-use Rattle.model.specs.History.{Item, add, Name, transaction, isOpen}
+use Rattle.model.specs.History.{Item, add, Name, name, transaction, isOpen}
 use Rattle.model.specs.Isolation.{All}
 use Rattle.model.specs.Step.{number, valueOf, recordOf, answer, guard, plan, sessionOf, planOf, step, reply, logOf, admit, readPlan, writePlan, sealPlan}
 use Rattle.model.specs.Told.{Told, began, got, put, sealed, moved, ended, ending, tells, begins}
 use Rattle.model.proofs.Invariant.{Inv}
 use Rattle.model.proofs.Ledger.{Ledger, calm, amend, starts, hear, hears, observe}
-use Rattle.model.proofs.Matching.{name, Next, stays, grows, starts-here, next, Matches, unchanged, one-told}
+use Rattle.model.proofs.Matching.{Next, stays, grows, starts-here, next, Matches, unchanged, one-told}
 use Rattle.model.proofs.Preservation.{guarded, runs}
 use Rattle.model.proofs.Tools.{split, test, clash}
 use Rattle.model.proofs.Words.{Unsealed, Fits}

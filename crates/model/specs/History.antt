@@ -20,6 +20,9 @@ pub record Event : Type 0 where
   pub call : Call
   pub answer : Answer
 
+abbrev pub event : Call → Answer → Event
+event k a = record { call = k; answer = a }
+
 -- the store that a list of calls leaves, and the calls with their answers: each call gets what the call before left
 unfoldable pub run : Store → List Call → Store
 run σ [] = σ
@@ -27,7 +30,7 @@ run σ (k ∷ ks) = step k (run σ ks)
 
 unfoldable pub events : Store → List Call → List Event
 events σ [] = []
-events σ (k ∷ ks) = record { call = k; answer = reply k (run σ ks) } ∷ events σ ks
+events σ (k ∷ ks) = event k (reply k (run σ ks)) ∷ events σ ks
 
 -- something told, at its place and of its session
 pub record Item : Type 0 where
@@ -54,6 +57,9 @@ history start σ ks = told start (events σ ks)
 pub record Name : Type 0 where
   pub place : ℕ
   pub session : ℕ
+
+abbrev pub name : ℕ → ℕ → Name
+name p s = record { place = p; session = s }
 
 -- one thing more that its session tells: its begin, at place p, where it has told nothing; later things, unless it has ended
 abbrev pub extend : ℕ → Item → List Item → List Item

@@ -9,7 +9,7 @@ use lib.ListN.{length}
 use Rattle.model.specs.declared.Call.{Call}
 use Rattle.model.specs.declared.Answer.{Answer}
 use Rattle.model.specs.Buffers.{Store, lockAt}
-use Rattle.model.specs.History.{Event, run, events, Item, told, history, Name, transaction, isOpen, wrote, valueWritten, cellsWritten, readsBeforeWriting, snapshot, commit, committed, startingValue}
+use Rattle.model.specs.History.{Event, event, run, events, Item, told, history, Name, transaction, isOpen, wrote, valueWritten, cellsWritten, readsBeforeWriting, snapshot, commit, committed, startingValue}
 use Rattle.model.specs.Step.{outcome, effect}
 use Rattle.model.specs.Told.{Told, seals, moves, ReadOf}
 
@@ -110,7 +110,7 @@ pub record Demand3 (start : List Item) (σ : Store) (calls : List Call) : Type 0
 pub data Ran (σ : Store) : List Call → List Event → Store → Type 0 where
   none : Ran σ [] [] σ
   then : {ks : List Call} {h : List Event} {x : Store} → Ran σ ks h x → (k : Call) (a : Answer) (y : Store) → outcome a y ≡ effect k x
-      → Ran σ (k ∷ ks) (record { call = k; answer = a } ∷ h) y
+      → Ran σ (k ∷ ks) (event k a ∷ h) y
 
 -- what code answered, and the store that it left, of a list of calls in their order from set-up: those of the model, and demand 3 holds of them
 pub record Demand3OfCode (σ : Store) (calls : List Call) (h : List Event) (τ : Store) : Type 0 where

@@ -11,3 +11,4 @@ pub mod Serial
 pub mod Orders
 pub mod Cases
 pub mod SetUpCases
+pub mod Anomalies

@@ -1,0 +1,24 @@
+-- Small histories to judge the claim by: three that must not pass, as a store without the method would tell them, in the order of the calls.
+use mathlib.Core.List.{List, [], _∷_, reverse}
+use Rattle.model.specs.declared.Call.the-variants.{Begin, Read, Write, Seal, Advance}
+use Rattle.model.specs.declared.Answer.the-variants.{Done, Value, Sealed, Moved, Committed}
+use Rattle.model.specs.History.{Event, event}
+
+-- both transactions read 3 in cell 0, write it and commit: one update is lost
+unfoldable pub lostUpdate : List Event
+lostUpdate =
+    reverse
+    (event (Begin 0) Done ∷ event (Begin 1) Done ∷ event (Read 0 0) (Value 3) ∷ event (Read 1 0) (Value 3) ∷ event (Write 0 0 4) Done
+    ∷ event (Write 1 0 2) Done ∷ event (Seal 0) Sealed ∷ event (Seal 1) Sealed ∷ event (Advance 0) Moved ∷ event (Advance 1) Moved ∷ [])
+
+-- session 1 reads 4 in cell 0 while session 0, which wrote it, has not committed
+unfoldable pub dirtyRead : List Event
+dirtyRead = reverse (event (Begin 0) Done ∷ event (Write 0 0 4) Done ∷ event (Begin 1) Done ∷ event (Read 1 0) (Value 4) ∷ event (Seal 1) Committed ∷ [])
+
+-- session 0 commits 4 and 6, session 1 then 1 and 2; session 2 reads the first's 4 in cell 0 and the second's 2 in cell 1
+unfoldable pub brokenSnapshot : List Event
+brokenSnapshot =
+    reverse
+    (event (Begin 0) Done ∷ event (Write 0 0 4) Done ∷ event (Write 0 1 6) Done ∷ event (Seal 0) Sealed ∷ event (Advance 0) Moved ∷ event (Advance 0) Moved
+    ∷ event (Begin 1) Done ∷ event (Write 1 0 1) Done ∷ event (Write 1 1 2) Done ∷ event (Seal 1) Sealed ∷ event (Advance 1) Moved ∷ event (Advance 1) Moved
+    ∷ event (Begin 2) Done ∷ event (Read 2 0) (Value 4) ∷ event (Read 2 1) (Value 2) ∷ event (Seal 2) Committed ∷ [])
