@@ -22,6 +22,7 @@ pub mod Demand3
 pub mod Orders
 pub mod Cases
 pub mod Anomalies
+pub mod ReadWords
 pub mod Twin
 pub mod Caps
 pub mod SerialLedger
@@ -29,3 +30,4 @@ pub mod SerialLocks
 pub mod SerialCalls
 pub mod Serial
 pub mod SerialExamples
+pub mod ReadClaims

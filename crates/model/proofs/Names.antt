@@ -2,12 +2,14 @@
 use Prim.Native.Nat.{ℕ}
 use mathlib.Core.Path.{_≡_, refl, sym, _∙_, subst}
 use mathlib.Core.Logic.{_⊎_, inl, inr}
-use mathlib.Core.Bool.{Bool, true, cond, _&&_}
+use mathlib.Core.Bool.{Bool, true, false, cond, not, _&&_}
 use mathlib.Core.List.{List, [], _∷_}
+use borrow.Author.Tests.{not-true}
 use Rattle.model.specs.History.{Item, Name, name, transaction, isOpen, committed}
+use Rattle.model.specs.Serial.{NoneOpen}
 use Rattle.model.specs.Told.{begins}
 use Rattle.model.proofs.Matching.{name-is, cond-at, Next, stays, grows, starts-here, next}
-use Rattle.model.proofs.Tools.{clash, both-l, both-r}
+use Rattle.model.proofs.Tools.{test, clash, both-l, both-r}
 use Rattle.model.proofs.Words.{empty-committed}
 
 -- a test that the names of all begins of a list pass
@@ -38,3 +40,23 @@ committed-in n f h e x d = go (began-in f x h e)
     go : (transaction x h ≡ []) ⊎ (f x ≡ true) → f x ≡ true
     go (inl y) = absurd (clash (committed n (transaction x h)) d (rw y (empty-committed n)))
     go (inr y) = y
+
+-- no transaction is open, by those that begin in the list
+unfoldable pub noneOpen : List Item → Bool
+noneOpen h = eachBegan (λ x. not (isOpen (transaction x h))) h
+
+pub none-open : (h : List Item) → noneOpen h ≡ true → NoneOpen h
+unfolding noneOpen
+none-open h e x = go (began-in (λ x. not (isOpen (transaction x h))) x h e)
+  where
+    go : (transaction x h ≡ []) ⊎ (not (isOpen (transaction x h)) ≡ true) → isOpen (transaction x h) ≡ false
+    go (inl n) = rw n
+    go (inr y) = not-true (isOpen (transaction x h)) y
+
+pub open-none : (h : List Item) → NoneOpen h → noneOpen h ≡ true
+unfolding noneOpen
+open-none h o = go h
+  where
+    go : (g : List Item) → eachBegan (λ x. not (isOpen (transaction x h))) g ≡ true
+    go [] = refl
+    go (i ∷ g) = test (begins (i .told)) (λ b. rw (b, o (name (i .place) (i .session)), go g)) (λ b. rw (b, go g))

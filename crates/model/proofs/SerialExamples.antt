@@ -17,31 +17,11 @@ use Rattle.model.specs.Isolation.{All}
 use Rattle.model.specs.Serial.{tellsOf, serialStep, serial, NoneOpen, OneAtATime, SeriallyEqual}
 use Rattle.model.specs.Step.{number, setUpAnswer, setUp}
 use Rattle.model.specs.Told.{Told, begins}
-use Rattle.model.proofs.Names.{eachBegan, began-in}
+use Rattle.model.proofs.Names.{noneOpen, none-open, open-none}
 use Rattle.model.proofs.Serial.{serially-equal}
 use Rattle.model.proofs.Tools.{test, clash, both-l, both-r}
 
 -- ---- the test
-
--- no transaction is open, by those that begin in the list
-unfoldable noneOpen : List Item → Bool
-noneOpen h = eachBegan (λ x. not (isOpen (transaction x h))) h
-
-none-open : (h : List Item) → noneOpen h ≡ true → NoneOpen h
-unfolding noneOpen
-none-open h e x = go (began-in (λ x. not (isOpen (transaction x h))) x h e)
-  where
-    go : (transaction x h ≡ []) ⊎ (not (isOpen (transaction x h)) ≡ true) → isOpen (transaction x h) ≡ false
-    go (inl n) = rw n
-    go (inr y) = not-true (isOpen (transaction x h)) y
-
-open-none : (h : List Item) → NoneOpen h → noneOpen h ≡ true
-unfolding noneOpen
-open-none h o = go h
-  where
-    go : (g : List Item) → eachBegan (λ x. not (isOpen (transaction x h))) g ≡ true
-    go [] = refl
-    go (i ∷ g) = test (begins (i .told)) (λ b. rw (b, o (name (i .place) (i .session)), go g)) (λ b. rw (b, go g))
 
 -- where something told is a begin, b
 beginsIf : Bool → List Told → Bool

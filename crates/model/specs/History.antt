@@ -38,10 +38,13 @@ pub record Item : Type 0 where
   pub session : ℕ
   pub told : Told
 
+abbrev pub item : ℕ → ℕ → Told → Item
+item q s w = record { place = q; session = s; told = w }
+
 -- one call more, at place q of session s: what it tells
 abbrev pub add : ℕ → ℕ → List Told → List Item → List Item
 add q s [] h = h
-add q s (w ∷ ws) h = record { place = q; session = s; told = w } ∷ add q s ws h
+add q s (w ∷ ws) h = item q s w ∷ add q s ws h
 
 -- what events tell, after what is told where the list starts, at place 0: nothing, where set-up left no transaction open
 unfoldable pub told : List Item → List Event → List Item

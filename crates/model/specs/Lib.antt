@@ -12,3 +12,4 @@ pub mod Orders
 pub mod Cases
 pub mod SetUpCases
 pub mod Anomalies
+pub mod Words
