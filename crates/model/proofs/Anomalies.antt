@@ -1,4 +1,4 @@
--- The claim judges: a lost update, a dirty read and a broken snapshot do not meet it; write skew does. Each is computed; the last is the theorem's.
+-- The claim judges: a lost update, a dirty read, a broken snapshot and a read ahead do not meet it; write skew does. Each is computed; the last is the theorem's.
 use Prim.Native.Nat.{_<_}
 use native.Mathlib.Omega.{arith}
 use mathlib.Core.Path.{_≡_, refl, ap}
@@ -7,7 +7,7 @@ use mathlib.Core.Bool.{Bool, true, false, not, _&&_}
 use mathlib.Core.List.{List, [], _∷_, reverse}
 use lib.Dec.{leb, eqb}
 use borrow.Author.Tests.{le-leb}
-use Rattle.model.specs.Anomalies.{lostUpdate, dirtyRead, brokenSnapshot}
+use Rattle.model.specs.Anomalies.{lostUpdate, dirtyRead, brokenSnapshot, readAhead}
 use Rattle.model.specs.Computing.{computing, counting}
 use Rattle.model.specs.History.{Item, told, history, Name, name, transaction, isOpen, wrote, valueWritten, snapshot, commit, committed}
 use Rattle.model.specs.Isolation.{Last, lastCommit, noCommit, Isolated}
@@ -17,7 +17,7 @@ use Rattle.model.proofs.Demand3.{demand3}
 use Rattle.model.proofs.Names.{committed-in}
 use Rattle.model.proofs.Tools.{clash}
 
--- ---- the three
+-- ---- the four
 
 -- two writers of cell 0 whose spans meet
 pub lost-update-refused : Isolated (3 ∷ 5 ∷ []) (told [] lostUpdate) → ⊥
@@ -53,6 +53,24 @@ broken-snapshot-refused i = go (i .reads (name 13 2) refl .1 .0)
     go (lastCommit x c newest e) =
         let l = newest (name 7 1) (record { commits = refl; wrote = refl; before = omega arith }) in
         clash (older x) (committed-in 2 older (told [] brokenSnapshot) refl x (c .commits)) (rw (e, le-leb 12 (commit 2 (transaction x (told [] brokenSnapshot))) l))
+
+-- 6 is committed after the snapshot, and the starting value is 5
+pub read-ahead-refused : Isolated (3 ∷ 5 ∷ []) (told [] readAhead) → ⊥
+unfolding readAhead counting
+read-ahead-refused i = go (i .reads (name 1 0) refl .0)
+  where
+    later : Name → Bool
+    later x = not (wrote (transaction x (told [] readAhead)) 1 && leb (commit 2 (transaction x (told [] readAhead))) 7)
+
+    not-both : (a b : Bool) → a ≡ true → b ≡ true → not (a && b) ≡ false
+    not-both a b e f = rw (e, f)
+
+    go : Last (3 ∷ 5 ∷ []) (told [] readAhead) 1 7 6 → ⊥
+    go (noCommit _ e) = omega arith
+    go (lastCommit x c _ _) =
+        clash (later x) (committed-in 2 later (told [] readAhead) refl x (c .commits))
+        (not-both (wrote (transaction x (told [] readAhead)) 1) (leb (commit 2 (transaction x (told [] readAhead))) 7) (c .wrote)
+        (le-leb (commit 2 (transaction x (told [] readAhead))) 7 (omega (arith, c .before))))
 
 -- ---- write skew
 

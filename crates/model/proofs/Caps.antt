@@ -18,11 +18,11 @@ use Rattle.model.specs.declared.Plan.{Plan}
 use Rattle.model.specs.declared.Plan.the-variants.{Refuse, Start, Tell, Enter, Update, EnterUpdate, RollBack, Cancel, CommitReads, BeginPromotion, Wait, Acquire, Publish, Release, ShowStore, ShowLog}
 use Rattle.model.specs.Buffers.{Locks, Buffers, Store, idle, running, sessionAt, withSession, withEntry, moveTo, word, cellAt, entryAt, slotIn, entryOf, lookIn, targetIn, currentOf, appended, updated, lockAt, lockOn, join, cap, fits, allFit, lengthsFit, fresh, logIn, onLog, size}
 use Rattle.model.specs.Caps.{capOf, GotWithin, WithinCaps}
-use Rattle.model.specs.History.{run, Item, events, told, history, add}
+use Rattle.model.specs.History.{run, events, told, history, add}
 use Rattle.model.specs.Isolation.{All}
 use Rattle.model.specs.Readers.{otherReaders}
 use Rattle.model.specs.Search.{some?, find}
-use Rattle.model.specs.Step.{number, valueOf, handled, change, changeLogs, recordOf, after, releasing, answer, guard, known, claimed, readSlot, writeSlot, writeCapped, sealTarget, promotePlan, advanceTarget, peekSlot, plan, sessionOf, planOf, step, reply, setUpAnswer, setUp, logOf, admit, readPlan, writePlan, sealPlan, peekPlan}
+use Rattle.model.specs.Step.{number, valueOf, handled, change, changeLogs, recordOf, after, releasing, answer, guard, known, claimed, readSlot, writeSlot, writeCapped, sealTarget, promotePlan, advanceTarget, peekSlot, plan, sessionOf, planOf, step, reply, setUpAnswer, setUp, logOf, admit}
 use Rattle.model.specs.Told.{Told, ended, ending, tells, WhereGot}
 use Rattle.model.proofs.Demand3.{set-up-passed, set-up-fresh}
 use Rattle.model.proofs.Laws.{find-some, getD-sets-other, log-length, log-same, log-other, length-on, grown-word, grown-apart}

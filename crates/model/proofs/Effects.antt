@@ -9,7 +9,7 @@ use lib.ListN.{length, getD}
 use lib.Seq.{length-sets}
 use Rattle.model.specs.declared.Session.{Session}
 use Rattle.model.specs.declared.Lock.{Lock}
-use Rattle.model.specs.Buffers.{Locks, Store, idle, running, withEntry, Entry, cellAt, entryAt, slotIn, entryOf, lookIn, isDirty, appended, updated, lockAt, lockOn, join, withdraw, logIn, onLog}
+use Rattle.model.specs.Buffers.{Locks, Store, idle, running, withEntry, Entry, cellAt, entryAt, slotIn, entryOf, lookIn, isDirty, appended, updated, lockAt, lockOn, join, withdraw, onLog}
 use Rattle.model.specs.History.{run}
 use Rattle.model.specs.Isolation.{at}
 use Rattle.model.specs.Search.{find}

@@ -4,7 +4,7 @@ use native.Mathlib.Omega.{arith}
 use mathlib.Core.Path.{_≡_, refl, sym, _∙_, ap}
 use mathlib.Core.Bool.{Bool, true, false, cond, not, _&&_, _||_}
 use mathlib.Core.Option.{Option, none, some}
-use mathlib.Core.List.{List, [], _∷_}
+use mathlib.Core.List.{List, _∷_}
 use lib.Dec.{leb, ltb, eqb}
 use lib.ListN.{length, getD}
 use borrow.Author.Tests.{eqb-true, eqb-false, eq-eqb, ne-eqb, ltb-true, leb-true, not-true, not-false}
@@ -19,7 +19,7 @@ use Rattle.model.specs.Isolation.{at}
 use Rattle.model.specs.Readers.{otherReaders}
 use Rattle.model.specs.Search.{some?, find, below, tally}
 use Rattle.model.specs.Told.{tells, ending}
-use Rattle.model.specs.Step.{number, rolledBack, handled, change, recordOf, after, releasing, answer, recordFits, guard, known, claimed, newCell, readSlot, writeSlot, writeCapped, sealTarget, promotePlan, advanceTarget, peekSlot, plan, sessionOf, planOf, step, reply, logOf, admit, entriesFit, readPlan, writePlan, sealPlan, peekPlan}
+use Rattle.model.specs.Step.{rolledBack, handled, change, recordOf, after, releasing, answer, recordFits, guard, known, claimed, newCell, readSlot, writeSlot, writeCapped, sealTarget, promotePlan, advanceTarget, peekSlot, plan, sessionOf, planOf, step, reply, logOf, admit, entriesFit}
 use Rattle.model.proofs.Advancing.{target-some, target-none, late, role-late, more-open, holds-more, last-done, holds-last, waits, publishes-more, publishes-last, releases-more, releases-last}
 use Rattle.model.proofs.Effects.{running-role, slot-none, slot-some, replaced, rolls, started, learns, enter-phase, enter-look, enter-slot, enters, notes}
 use Rattle.model.proofs.Invariant.{roleIn, roleOf, role, Running, Promoting, Finishing, Inv, calms, ticks}

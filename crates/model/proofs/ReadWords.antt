@@ -26,7 +26,7 @@ serial-holds = refl
 pub starting-values : (startingValue (3 ∷ 5 ∷ []) 0 ≡ 3) × (startingValue (3 ∷ 5 ∷ []) 1 ≡ 5)
 starting-values = (refl, refl)
 
-pub caps-of : (capOf (midway 1 16 0) 0 ≡ 8) × (capOf (midway 1 16 0) 1 ≡ 6)
+pub caps-of : (capOf (midway 1 4 16 0) 0 ≡ 8) × (capOf (midway 1 4 16 0) 1 ≡ 6)
 unfolding midway computing
 caps-of = (refl, refl)
 

@@ -1,10 +1,9 @@
 -- One after the other: what it claims is `SeriallyEqual` of specs/Serial.antt. Along a list in which a transaction begins only
 -- when none is open, the serial store follows the ledger call by call; with none open the store's values and the serial store's are the last committed.
 use Prim.Native.Nat.{ℕ, _<_}
-use mathlib.Core.Path.{_≡_, refl, sym, _∙_, ap, subst}
+use mathlib.Core.Path.{_≡_, refl, sym, _∙_, subst}
 use mathlib.Core.Bool.{false}
 use mathlib.Core.List.{List, [], _∷_, reverse}
-use lib.ListN.{length}
 use lib.Seq.{ext-getD}
 use Rattle.model.specs.declared.Call.{Call}
 use Rattle.model.specs.Buffers.{Store, fresh}

@@ -20,12 +20,12 @@ use Rattle.model.specs.Isolation.{All}
 use Rattle.model.specs.Serial.{Serial, serialStep, Undisturbed}
 use Rattle.model.specs.Readers.{otherReaders}
 use Rattle.model.specs.Search.{some?, tally}
-use Rattle.model.specs.Step.{number, recordOf, releasing, answer, recordFits, guard, known, claimed, newCell, readSlot, writeSlot, writeCapped, sealTarget, promotePlan, advanceTarget, peekSlot, plan, sessionOf, planOf, reply, logOf, admit, readPlan, writePlan, sealPlan, peekPlan}
+use Rattle.model.specs.Step.{number, recordOf, releasing, answer, recordFits, guard, known, claimed, newCell, readSlot, writeSlot, writeCapped, sealTarget, promotePlan, advanceTarget, peekSlot, plan, sessionOf, planOf, reply, logOf, admit}
 use Rattle.model.specs.Told.{Told, ending, tells, begins, WhereGot}
 use Rattle.model.proofs.Advancing.{target-some}
 use Rattle.model.proofs.Effects.{slot-some}
 use Rattle.model.proofs.Invariant.{latest, Promoting, Finishing, Inv}
-use Rattle.model.proofs.Ledger.{closed, saw, sealedAt, advanced, Ledger, tick, calm, starts, observe}
+use Rattle.model.proofs.Ledger.{closed, saw, sealedAt, advanced, Ledger, calm, starts, observe}
 use Rattle.model.proofs.Preservation.{choose, guarded, running-cell, cell-new, inside, inside-wrote, phase-le, runs, none-written}
 use Rattle.model.proofs.Roles.{flip}
 use Rattle.model.proofs.SerialLedger.{overlay, Follows, follows-tick, follows-calm, follows-rest, follows-start, follows-on, follows-commit, follows-end, follows-write}

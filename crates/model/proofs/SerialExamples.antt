@@ -1,20 +1,18 @@
 -- The claim of Serial.antt meets two lists of calls: a transaction that writes and one after it that reads, to which it applies, and the listing of
 -- document 01, in which two transactions are open at a time. Whether one begins while another is open is a test, since none begins past the list's end.
 use mathlib.Core.Path.{_≡_, refl, _∙_}
-use mathlib.Core.Logic.{_⊎_, inl, inr}
-use mathlib.Core.Bool.{Bool, true, false, cond, not, _&&_}
+use mathlib.Core.Bool.{Bool, true, false, cond, _&&_}
 use mathlib.Core.List.{List, [], _∷_, map, reverse}
 use lib.ListN.{replicate}
-use borrow.Author.Tests.{not-true}
 use Rattle.model.specs.declared.Call.{Call}
 use Rattle.model.specs.declared.Call.the-variants.{Begin, Read, Write, Seal, Advance}
 use Rattle.model.specs.declared.Answer.{Answer}
 use Rattle.model.specs.declared.Answer.the-variants.{Done, Value, Sealed, Moved, Waiting, Committed, Refused}
 use Rattle.model.specs.Buffers.{Store, idle}
 use Rattle.model.specs.Computing.{computing, counting}
-use Rattle.model.specs.History.{Event, run, events, Item, told, name, transaction, isOpen}
+use Rattle.model.specs.History.{Event, tellsOf, run, events, told}
 use Rattle.model.specs.Isolation.{All}
-use Rattle.model.specs.Serial.{tellsOf, serialStep, serial, NoneOpen, OneAtATime, SeriallyEqual}
+use Rattle.model.specs.Serial.{serialStep, serial, OneAtATime, SeriallyEqual}
 use Rattle.model.specs.Step.{number, setUpAnswer, setUp}
 use Rattle.model.specs.Told.{Told, begins}
 use Rattle.model.proofs.Names.{noneOpen, none-open, open-none}

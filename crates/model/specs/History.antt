@@ -23,6 +23,10 @@ pub record Event : Type 0 where
 abbrev pub event : Call → Answer → Event
 event k a = record { call = k; answer = a }
 
+-- what it tells
+abbrev pub tellsOf : Event → List Told
+tellsOf e = tells (e .call) (e .answer)
+
 -- the store that a list of calls leaves, and the calls with their answers: each call gets what the call before left
 unfoldable pub run : Store → List Call → Store
 run σ [] = σ
@@ -49,7 +53,7 @@ add q s (w ∷ ws) h = item q s w ∷ add q s ws h
 -- what events tell, after what is told where the list starts, at place 0: nothing, where set-up left no transaction open
 unfoldable pub told : List Item → List Event → List Item
 told start [] = start
-told start (e ∷ h) = add (suc (length h)) (sessionOf (e .call)) (tells (e .call) (e .answer)) (told start h)
+told start (e ∷ h) = add (suc (length h)) (sessionOf (e .call)) (tellsOf e) (told start h)
 
 abbrev pub history : List Item → Store → List Call → List Item
 history start σ ks = told start (events σ ks)

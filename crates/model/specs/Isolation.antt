@@ -75,14 +75,15 @@ firsts m (k ∷ ks) = cond (leb (suc (length ks)) m) (k ∷ ks) (firsts m ks)
 
 -- of what is told where a list starts, the store there, and the list of calls
 module _ (start : List Item) (σ : Store) (ks : List Call) where
+  -- what the transaction of a name tells, whether it is committed, and where
   abbrev tale : Name → List Item
   tale x = transaction x (history start σ ks)
 
-  abbrev pub IsCommitted : Name → Bool → Type 0
-  IsCommitted x b = committed (length (σ .lent .values)) (tale x) ≡ b
+  abbrev isCommitted : Name → Bool
+  isCommitted x = committed (length (σ .lent .values)) (tale x)
 
-  abbrev place : Name → ℕ
-  place x = commit (length (σ .lent .values)) (tale x)
+  abbrev commitPlace : Name → ℕ
+  commitPlace x = commit (length (σ .lent .values)) (tale x)
 
   -- the transaction holds, in a store, the writer lock of each cell that it wrote
   abbrev pub HoldsAll : Store → Name → Type 0
@@ -90,12 +91,12 @@ module _ (start : List Item) (σ : Store) (ks : List Call) where
 
   pub record HoldsAtCommit : Type 0 where
     -- with its commit call a committed transaction holds all its writer locks
-    pub withThis : (x : Name) → IsCommitted x true → HoldsAll (run σ (firsts (place x) ks)) x
+    pub withThis : (x : Name) → isCommitted x ≡ true → HoldsAll (run σ (firsts (commitPlace x) ks)) x
     -- and with no call from its begin on before, where it wrote a cell
-    pub notBefore : (x : Name) (m : ℕ) → IsCommitted x true → x .place ≤ m → m < place x
+    pub notBefore : (x : Name) (m : ℕ) → isCommitted x ≡ true → x .place ≤ m → m < commitPlace x
         → (c : ℕ) → wrote (tale x) c ≡ true → HoldsAll (run σ (firsts m ks)) x → ⊥
     -- a transaction that is open, wrote a cell and is not committed does not hold them all in the store that the list leaves
-    pub notUncommitted : (x : Name) → isOpen (tale x) ≡ true → IsCommitted x false → (c : ℕ) → wrote (tale x) c ≡ true → HoldsAll (run σ ks) x → ⊥
+    pub notUncommitted : (x : Name) → isOpen (tale x) ≡ true → isCommitted x ≡ false → (c : ℕ) → wrote (tale x) c ≡ true → HoldsAll (run σ ks) x → ⊥
 
 -- ---- demand 3
 

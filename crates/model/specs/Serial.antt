@@ -9,14 +9,10 @@ use lib.ListN.{getD, set}
 use Rattle.model.specs.declared.Call.{Call}
 use Rattle.model.specs.declared.Answer.{Answer}
 use Rattle.model.specs.Buffers.{Store}
-use Rattle.model.specs.History.{Event, run, events, Item, told, history, Name, transaction, isOpen}
+use Rattle.model.specs.History.{Event, tellsOf, run, events, Item, told, history, Name, transaction, isOpen}
 use Rattle.model.specs.Isolation.{All}
 use Rattle.model.specs.Step.{number}
-use Rattle.model.specs.Told.{Told, began, got, put, sealed, moved, ended, tells, begins, WhereGot}
-
--- what the events of a list tell, one after the other
-abbrev pub tellsOf : Event → List Told
-tellsOf e = tells (e .call) (e .answer)
+use Rattle.model.specs.Told.{Told, began, got, put, sealed, moved, ended, begins, WhereGot}
 
 -- ---- the serial store
 

@@ -2,7 +2,7 @@
 -- computation. Calls, events and items stand in their order here.
 use Prim.Native.Nat.{ℕ}
 use mathlib.Core.Bool.{Bool, true, false}
-use mathlib.Core.List.{List, [], _∷_, reverse}
+use mathlib.Core.List.{List, [], _∷_, _++_, reverse}
 use lib.ListN.{replicate}
 use Rattle.model.specs.declared.Call.{Call}
 use Rattle.model.specs.declared.Call.the-variants.{Begin, Read, Write, Seal, Advance, Abandon, Peek}
@@ -153,6 +153,8 @@ serialRows =
     -- and in the values with the answer 105, not with 103
     ∷ serialRow (event (Begin 0) Done ∷ event (Write 0 1 4) Done ∷ event (Seal 0) Sealed ∷ event (Advance 0) Moved ∷ event (Advance 0) Moved
     ∷ event (Advance 0) Committed ∷ []) (3 ∷ 4 ∷ []) (3 ∷ 4 ∷ [])
+    -- all its writes are
+    ∷ serialRow (event (Begin 0) Done ∷ event (Write 0 1 4) Done ∷ event (Write 0 0 6) Done ∷ []) (3 ∷ 5 ∷ []) (6 ∷ 4 ∷ [])
     -- an abandoned draft is gone with the next begin
     ∷ serialRow (event (Begin 0) Done ∷ event (Write 0 1 4) Done ∷ event (Abandon 0) Done ∷ event (Begin 1) Done ∷ event (Read 1 1) (Value 5)
     ∷ event (Seal 1) Committed ∷ []) (3 ∷ 5 ∷ []) (3 ∷ 5 ∷ [])
@@ -160,43 +162,33 @@ serialRows =
 
 -- ---- histories and stores that a claim holds of, or does not
 
--- session 0 commits 4 to cell 0 at place 4; session 1 then reads it
+-- session 0 commits 4 to cell 1 at place 4; session 1 then reads it
 unfoldable pub wroteThenRead : List Event
 wroteThenRead =
     reverse
-    (event (Begin 0) Done ∷ event (Write 0 0 4) Done ∷ event (Seal 0) Sealed ∷ event (Advance 0) Moved ∷ event (Begin 1) Done ∷ event (Read 1 0) (Value 4)
+    (event (Begin 0) Done ∷ event (Write 0 1 4) Done ∷ event (Seal 0) Sealed ∷ event (Advance 0) Moved ∷ event (Begin 1) Done ∷ event (Read 1 1) (Value 4)
     ∷ event (Seal 1) Committed ∷ [])
 
 -- the first reader gets the starting value of cell 1
 unfoldable pub firstRead : List Event
 firstRead = reverse (event (Begin 0) Done ∷ event (Read 0 1) (Value 5) ∷ event (Seal 0) Committed ∷ [])
 
--- two cells, of classes 2 and 1; session 0 is in a phase with its entry of cell 0 written, whose lock has a claimant and a mark
-unfoldable pub midway : ℕ → ℕ → ℕ → Store
-midway phase claimant mark =
+-- two cells, of classes 2 and 1; session 1 is in a phase with its entry of cell 0 written, whose lock has a claimant and a mark
+unfoldable pub midway : ℕ → ℕ → ℕ → ℕ → Store
+midway phase value claimant mark =
     record {
       lent = record {
         values = 3 ∷ 5 ∷ [];
         classes = 2 ∷ 1 ∷ [];
-        locks = record { readers = 1 ∷ 0 ∷ []; claimants = claimant ∷ 16 ∷ []; exclusives = mark ∷ 0 ∷ [] };
-        logs = 0 ∷ 3 ∷ 4 ∷ 1 ∷ replicate 2044 0;
+        locks = record { readers = 2 ∷ 0 ∷ []; claimants = claimant ∷ 16 ∷ []; exclusives = mark ∷ 0 ∷ [] };
+        logs = replicate 128 0 ++ (0 ∷ 3 ∷ value ∷ 1 ∷ replicate 1916 0);
       };
-      sessions = record { records = record { phase = phase; count = 1; next = 0 } ∷ replicate 15 idle };
+      sessions = record { records = idle ∷ record { phase = phase; count = 1; next = 0 } ∷ replicate 14 idle };
     }
 
--- what its transaction has told
-unfoldable pub toldMidway : List Item
-toldMidway = reverse (item 0 0 began ∷ item 0 0 (put 0 4) ∷ item 0 0 sealed ∷ [])
+-- what its transaction has told where it runs and has read a value, and where it is sealed
+unfoldable pub toldRunning : ℕ → List Item
+toldRunning v = reverse (item 0 1 began ∷ item 0 1 (got 0 v) ∷ item 0 1 (put 0 4) ∷ [])
 
--- a value above its cell's cap, which a set-up does not let pass
-unfoldable pub aboveCap : Store
-aboveCap =
-    record {
-      lent = record {
-        values = 9 ∷ [];
-        classes = 2 ∷ [];
-        locks = record { readers = 0 ∷ []; claimants = 16 ∷ []; exclusives = 0 ∷ [] };
-        logs = replicate 2048 0;
-      };
-      sessions = record { records = replicate 16 idle };
-    }
+unfoldable pub toldSealed : List Item
+toldSealed = reverse (item 0 1 began ∷ item 0 1 (put 0 4) ∷ item 0 1 sealed ∷ [])
