@@ -16,10 +16,10 @@ use Rattle.model.specs.Isolation.{at}
 use Rattle.model.specs.Readers.{member, otherReaders}
 use Rattle.model.specs.Search.{find, tally}
 use Rattle.model.specs.Step.{change, changeLocks, recordOf, logOf}
-use Rattle.model.proofs.Effects.{Acts, ses-same, frame, look-mine, role-gone, shaped, link-mine, locked-still, valued-still, look-is, slot-none, acts, amended}
-use Rattle.model.proofs.Invariant.{roleIn, roleOf, role, latest, Promoting, Finishing, Link, just-past, Inv, role-other, quiet, committing, ticks}
+use Rattle.model.proofs.Effects.{Acts, ses-same, frame, look-mine, role-gone, shaped, link-mine, locked-still, valued-still, look-is, slot-none, acts, amended, joined}
+use Rattle.model.proofs.Invariant.{roleIn, roleOf, role, latest, Promoting, Finishing, Link, just-off, Inv, role-other, quiet, committing, calms, ticks}
 use Rattle.model.proofs.Laws.{find-some, Low, lowest-is, Long, lock-same, lock-other, long-set, tally-flat, tally-more}
-use Rattle.model.proofs.Ledger.{Txn, ended, advanced, Commit, Ledger, tick, asCommit}
+use Rattle.model.proofs.Ledger.{Txn, closed, advanced, Commit, Ledger, tick, calm, asCommit}
 use Rattle.model.proofs.Roles.{Role, out, wanting, owning, pending, published, holds, owns, pends, claims?, Locked, Valued, flip, kept, vacates, takes, stays, commits, settles, claims}
 use Rattle.model.proofs.Tools.{same, split, test, which, clash, both-l, both-r, alone-member}
 use Rattle.model.proofs.View.{slot, look, written, target}
@@ -154,10 +154,10 @@ module _ {start : List ℕ} {σ : Store} {T : Ledger} (s : ℕ) (lt : s < 16) (I
       ((d : ℕ) → (d ≡ c → ⊥) → (role τ d s ≡ role σ d s) × (lockAt L d ≡ lockAt (σ .lent .locks) d) × (getD F d 0 ≡ getD (σ .lent .values) d 0))
       → Locked (role τ c) (lockAt L c) → Valued (role τ c) (getD F c 0) (latest start (T .commits) c)
       → (u : Txn) → Link start (T .commits) (suc (T .place)) (y .next) (look τ s) u (y .phase)
-      → Inv start τ (amended s u (T .commits) T)
+      → Inv start τ (amended s u T)
   one-cell L F y ll lf k sp lo va u li =
       let b = acts (I .shape) s lt L F y in
-      quiet s I (frame b) (shaped b lf ll k) u
+      quiet s I (frame b) (shaped b lf ll k) u (suc (T .place)) (omega arith)
       (λ d ld. same d c (λ e. rw e lo) (λ n. rw (sp d n .1) (locked-still b d (sp d n .0) (I .locked d ld))))
       (λ d ld. same d c (λ e. rw e va) (λ n. rw (sp d n .2) (valued-still b d (sp d n .0) (I .valued d ld))))
       (link-mine b start (T .commits) (suc (T .place)) u refl li)
@@ -168,7 +168,7 @@ module _ {start : List ℕ} {σ : Store} {T : Ledger} (s : ℕ) (lt : s < 16) (I
       ((d : ℕ) → (d ≡ c → ⊥) → role τ d s ≡ role σ d s)
       → Locked (role τ c) (f (lockAt (σ .lent .locks) c)) → Valued (role τ c) (getD (σ .lent .values) c 0) (latest start (T .commits) c)
       → (u : Txn) → Link start (T .commits) (suc (T .place)) (y .next) (look τ s) u (y .phase)
-      → Inv start τ (amended s u (T .commits) T)
+      → Inv start τ (amended s u T)
   lock-cell f y k sp lo va u li =
       let w = I .shape .long in
       one-cell (lockOn c f L₀) F₀ y (on-long (length start) c f L₀ w) (I .shape .values) k
@@ -215,7 +215,7 @@ module _ {start : List ℕ} {σ : Store} {T : Ledger} (s : ℕ) (lt : s < 16) (I
 
     pub holds-more : {d : ℕ} → target σ s (suc c) ≡ some d
         → Inv start (change σ s (lockOn c (acquire s) (σ .lent .locks)) (σ .lent .values) (σ .lent .logs) (moveTo 2 (suc c) (recordOf σ s)))
-        (amended s (advanced (length start) (T .place) (T .mine s)) (T .commits) T)
+        (amended s (advanced (length start) (T .place) (T .mine s)) T)
     holds-more {d} more =
         let L = lockOn c (acquire s) L₀ in
         let b = a L F₀ 2 (suc c) in
@@ -291,7 +291,7 @@ module _ {start : List ℕ} {σ : Store} {T : Ledger} (s : ℕ) (lt : s < 16) (I
       last-done = rw (prom .open′) (eq-eqb (suc (T .mine s .moved)) (tally (T .mine s .wrote) (length start)) (sym (tally-last last ∙ tally-here)))
 
       pub holds-last : let u = advanced (length start) (T .place) (T .mine s) in
-          Inv start (change σ s (lockOn c (acquire s) (σ .lent .locks)) (σ .lent .values) (σ .lent .logs) (moveTo 3 0 (recordOf σ s))) (amended s u (asCommit s (T .place) u ∷ T .commits) T)
+          Inv start (change σ s (lockOn c (acquire s) (σ .lent .locks)) (σ .lent .values) (σ .lent .logs) (moveTo 3 0 (recordOf σ s))) (joined s u (asCommit s (T .place) u) T)
       holds-last =
           committing s I (frame b) (shaped b (I .shape .values) (on-long (length start) c (acquire s) L₀ (I .shape .long)) (I .shape .counts s))
           (advanced (length start) (T .place) (T .mine s)) (asCommit s (T .place) (advanced (length start) (T .place) (T .mine s))) refl
@@ -308,10 +308,10 @@ module _ {start : List ℕ} {σ : Store} {T : Ledger} (s : ℕ) (lt : s < 16) (I
   -- ---- waiting
 
   pub waits : recordOf σ s .phase ≡ 2 → (eqb (lockAt (σ .lent .locks) c .claimant) 16 || eqb (lockAt (σ .lent .locks) c .claimant) s) ≡ true
-      → Inv start (changeLocks σ (lockOn c (claim s) (σ .lent .locks))) (tick T)
+      → Inv start (changeLocks σ (lockOn c (claim s) (σ .lent .locks))) (tick (calm T))
   unfolding look role
   waits ph cl =
-      let J = ticks I in
+      let J = ticks (calms I) in
       let w = I .shape .long in
       record {
         shape = record { values = I .shape .values; records = I .shape .records; long = on-long (length start) c (claim s) L₀ w; logs = I .shape .logs; counts = I .shape .counts };
@@ -324,7 +324,7 @@ module _ {start : List ℕ} {σ : Store} {T : Ledger} (s : ℕ) (lt : s < 16) (I
         lawful = I .lawful;
         begun = J .begun;
         old = J .old;
-        just = just-past _ (T .place) (T .commits) (I .old);
+        just = just-off _ false (T .commits) refl;
       }
 
   -- ---- publishing and releasing
@@ -339,7 +339,7 @@ module _ {start : List ℕ} {σ : Store} {T : Ledger} (s : ℕ) (lt : s < 16) (I
 
       publish-any : (phase next : ℕ) → ((d : ℕ) → (d ≡ c → ⊥) → role (τ L₀ (set F₀ c v) phase next) d s ≡ role σ d s) → role (τ L₀ (set F₀ c v) phase next) c s ≡ published
           → Link start (T .commits) (suc (T .place)) next (look (τ L₀ (set F₀ c v) phase next) s) (advanced (length start) (T .place) (T .mine s)) phase
-          → Inv start (τ L₀ (set F₀ c v) phase next) (amended s (advanced (length start) (T .place) (T .mine s)) (T .commits) T)
+          → Inv start (τ L₀ (set F₀ c v) phase next) (amended s (advanced (length start) (T .place) (T .mine s)) T)
       publish-any phase next sp now li =
           let was : role σ c s ≡ pending v = role-here 1 ph ∙ unfold roleIn in refl in
           let b = a L₀ (set F₀ c v) phase next in
@@ -350,14 +350,14 @@ module _ {start : List ℕ} {σ : Store} {T : Ledger} (s : ℕ) (lt : s < 16) (I
           (advanced (length start) (T .place) (T .mine s)) li
 
       pub publishes-more : Inv start (change σ s (σ .lent .locks) (set (σ .lent .values) c (currentOf (look σ s c))) (σ .lent .logs) (moveTo 3 (suc c) (recordOf σ s)))
-          (amended s (advanced (length start) (T .place) (T .mine s)) (T .commits) T)
+          (amended s (advanced (length start) (T .place) (T .mine s)) T)
       publishes-more =
           publish-any 3 (suc c) (λ d n. role-next L₀ (set F₀ c v) 3 (suc c) 1 d refl ∙ late-same 1 d n ∙ sym (role-late σ s d 1 ph))
           (role-next L₀ (set F₀ c v) 3 (suc c) 1 c refl ∙ unfold late roleIn in rw (here, lt-leb (suc c) c (omega arith))) finished
 
       pub publishes-last : target σ s (suc c) ≡ none
           → Inv start (change σ s (σ .lent .locks) (set (σ .lent .values) c (currentOf (look σ s c))) (σ .lent .logs) (moveTo 4 0 (recordOf σ s)))
-          (amended s (advanced (length start) (T .place) (T .mine s)) (T .commits) T)
+          (amended s (advanced (length start) (T .place) (T .mine s)) T)
       publishes-last last =
           publish-any 4 0
           (λ d n. role-next L₀ (set F₀ c v) 4 0 2 d refl ∙ sym (role-late σ s d 1 ph ∙ unfold late roleIn in
@@ -371,7 +371,7 @@ module _ {start : List ℕ} {σ : Store} {T : Ledger} (s : ℕ) (lt : s < 16) (I
       release-any : (y : Session) → y .count ≤ 32
           → let τ = change σ s (lockOn c (vacate s) (σ .lent .locks)) (σ .lent .values) (σ .lent .logs) y in
           ((d : ℕ) → (d ≡ c → ⊥) → role τ d s ≡ role σ d s) → role τ c s ≡ out
-          → (u : Txn) → Link start (T .commits) (suc (T .place)) (y .next) (look τ s) u (y .phase) → Inv start τ (amended s u (T .commits) T)
+          → (u : Txn) → Link start (T .commits) (suc (T .place)) (y .next) (look τ s) u (y .phase) → Inv start τ (amended s u T)
       release-any y k sp now u li =
           let b = acts (I .shape) s lt (lockOn c (vacate s) L₀) F₀ y in
           lock-cell (vacate s) y k sp
@@ -379,7 +379,7 @@ module _ {start : List ℕ} {σ : Store} {T : Ledger} (s : ℕ) (lt : s < 16) (I
           (stays s (role-other (frame b) c) now (I .valued c inn) (λ f e. cc) (λ f e. cc) (sym (ap pends shown))) u li
 
       pub releases-more : Inv start (change σ s (lockOn c (vacate s) (σ .lent .locks)) (σ .lent .values) (σ .lent .logs) (moveTo 4 (suc c) (recordOf σ s)))
-          (amended s (advanced (length start) (T .place) (T .mine s)) (T .commits) T)
+          (amended s (advanced (length start) (T .place) (T .mine s)) T)
       releases-more =
           let L = lockOn c (vacate s) L₀ in
           release-any (moveTo 4 (suc c) x) (I .shape .counts s)
@@ -388,9 +388,9 @@ module _ {start : List ℕ} {σ : Store} {T : Ledger} (s : ℕ) (lt : s < 16) (I
           (advanced (length start) (T .place) (T .mine s)) finished
 
       pub releases-last : target σ s (suc c) ≡ none
-          → Inv start (change σ s (lockOn c (vacate s) (σ .lent .locks)) (σ .lent .values) (σ .lent .logs) idle) (amended s (ended (T .mine s)) (T .commits) T)
+          → Inv start (change σ s (lockOn c (vacate s) (σ .lent .locks)) (σ .lent .values) (σ .lent .logs) idle) (amended s (closed (T .mine s)) T)
       releases-last last =
           let b = acts (I .shape) s lt (lockOn c (vacate s) L₀) F₀ idle in
           release-any idle (omega arith)
           (λ d n. role-gone b refl d ∙ sym (role-late σ s d 2 ph ∙ unfold late roleIn in test (written σ s d) (λ w. rw (w, leb-last last d w n)) (λ w. rw w)))
-          (role-gone b refl c) (ended (T .mine s)) refl
+          (role-gone b refl c) (closed (T .mine s)) refl

@@ -1,9 +1,9 @@
--- No value in the store and none that a call answers is ever above its cell's cap: `WithinCaps` of specs/Companions.antt. The invariant is that
+-- No value in the store and none that a call answers is ever above its cell's cap: `WithinCaps` of specs/Caps.antt. The invariant is that
 -- the store's values and the current values of all entries in use are within the caps: a write is tested against the cap of its cell, and
 -- whatever else comes into a log, the store or an answer comes out of one of the two.
 use Prim.Native.Nat.{ℕ, zero, suc, _+_, _*_, _≤_, _<_}
 use native.Mathlib.Omega.{arith}
-use mathlib.Core.Path.{_≡_, refl, sym, _∙_, ap, subst}
+use mathlib.Core.Path.{_≡_, refl, sym, _∙_, ap, subst, fun-ext}
 use mathlib.Core.Bool.{Bool, true, false, cond, not, _&&_, _||_}
 use mathlib.Core.List.{List, [], _∷_, reverse}
 use lib.Dec.{leb, ltb, eqb}
@@ -13,19 +13,21 @@ use borrow.Author.Tests.{eqb-true, leb-true}
 use Rattle.model.specs.declared.Session.{Session}
 use Rattle.model.specs.declared.Call.{Call}
 use Rattle.model.specs.declared.Call.the-variants.{Begin, Read, Write, Seal, Advance, Abandon, Peek}
+use Rattle.model.specs.declared.Answer.{Answer}
 use Rattle.model.specs.declared.Plan.{Plan}
 use Rattle.model.specs.declared.Plan.the-variants.{Refuse, Start, Tell, Enter, Update, EnterUpdate, RollBack, Cancel, CommitReads, BeginPromotion, Wait, Acquire, Publish, Release, ShowStore, ShowLog}
 use Rattle.model.specs.Buffers.{Locks, Buffers, Store, idle, running, sessionAt, withSession, withEntry, moveTo, word, cellAt, entryAt, slotIn, entryOf, lookIn, targetIn, currentOf, appended, updated, lockAt, lockOn, join, cap, fits, allFit, lengthsFit, fresh, logIn, onLog, size}
-use Rattle.model.specs.Companions.{capOf, ReadWithin, WithinCaps}
-use Rattle.model.specs.History.{run, history, cellOf}
+use Rattle.model.specs.Caps.{capOf, GotWithin, WithinCaps}
+use Rattle.model.specs.History.{run, events, told, history, add}
 use Rattle.model.specs.Isolation.{All}
 use Rattle.model.specs.Readers.{otherReaders}
 use Rattle.model.specs.Search.{some?, find}
-use Rattle.model.specs.Step.{number, valueOf, handled, change, changeLogs, recordOf, after, releasing, answer, guard, known, claimed, readSlot, writeSlot, writeCapped, sealTarget, promotePlan, advanceTarget, peekSlot, plan, sessionOf, planOf, step, reply, setUpAnswer, setUp, logOf, admit, readPlan, writePlan, sealPlan, peekPlan}
+use Rattle.model.specs.Step.{number, valueOf, handled, change, changeLogs, recordOf, after, releasing, answer, guard, known, claimed, readSlot, writeSlot, writeCapped, sealTarget, promotePlan, advanceTarget, peekSlot, plan, sessionOf, planOf, step, reply, setUpAnswer, setUp, logOf, admit}
+use Rattle.model.specs.Told.{Told, ended, ending, tells, WhereGot}
 use Rattle.model.proofs.Demand3.{set-up-passed, set-up-fresh}
 use Rattle.model.proofs.Laws.{find-some, getD-sets-other, log-length, log-same, log-other, length-on, grown-word, grown-apart}
 use Rattle.model.proofs.Preservation.{choose, guarded, cell-known, cell-new}
-use Rattle.model.proofs.Runs.{first}
+use Rattle.model.proofs.Runs.{first, history-step}
 use Rattle.model.proofs.Tools.{same, split, test, which, clash, both-l, both-r, and-false}
 
 -- ---- the invariant
@@ -173,32 +175,74 @@ fitting P B s x fit p r f =
     (λ h. guarded P B s x fit p (r 7) (r 1) (r 9) (r 2) (λ lt _ q. f (logs-long B h) lt q))
     (λ h. rw h (r 7))
 
+-- a read's value is within the bound of its cell
+abbrev Bounded : (ℕ → ℕ) → Call → ℕ → Type 0
+Bounded bound (Begin s) v = Unit
+Bounded bound (Read s c) v = v ≤ bound c
+Bounded bound (Write s c w) v = Unit
+Bounded bound (Seal s) v = Unit
+Bounded bound (Advance s) v = Unit
+Bounded bound (Abandon s) v = Unit
+Bounded bound (Peek s c) v = Unit
+
+bounded-zero : (bound : ℕ → ℕ) (k : Call) → Bounded bound k 0
+bounded-zero bound (Begin s) = tt
+bounded-zero bound (Read s c) = omega arith
+bounded-zero bound (Write s c v) = tt
+bounded-zero bound (Seal s) = tt
+bounded-zero bound (Advance s) = tt
+bounded-zero bound (Abandon s) = tt
+bounded-zero bound (Peek s c) = tt
+
+-- so is what the call tells
+abbrev TellsWithin : (ℕ → ℕ) → List Told → Type 0
+TellsWithin bound ws = All (WhereGot (λ c v. v ≤ bound c)) ws
+
+bounded-tells : (bound : ℕ → ℕ) (k : Call) (a : Answer) → Bounded bound k (valueOf a) → TellsWithin bound (tells k a)
+unfolding tells ending
+bounded-tells bound k a b = go k b
+  where
+    P : List Told → Type 0
+    P = TellsWithin bound
+
+    end : P (cond (eqb (number a) 6 || eqb (number a) 105) (ended ∷ []) [])
+    end = split P (eqb (number a) 6 || eqb (number a) 105) (λ _. (tt, tt)) (λ _. tt)
+
+    go : (k : Call) → Bounded bound k (valueOf a) → P (tells k a)
+    go (Begin s) b = split P (eqb (number a) 100) (λ _. (tt, tt)) (λ _. end)
+    go (Read s c) b = split P (eqb (number a) 101) (λ _. (b, tt)) (λ _. end)
+    go (Write s c v) b = split P (eqb (number a) 100) (λ _. (tt, tt)) (λ _. end)
+    go (Seal s) b = split P (eqb (number a) 102) (λ _. (tt, tt)) (λ _. split P (eqb (number a) 105) (λ _. (tt, (tt, tt))) (λ _. end))
+    go (Advance s) b = split P (eqb (number a) 103) (λ _. (tt, tt)) (λ _. end)
+    go (Abandon s) b = split P (eqb (number a) 100) (λ _. (tt, tt)) (λ _. end)
+    go (Peek s c) b = end
+
 module _ {σ : Store} (I : Capped σ) where
   -- what a plan leaves and what it answers are within the caps
   abbrev Kept : Call → Plan → Type 0
-  Kept k p = Capped (after (sessionOf k) p σ) × (valueOf (answer (sessionOf k) p σ) ≤ capOf σ (cellOf k))
+  Kept k p = Capped (after (sessionOf k) p σ) × Bounded (capOf σ) k (valueOf (answer (sessionOf k) p σ))
 
   keep-refusal : (k : Call) (m : ℕ) → Kept k (Refuse m)
   unfolding after answer
-  keep-refusal k m = (I, omega arith)
+  keep-refusal k m = (I, bounded-zero (capOf σ) k)
 
   keep-rollback : (k : Call) → Kept k RollBack
   unfolding after answer
-  keep-rollback k = (idle-keeps I (sessionOf k) _, omega arith)
+  keep-rollback k = (idle-keeps I (sessionOf k) _, bounded-zero (capOf σ) k)
 
   -- a call of a running session on a cell
-  on-cell : (k : Call) (p : Plan) → let s = sessionOf k in let c = cellOf k in
+  on-cell : (k : Call) (c : ℕ) (p : Plan) → let s = sessionOf k in
       (length (σ .lent .logs) ≡ 2048 → s < 16 → (recordOf σ s .phase ≡ 0 → ⊥) → Kept k p)
       → Kept k (admit (σ .lent) s (guard (size (σ .lent)) (logOf σ s) (recordOf σ s) (eqb (recordOf σ s .phase) 1) (known (size (σ .lent)) c p)))
-  on-cell k p f =
+  on-cell k c p f =
       let s = sessionOf k in
-      fitting (Kept k) (σ .lent) s (recordOf σ s) (eqb (recordOf σ s .phase) 1) (known (size (σ .lent)) (cellOf k) p) (keep-refusal k)
-      (λ len lt h. cell-known (Kept k) (size (σ .lent)) (cellOf k) p (keep-refusal k 3) (λ _. f len lt (λ e. let w = eqb-true (recordOf σ s .phase) 1 h in omega arith)))
+      fitting (Kept k) (σ .lent) s (recordOf σ s) (eqb (recordOf σ s .phase) 1) (known (size (σ .lent)) c p) (keep-refusal k)
+      (λ len lt h. cell-known (Kept k) (size (σ .lent)) c p (keep-refusal k 3) (λ _. f len lt (λ e. let w = eqb-true (recordOf σ s .phase) 1 h in omega arith)))
 
   keep-read : (s c : ℕ) → Kept (Read s c) (planOf (Read s c) σ)
   unfolding planOf plan readSlot after answer lookIn entryOf
   keep-read s c =
-      on-cell (Read s c) (readSlot (logOf σ s) (recordOf σ s) (lockAt (σ .lent .locks) c) c (slotIn (logOf σ s) (recordOf σ s .count) c))
+      on-cell (Read s c) c (readSlot (logOf σ s) (recordOf σ s) (lockAt (σ .lent .locks) c) c (slotIn (logOf σ s) (recordOf σ s .count) c))
       (λ len lt n.
       choose (Kept (Read s c)) (readSlot (logOf σ s) (recordOf σ s) (lockAt (σ .lent .locks) c) c) (slotIn (logOf σ s) (recordOf σ s .count) c)
       (λ _. cell-new (Kept (Read s c)) (recordOf σ s) (lockAt (σ .lent .locks) c) (Enter c) (keep-refusal (Read s c) 5) (λ _. keep-rollback (Read s c))
@@ -211,7 +255,7 @@ module _ {σ : Store} (I : Capped σ) where
       let k = getD (σ .lent .classes) c 0 in
       let call = Write s c v in
       let m = recordOf σ s .count in
-      on-cell call (cond (ltb k 16) (writeCapped (logOf σ s) (recordOf σ s) (lockAt (σ .lent .locks) c) c v (cap k)) (Refuse 8))
+      on-cell call c (cond (ltb k 16) (writeCapped (logOf σ s) (recordOf σ s) (lockAt (σ .lent .locks) c) c v (cap k)) (Refuse 8))
       (λ len lt n.
       split (Kept call) (ltb k 16)
       (λ _. split (Kept call) (leb v (cap k))
@@ -221,30 +265,30 @@ module _ {σ : Store} (I : Capped σ) where
       (λ _. cell-new (Kept call) (recordOf σ s) (lockAt (σ .lent .locks) c) (EnterUpdate c v) (keep-refusal call 5) (λ _. keep-rollback call)
       (λ room _.
       let u = getD (σ .lent .values) c 0 in
-      (update-keeps (enter-keeps I s n len lt room c) s m v lt (entered-length s (σ .lent .logs) m c u lt len) (rw (entered-cell s (σ .lent .logs) m c u lt len room) le), omega arith)))
-      (λ j p. (update-keeps I s j v lt len (rw (find-some (cellAt (logOf σ s)) c m p .1) le), omega arith)))
+      (update-keeps (enter-keeps I s n len lt room c) s m v lt (entered-length s (σ .lent .logs) m c u lt len) (rw (entered-cell s (σ .lent .logs) m c u lt len room) le), tt)))
+      (λ j p. (update-keeps I s j v lt len (rw (find-some (cellAt (logOf σ s)) c m p .1) le), tt)))
       (λ _. keep-refusal call 4))
       (λ _. keep-refusal call 8))
 
   keep-peek : (s c : ℕ) → Kept (Peek s c) (planOf (Peek s c) σ)
   unfolding planOf plan peekSlot after answer
   keep-peek s c =
-      on-cell (Peek s c) (peekSlot (logOf σ s) c (slotIn (logOf σ s) (recordOf σ s .count) c))
+      on-cell (Peek s c) c (peekSlot (logOf σ s) c (slotIn (logOf σ s) (recordOf σ s .count) c))
       (λ _ _ _.
       choose (Kept (Peek s c)) (peekSlot (logOf σ s) c) (slotIn (logOf σ s) (recordOf σ s .count) c) (λ _. keep-refusal (Peek s c) 14)
-      (λ k _. split (Kept (Peek s c)) (entryAt (logOf σ s) k .dirty) (λ _. (I, omega arith)) (λ _. (I, omega arith))))
+      (λ k _. split (Kept (Peek s c)) (entryAt (logOf σ s) k .dirty) (λ _. (I, tt)) (λ _. (I, tt))))
 
   keep-begin : (s : ℕ) → Kept (Begin s) (planOf (Begin s) σ)
   unfolding planOf plan after answer
   keep-begin s =
       fitting (Kept (Begin s)) (σ .lent) s (recordOf σ s) (eqb (recordOf σ s .phase) 0) Start (keep-refusal (Begin s))
-      (λ _ _ _. (shrink-keeps I s (σ .lent .locks) running (λ k u. absurd (omega (arith, u .1))), omega arith))
+      (λ _ _ _. (shrink-keeps I s (σ .lent .locks) running (λ k u. absurd (omega (arith, u .1))), tt))
 
   keep-abandon : (s : ℕ) → Kept (Abandon s) (planOf (Abandon s) σ)
   unfolding planOf plan after answer
   keep-abandon s =
       fitting (Kept (Abandon s)) (σ .lent) s (recordOf σ s) (eqb (recordOf σ s .phase) 1 || eqb (recordOf σ s .phase) 2) Cancel (keep-refusal (Abandon s))
-      (λ _ _ _. (idle-keeps I s _, omega arith))
+      (λ _ _ _. (idle-keeps I s _, tt))
 
   keep-seal : (s : ℕ) → Kept (Seal s) (planOf (Seal s) σ)
   unfolding planOf plan sealTarget after answer
@@ -252,8 +296,8 @@ module _ {σ : Store} (I : Capped σ) where
       let x = recordOf σ s in
       fitting (Kept (Seal s)) (σ .lent) s x (eqb (x .phase) 1) (sealTarget (targetIn (logOf σ s) (x .count) 0)) (keep-refusal (Seal s))
       (λ _ _ h.
-      choose (Kept (Seal s)) sealTarget (targetIn (logOf σ s) (x .count) 0) (λ _. (idle-keeps I s _, omega arith))
-      (λ c _. (shrink-keeps I s _ (moveTo 2 0 x) (λ k u. (λ e. let w = eqb-true (x .phase) 1 h in omega arith, u .1)), omega arith)))
+      choose (Kept (Seal s)) sealTarget (targetIn (logOf σ s) (x .count) 0) (λ _. (idle-keeps I s _, tt))
+      (λ c _. (shrink-keeps I s _ (moveTo 2 0 x) (λ k u. (λ e. let w = eqb-true (x .phase) 1 h in omega arith, u .1)), tt)))
 
   keep-advance : (s : ℕ) → Kept (Advance s) (planOf (Advance s) σ)
   unfolding planOf plan advanceTarget promotePlan after answer releasing
@@ -271,10 +315,10 @@ module _ {σ : Store} (I : Capped σ) where
       (λ _.
       let l = lockAt (σ .lent .locks) c in
       split (Kept call) (claimed l && not (eqb (l .claimant) s)) (λ _. keep-rollback call)
-      (λ _. split (Kept call) (eqb (otherReaders s (l .readers)) 0) (λ _. (handle-keeps _, omega arith))
-      (λ _. (record { stored = I .stored; logged = I .logged }, omega arith))))
-      (λ _. split (Kept call) (eqb (x .phase) 3) (λ _. (publish-keeps I s n c _ (current-within I s n c), omega arith))
-      (λ _. (handle-keeps _, split (λ a. valueOf a ≤ capOf σ 0) (some? (targetIn (logOf σ s) (x .count) (suc c))) (λ _. omega arith) (λ _. omega arith))))))
+      (λ _. split (Kept call) (eqb (otherReaders s (l .readers)) 0) (λ _. (handle-keeps _, tt))
+      (λ _. (record { stored = I .stored; logged = I .logged }, tt))))
+      (λ _. split (Kept call) (eqb (x .phase) 3) (λ _. (publish-keeps I s n c _ (current-within I s n c), tt))
+      (λ _. (handle-keeps _, tt)))))
 
   keep : (k : Call) → Kept k (planOf k σ)
   unfolding planOf
@@ -290,7 +334,7 @@ module _ {σ : Store} (I : Capped σ) where
   unfolding step
   keeps-capped k = keep k .0
 
-  pub answers-within : (k : Call) → valueOf (reply k σ) ≤ capOf σ (cellOf k)
+  pub answers-within : (k : Call) → Bounded (capOf σ) k (valueOf (reply k σ))
   unfolding reply
   answers-within k = keep k .1
 
@@ -332,13 +376,21 @@ module _ {σ : Store} (I : Capped σ) where
   capped-run [] = I
   capped-run (k ∷ ks) = keeps-capped (capped-run ks) k
 
-  reads-within : (ks : List Call) → All (ReadWithin σ) (history σ ks)
-  unfolding history
-  reads-within [] = tt
-  reads-within (k ∷ ks) = (λ _. omega (arith, answers-within (capped-run ks) k, cap-run σ ks (cellOf k)), reads-within ks)
+  got-within : (ks : List Call) → All (GotWithin σ) (history [] σ ks)
+  got-within [] = unfold told events in tt
+  got-within (k ∷ ks) =
+      subst (All (GotWithin σ)) (sym (history-step [] σ k ks))
+      (more (got-within ks) (tells k (reply k (run σ ks)))
+      (subst (λ (bound : ℕ → ℕ). TellsWithin bound (tells k (reply k (run σ ks)))) (fun-ext (cap-run σ ks))
+      (bounded-tells (capOf (run σ ks)) k (reply k (run σ ks)) (answers-within (capped-run ks) k))))
+    where
+      more : All (GotWithin σ) (history [] σ ks) → (ws : List Told) → TellsWithin (capOf σ) ws
+          → All (GotWithin σ) (add (suc (length ks)) (sessionOf k) ws (history [] σ ks))
+      more g [] a = g
+      more g (w ∷ ws) a = (a .0, more g ws (a .1))
 
   pub within-from : (ks : List Call) → WithinCaps σ ks
-  within-from ks = record { stored = λ c. omega (arith, capped-run ks .stored c, cap-run σ ks c); told = reads-within ks }
+  within-from ks = record { stored = λ c. omega (arith, capped-run ks .stored c, cap-run σ ks c); got = got-within ks }
 
 -- what set-up tested
 pub all-fit : (vs ks : List ℕ) → allFit vs ks ≡ true → (c : ℕ) → getD vs c 0 ≤ cap (getD ks c 0)

@@ -9,7 +9,7 @@ use lib.ListN.{length, getD}
 use lib.Seq.{length-sets}
 use Rattle.model.specs.declared.Session.{Session}
 use Rattle.model.specs.declared.Lock.{Lock}
-use Rattle.model.specs.Buffers.{Locks, Store, idle, running, withEntry, Entry, cellAt, entryAt, slotIn, entryOf, lookIn, isDirty, appended, updated, lockAt, lockOn, join, withdraw, logIn, onLog}
+use Rattle.model.specs.Buffers.{Locks, Store, idle, running, withEntry, Entry, cellAt, entryAt, slotIn, entryOf, lookIn, isDirty, appended, updated, lockAt, lockOn, join, withdraw, onLog}
 use Rattle.model.specs.History.{run}
 use Rattle.model.specs.Isolation.{at}
 use Rattle.model.specs.Search.{find}
@@ -128,9 +128,16 @@ acts {n} {σ} h s lt L F x =
       lt = lt;
     }
 
--- the ledger with session s's transaction replaced
-abbrev pub amended : ℕ → Txn → List Commit → Ledger → Ledger
-amended s u ks T = record { place = suc (T .place); mine = upd (T .mine) s u; commits = ks }
+-- the ledger with session s's transaction replaced and no new commit; and at the next place
+abbrev pub replaced : ℕ → Txn → Ledger → Ledger
+replaced s u T = record { place = T .place; mine = upd (T .mine) s u; commits = T .commits; new = false }
+
+abbrev pub amended : ℕ → Txn → Ledger → Ledger
+amended s u T = record { place = suc (T .place); mine = upd (T .mine) s u; commits = T .commits; new = false }
+
+-- and with one commit more
+abbrev pub joined : ℕ → Txn → Commit → Ledger → Ledger
+joined s u k T = record { place = suc (T .place); mine = upd (T .mine) s u; commits = k ∷ T .commits; new = true }
 
 module _ {start : List ℕ} {σ : Store} {T : Ledger} (s : ℕ) (lt : s < 16) (I : Inv start σ T) where
   abbrev x : Session
@@ -139,34 +146,34 @@ module _ {start : List ℕ} {σ : Store} {T : Ledger} (s : ℕ) (lt : s < 16) (I
   -- ---- roll-back
 
   pub rolls : ((c : ℕ) → pends (role σ c s) ≡ false) → (u : Txn) → u .live ≡ false
-      → Inv start (change σ s (rolledBack (logOf σ s) (recordOf σ s .count) s (σ .lent .locks)) (σ .lent .values) (σ .lent .logs) idle) (amended s u (T .commits) T)
+      → Inv start (change σ s (rolledBack (logOf σ s) (recordOf σ s .count) s (σ .lent .locks)) (σ .lent .values) (σ .lent .logs) idle) (replaced s u T)
   unfolding rolledBack
   rolls np u dead =
       let a = acts (I .shape) s lt (rolledBack (logOf σ s) (x .count) s (σ .lent .locks)) (σ .lent .values) idle in
       quiet s I (frame a)
       (shaped a (I .shape .values)
       (long-sweep (λ c. true) (withdraw s) (cellAt (logOf σ s)) (σ .lent .locks) (length start) (I .shape .long) (x .count)) (omega arith))
-      u
+      u (T .place) (omega arith)
       (λ c lc.
       rw (lock-sweep (λ c. true) (withdraw s) (cellAt (logOf σ s)) (σ .lent .locks) (length start) (I .shape .long) (withdraw-withdraw s (λ e. omega arith)) c lc (x .count))
       (which (find (cellAt (logOf σ s)) (x .count) c)
       (λ p. rw p (kept s (role-other (frame a) c) (role-gone a refl c) (I .locked c lc) (sym (ap holds (unknown σ s c p))) (sym (ap owns (unknown σ s c p))) (λ h. sym (ap claims? (unknown σ s c p)) ∙ h)))
       (λ k p. rw p (withdraws s (role-other (frame a) c) (role-gone a refl c) (I .locked c lc) refl))))
       (λ c lc. stays s (role-other (frame a) c) (role-gone a refl c) (I .valued c lc) (λ f e. not-in (sym e) refl) (λ f e. not-in (sym e) refl) (sym (np c)))
-      (link-mine a start (T .commits) (suc (T .place)) u refl dead)
+      (link-mine a start (T .commits) (T .place) u refl dead)
 
   -- ---- begin
 
   pub started : recordOf σ s .phase ≡ 0
-      → Inv start (change σ s (σ .lent .locks) (σ .lent .values) (σ .lent .logs) running) (amended s (opened s (T .place)) (T .commits) T)
+      → Inv start (change σ s (σ .lent .locks) (σ .lent .values) (σ .lent .logs) running) (amended s (opened (T .place)) T)
   started h =
       let a = acts (I .shape) s lt (σ .lent .locks) (σ .lent .values) running in
       let same-role : (c : ℕ) → role (change σ s (σ .lent .locks) (σ .lent .values) (σ .lent .logs) running) c s ≡ role σ c s = λ c. role-gone a refl c ∙ sym (idle-out σ s c h) in
       let blank : (c : ℕ) → look (change σ s (σ .lent .locks) (σ .lent .values) (σ .lent .logs) running) s c ≡ none = λ c. look-mine a c ∙ unfold lookIn slotIn entryOf find in refl in
-      quiet s I (frame a) (shaped a (I .shape .values) (I .shape .long) (omega arith)) (opened s (T .place))
+      quiet s I (frame a) (shaped a (I .shape .values) (I .shape .long) (omega arith)) (opened (T .place)) (suc (T .place)) (omega arith)
       (λ c lc. locked-still a c (same-role c) (I .locked c lc))
       (λ c lc. valued-still a c (same-role c) (I .valued c lc))
-      (link-mine a start (T .commits) (suc (T .place)) (opened s (T .place)) refl
+      (link-mine a start (T .commits) (suc (T .place)) (opened (T .place)) refl
       (record {
         live = refl;
         open′ = refl;
@@ -180,10 +187,10 @@ module _ {start : List ℕ} {σ : Store} {T : Ledger} (s : ℕ) (lt : s < 16) (I
 
   -- ---- a value told
 
-  pub tells : (c : ℕ) (e : Entry) → recordOf σ s .phase ≡ 1 → look σ s c ≡ some e → Inv start σ (amended s (saw c (e .current) (T .mine s)) (T .commits) T)
-  tells c e ph h =
+  pub learns : (c : ℕ) (e : Entry) → recordOf σ s .phase ≡ 1 → look σ s c ≡ some e → Inv start σ (replaced s (saw c (e .current) (T .mine s)) T)
+  learns c e ph h =
       let run : Running (look σ s) (T .mine s) = rw ph at (I .link s) in
-      quiet s I (record { ses = λ t n. refl; notes = λ t n. refl }) (I .shape) (saw c (e .current) (T .mine s)) (I .locked) (I .valued)
+      quiet s I (record { ses = λ t n. refl; notes = λ t n. refl }) (I .shape) (saw c (e .current) (T .mine s)) (T .place) (omega arith) (I .locked) (I .valued)
       (rw ph (run-saw c e run h))
 
   -- ---- a new entry: no call by itself, but the first half of one
@@ -260,7 +267,7 @@ module _ {start : List ℕ} {σ : Store} {T : Ledger} (s : ℕ) (lt : s < 16) (I
         (λ n. valued-still a d (there d n) (I .valued d ld)))
         (link-mine a start (T .commits) (T .place) (T .mine s) (ph) (run-enter c v (rw ph at (I .link s)) old-look (slot-none σ s c new) enter-look))
         (I .lawful) (omega arith) (I .old)
-        (just-map σ ε (T .place) (T .commits)
+        (just-map σ ε (T .new) (T .commits)
         (λ t d h.
         same d c
         (λ e. rw e (rw (lock-same (length start) c l (σ .lent .locks) w lc) (unfold join in rw e at h)))
@@ -270,10 +277,10 @@ module _ {start : List ℕ} {σ : Store} {T : Ledger} (s : ℕ) (lt : s < 16) (I
   -- ---- a value written into an entry
 
   pub notes : (c k v : ℕ) → recordOf σ s .phase ≡ 1 → slot σ s c ≡ some k
-      → Inv start (changeLogs σ (onLog s (λ log. updated log k v) (σ .lent .logs))) (amended s (wroteTo c v (T .mine s)) (T .commits) T)
+      → Inv start (changeLogs σ (onLog s (λ log. updated log k v) (σ .lent .logs))) (amended s (wroteTo c v (T .mine s)) T)
   unfolding updated
   notes c k v ph h =
-      quiet s I (frame a) (shaped a (I .shape .values) (I .shape .long) (I .shape .counts s)) (wroteTo c v (T .mine s))
+      quiet s I (frame a) (shaped a (I .shape .values) (I .shape .long) (I .shape .counts s)) (wroteTo c v (T .mine s)) (suc (T .place)) (omega arith)
       (λ d ld. locked-still a d (same-role d) (I .locked d ld))
       (λ d ld. valued-still a d (same-role d) (I .valued d ld))
       (link-mine a start (T .commits) (suc (T .place)) (wroteTo c v (T .mine s)) ph (run-note c v (rw ph at (I .link s)) old (entryAt (logOf σ s) k) (slot-some σ s c h) newl))

@@ -10,14 +10,14 @@ use lib.ListN.{length, getD}
 use borrow.Author.Tests.{lt-ltb, le-ltb}
 use Rattle.model.specs.declared.Session.{Session}
 use Rattle.model.specs.Buffers.{Store, Entry, isDirty, publishes, isPublished, currentOf, lockAt}
-use Rattle.model.specs.History.{ReadOf}
 use Rattle.model.specs.Isolation.{All, Holds}
 use Rattle.model.specs.Search.{tally}
 use Rattle.model.specs.Step.{recordOf}
+use Rattle.model.specs.Told.{ReadOf}
 use Rattle.model.proofs.Laws.{Long}
-use Rattle.model.proofs.Ledger.{Txn, Commit, Ledger, tick, valueBefore, Fair, Lawful}
+use Rattle.model.proofs.Ledger.{Txn, Commit, Ledger, tick, calm, valueBefore, Fair, Lawful}
 use Rattle.model.proofs.Roles.{Role, out, reading, wanting, owning, pending, published, Locked, Valued}
-use Rattle.model.proofs.Tools.{same, upd, upd-same, upd-other}
+use Rattle.model.proofs.Tools.{same, clash, upd, upd-same, upd-other}
 use Rattle.model.proofs.View.{look}
 
 -- ---- what session s is to a cell
@@ -111,17 +111,17 @@ pub record Shape (n : ℕ) (σ : Store) : Type 0 where
   pub counts : (s : ℕ) → recordOf σ s .count ≤ 32
 
 -- if the newest commit was made by the last call, its session holds all the cells that it wrote
-abbrev pub Just : Store → ℕ → List Commit → Type 0
-Just σ place [] = Unit
-Just σ place (k ∷ ks) = suc (k .place) ≡ place → (c : ℕ) → k .wrote c ≡ true → Holds σ (k .who) c
+abbrev pub Just : Store → Bool → List Commit → Type 0
+Just σ new [] = Unit
+Just σ new (k ∷ ks) = new ≡ true → (c : ℕ) → k .wrote c ≡ true → Holds σ (k .who) c
 
-pub just-past : (σ : Store) (p : ℕ) (ks : List Commit) → All (λ (k : Commit). k .place < p) ks → Just σ (suc p) ks
-just-past σ p [] h = tt
-just-past σ p (k ∷ ks) h = λ e. absurd (omega (arith, h .0))
+pub just-off : (σ : Store) (b : Bool) (ks : List Commit) → b ≡ false → Just σ b ks
+just-off σ b [] h = tt
+just-off σ b (k ∷ ks) h = λ e. absurd (clash b e h)
 
-pub just-map : (σ τ : Store) (p : ℕ) (ks : List Commit) → ((s c : ℕ) → Holds σ s c → Holds τ s c) → Just σ p ks → Just τ p ks
-just-map σ τ p [] f h = tt
-just-map σ τ p (k ∷ ks) f h = λ e c w. f (k .who) c (h e c w)
+pub just-map : (σ τ : Store) (b : Bool) (ks : List Commit) → ((s c : ℕ) → Holds σ s c → Holds τ s c) → Just σ b ks → Just τ b ks
+just-map σ τ b [] f h = tt
+just-map σ τ b (k ∷ ks) f h = λ e c w. f (k .who) c (h e c w)
 
 pub record Inv (start : List ℕ) (σ : Store) (T : Ledger) : Type 0 where
   pub shape : Shape (length start) σ
@@ -131,7 +131,7 @@ pub record Inv (start : List ℕ) (σ : Store) (T : Ledger) : Type 0 where
   pub lawful : Lawful start (T .commits)
   pub begun : 0 < T .place
   pub old : All (λ (k : Commit). k .place < T .place) (T .commits)
-  pub just : Just σ (T .place) (T .commits)
+  pub just : Just σ (T .new) (T .commits)
 
 -- session s acts: the otherReaders' records and notes stay
 pub record Frame (s : ℕ) (σ τ : Store) : Type 0 where
@@ -149,7 +149,7 @@ module _ {start : List ℕ} {σ : Store} {T : Ledger} (s : ℕ) (I : Inv start �
       → ((c : ℕ) → c < length start → Locked (role τ c) (lockAt (τ .lent .locks) c))
       → ((c : ℕ) → c < length start → Valued (role τ c) (getD (τ .lent .values) c 0) (latest start (U .commits) c))
       → Link start (U .commits) (U .place) (recordOf τ s .next) (look τ s) (U .mine s) (recordOf τ s .phase)
-      → Lawful start (U .commits) → T .place ≤ U .place → All (λ (k : Commit). k .place < U .place) (U .commits) → Just τ (U .place) (U .commits) → Inv start τ U
+      → Lawful start (U .commits) → T .place ≤ U .place → All (λ (k : Commit). k .place < U .place) (U .commits) → Just τ (U .new) (U .commits) → Inv start τ U
   assemble {τ} f sh U mn gr lo va li la pl ol ju =
       record {
         shape = sh;
@@ -178,15 +178,15 @@ module _ {start : List ℕ} {σ : Store} {T : Ledger} (s : ℕ) (I : Inv start �
         left = p .left;
       }
 
-  pub quiet : {τ : Store} → Frame s σ τ → Shape (length start) τ → (u : Txn)
+  pub quiet : {τ : Store} → Frame s σ τ → Shape (length start) τ → (u : Txn) (q : ℕ) → T .place ≤ q
       → ((c : ℕ) → c < length start → Locked (role τ c) (lockAt (τ .lent .locks) c))
       → ((c : ℕ) → c < length start → Valued (role τ c) (getD (τ .lent .values) c 0) (latest start (T .commits) c))
-      → Link start (T .commits) (suc (T .place)) (recordOf τ s .next) (look τ s) u (recordOf τ s .phase)
-      → Inv start τ (record { place = suc (T .place); mine = upd (T .mine) s u; commits = T .commits })
-  quiet {τ} f sh u lo va li =
-      assemble f sh (record { place = suc (T .place); mine = upd (T .mine) s u; commits = T .commits })
-      (λ t n. upd-other (T .mine) s u t n) (λ t n e p. later (omega arith) p) lo va (rw (upd-same (T .mine) s u) li) (I .lawful) (omega arith)
-      (all-map (λ k h. omega arith) (T .commits) (I .old)) (just-past τ (T .place) (T .commits) (I .old))
+      → Link start (T .commits) q (recordOf τ s .next) (look τ s) u (recordOf τ s .phase)
+      → Inv start τ (record { place = q; mine = upd (T .mine) s u; commits = T .commits; new = false })
+  quiet {τ} f sh u q le lo va li =
+      assemble f sh (record { place = q; mine = upd (T .mine) s u; commits = T .commits; new = false })
+      (λ t n. upd-other (T .mine) s u t n) (λ t n e p. later le p) lo va (rw (upd-same (T .mine) s u) li) (I .lawful) le
+      (all-map (λ k h. omega arith) (T .commits) (I .old)) (just-off τ false (T .commits) refl)
 
   -- a new commit, of session s at this place
   pub committing : {τ : Store} → Frame s σ τ → Shape (length start) τ → (u : Txn) (k : Commit) → k .place ≡ T .place
@@ -196,9 +196,9 @@ module _ {start : List ℕ} {σ : Store} {T : Ledger} (s : ℕ) (I : Inv start �
       → ((c : ℕ) → c < length start → Valued (role τ c) (getD (τ .lent .values) c 0) (latest start (k ∷ T .commits) c))
       → Link start (k ∷ T .commits) (suc (T .place)) (recordOf τ s .next) (look τ s) u (recordOf τ s .phase)
       → ((c : ℕ) → k .wrote c ≡ true → Holds τ (k .who) c)
-      → Inv start τ (record { place = suc (T .place); mine = upd (T .mine) s u; commits = k ∷ T .commits })
+      → Inv start τ (record { place = suc (T .place); mine = upd (T .mine) s u; commits = k ∷ T .commits; new = true })
   committing f sh u k e non fa lo va li ho =
-      assemble f sh (record { place = suc (T .place); mine = upd (T .mine) s u; commits = k ∷ T .commits })
+      assemble f sh (record { place = suc (T .place); mine = upd (T .mine) s u; commits = k ∷ T .commits; new = true })
       (λ t n. upd-other (T .mine) s u t n)
       (λ t n ph p.
       record {
@@ -215,7 +215,21 @@ module _ {start : List ℕ} {σ : Store} {T : Ledger} (s : ℕ) (I : Inv start �
       lo va (rw (upd-same (T .mine) s u) li) (fa, I .lawful) (omega arith)
       (omega arith, all-map (λ k h. omega arith) (T .commits) (I .old)) (λ e. ho)
 
--- a call that is turned down
+-- no commit by the last call
+pub calms : {start : List ℕ} {σ : Store} {T : Ledger} → Inv start σ T → Inv start σ (calm T)
+calms {σ} {T} I =
+    record {
+      shape = I .shape;
+      locked = I .locked;
+      valued = I .valued;
+      link = I .link;
+      lawful = I .lawful;
+      begun = I .begun;
+      old = I .old;
+      just = just-off σ false (T .commits) refl;
+    }
+
+-- the next place
 pub ticks : {start : List ℕ} {σ : Store} {T : Ledger} → Inv start σ T → Inv start σ (tick T)
 ticks {σ} {T} I =
     record {
@@ -226,5 +240,5 @@ ticks {σ} {T} I =
       lawful = I .lawful;
       begun = omega (arith, I .begun);
       old = all-map (λ k h. omega arith) (T .commits) (I .old);
-      just = just-past σ (T .place) (T .commits) (I .old);
+      just = I .just;
     }

@@ -1,25 +1,23 @@
--- The transactions as the run goes: what a call and its answer tell of an open transaction, each session's latest, and the commits so far.
+-- The transactions as the run goes: what is told of an open transaction, each session's latest, and the commits so far.
 use Prim.Native.Nat.{ℕ, suc, _≤_, _<_}
 use mathlib.Core.Path.{_≡_}
 use mathlib.Core.Bool.{Bool, true, false, cond, not, _&&_, _||_}
-use mathlib.Core.Option.{Option, none, some}
 use mathlib.Core.List.{List, [], _∷_}
 use lib.Dec.{ltb, eqb}
-use lib.ListN.{length, getD}
+use lib.ListN.{getD}
 use Rattle.model.specs.declared.Call.{Call}
-use Rattle.model.specs.declared.Call.the-variants.{Begin, Read, Write, Seal, Advance, Abandon, Peek}
 use Rattle.model.specs.declared.Answer.{Answer}
 use Rattle.model.specs.Buffers.{Store}
-use Rattle.model.specs.History.{Event, run, ReadOf}
+use Rattle.model.specs.History.{run}
 use Rattle.model.specs.Isolation.{All}
 use Rattle.model.specs.Search.{tally}
-use Rattle.model.specs.Step.{number, valueOf, sessionOf, reply}
+use Rattle.model.specs.Step.{sessionOf, reply}
+use Rattle.model.specs.Told.{Told, began, got, put, sealed, moved, ended, tells, ReadOf}
 use Rattle.model.proofs.Tools.{upd}
 
--- its session and the place of its begin; whether it is open; its reads before writing; the cells it wrote and its values there; the
+-- the place of its begin; whether it is open; its reads before writing; the cells it wrote and its values there; the
 -- place of its seal (0: none yet); its answers 103; whether it is committed, and the place (0: none yet)
 pub record Txn : Type 0 where
-  pub who : ℕ
   pub began : ℕ
   pub live : Bool
   pub reads : List ReadOf
@@ -30,14 +28,13 @@ pub record Txn : Type 0 where
   pub done : Bool
   pub commit : ℕ
 
-abbrev pub opened : ℕ → ℕ → Txn
-opened s p =
-    record { who = s; began = p; live = true; reads = []; wrote = λ c. false; value = λ c. 0; snap = 0; moved = 0; done = false; commit = 0 }
+abbrev pub opened : ℕ → Txn
+opened p =
+    record { began = p; live = true; reads = []; wrote = λ c. false; value = λ c. 0; snap = 0; moved = 0; done = false; commit = 0 }
 
-abbrev pub ended : Txn → Txn
-ended t =
+abbrev pub closed : Txn → Txn
+closed t =
     record {
-      who = t .who;
       began = t .began;
       live = false;
       reads = t .reads;
@@ -52,7 +49,6 @@ ended t =
 abbrev pub saw : ℕ → ℕ → Txn → Txn
 saw c v t =
     record {
-      who = t .who;
       began = t .began;
       live = t .live;
       reads = cond (t .wrote c) (t .reads) (record { cell = c; value = v } ∷ t .reads);
@@ -67,7 +63,6 @@ saw c v t =
 abbrev pub wroteTo : ℕ → ℕ → Txn → Txn
 wroteTo c v t =
     record {
-      who = t .who;
       began = t .began;
       live = t .live;
       reads = t .reads;
@@ -83,7 +78,6 @@ wroteTo c v t =
 abbrev pub sealedAt : ℕ → ℕ → Txn → Txn
 sealedAt n q t =
     record {
-      who = t .who;
       began = t .began;
       live = t .live;
       reads = t .reads;
@@ -99,7 +93,6 @@ sealedAt n q t =
 abbrev pub advanced : ℕ → ℕ → Txn → Txn
 advanced n q t =
     record {
-      who = t .who;
       began = t .began;
       live = t .live;
       reads = t .reads;
@@ -111,45 +104,6 @@ advanced n q t =
       commit = cond (t .done) (t .commit) (cond (eqb (suc (t .moved)) (tally (t .wrote) n)) q 0);
     }
 
--- what a call of its session at place q tells of an open transaction, if anything
-unfoldable pub over : Answer → Option (Txn → Txn)
-over a = cond (eqb (number a) 6 || eqb (number a) 105) (some ended) none
-
-unfoldable pub news : ℕ → ℕ → Call → Answer → Option (Txn → Txn)
-unfolding over
-news n q (Begin s) a = over a
-news n q (Read s c) a = cond (eqb (number a) 101) (some (saw c (valueOf a))) (over a)
-news n q (Write s c v) a = cond (eqb (number a) 100) (some (wroteTo c v)) (over a)
-news n q (Seal s) a =
-    cond (eqb (number a) 102) (some (sealedAt n q)) (cond (eqb (number a) 105) (some (λ t. ended (sealedAt n q t))) (over a))
-news n q (Advance s) a = cond (eqb (number a) 103) (some (advanced n q)) (over a)
-news n q (Abandon s) a = cond (eqb (number a) 100) (some ended) (over a)
-news n q (Peek s c) a = over a
-
-unfoldable pub apply : Option (Txn → Txn) → Txn → Txn
-apply none t = t
-apply (some f) t = f t
-
-unfoldable pub absorb : ℕ → ℕ → Event → Txn → Txn
-unfolding news apply
-absorb n q e t = cond (t .live && eqb (sessionOf (e .call)) (t .who)) (apply (news n q (e .call) (e .answer)) t) t
-
--- a transaction begins with a begin answered 100
-unfoldable pub begins : ℕ → Call → Answer → Txn
-begins p (Begin s) a = cond (eqb (number a) 100) (opened s p) (ended (opened s p))
-begins p (Read s c) a = ended (opened s p)
-begins p (Write s c v) a = ended (opened s p)
-begins p (Seal s) a = ended (opened s p)
-begins p (Advance s) a = ended (opened s p)
-begins p (Abandon s) a = ended (opened s p)
-begins p (Peek s c) a = ended (opened s p)
-
--- the transaction that begins at place p, as far as the list tells; of the n cells
-unfoldable pub txn : ℕ → ℕ → List Event → Txn
-unfolding begins absorb
-txn n p [] = ended (opened 0 p)
-txn n p (e ∷ h) = cond (eqb (suc (length h)) p) (begins p (e .call) (e .answer)) (absorb n (suc (length h)) e (txn n p h))
-
 pub record Commit : Type 0 where
   pub who : ℕ
   pub began : ℕ
@@ -159,49 +113,67 @@ pub record Commit : Type 0 where
   pub wrote : ℕ → Bool
   pub value : ℕ → ℕ
 
--- the place of the next call; each session's latest transaction; the commits so far, the newest first
+-- the place of the next call; each session's latest transaction; the commits so far, the newest first; whether the last call made the newest
 pub record Ledger : Type 0 where
   pub place : ℕ
   pub mine : ℕ → Txn
   pub commits : List Commit
+  pub new : Bool
 
+-- the next place
 abbrev pub tick : Ledger → Ledger
-tick T = record { place = suc (T .place); mine = T .mine; commits = T .commits }
+tick T = record { place = suc (T .place); mine = T .mine; commits = T .commits; new = T .new }
+
+-- before a call it has made no commit
+abbrev pub calm : Ledger → Ledger
+calm T = record { place = T .place; mine = T .mine; commits = T .commits; new = false }
 
 abbrev pub asCommit : ℕ → ℕ → Txn → Commit
 asCommit s p t = record { who = s; began = t .began; snap = t .snap; place = p; reads = t .reads; wrote = t .wrote; value = t .value }
 
--- session s's transaction, if it is open, becomes t; a transaction that is committed now and was not is one more commit
+-- session s's transaction, if it is open, becomes f of it; a transaction that is committed now and was not is one more commit
 unfoldable pub amend : ℕ → (Txn → Txn) → Ledger → Ledger
 amend s f T =
     let t = T .mine s in
     cond (t .live)
     (record {
-      place = suc (T .place);
+      place = T .place;
       mine = upd (T .mine) s (f t);
       commits = cond (f t .done && not (t .done)) (asCommit s (T .place) (f t) ∷ T .commits) (T .commits);
+      new = T .new || (f t .done && not (t .done));
     })
-    (tick T)
-
-unfoldable pub amendBy : ℕ → Option (Txn → Txn) → Ledger → Ledger
-amendBy s none T = tick T
-amendBy s (some f) T = amend s f T
+    T
 
 unfoldable pub starts : ℕ → Ledger → Ledger
-starts s T = record { place = suc (T .place); mine = upd (T .mine) s (opened s (T .place)); commits = T .commits }
+starts s T = record { place = T .place; mine = upd (T .mine) s (opened (T .place)); commits = T .commits; new = T .new }
+
+-- what is told at place q does to an open transaction
+abbrev pub note : ℕ → ℕ → Told → Txn → Txn
+note n q began t = t
+note n q (got c v) t = saw c v t
+note n q (put c v) t = wroteTo c v t
+note n q sealed t = sealedAt n q t
+note n q moved t = advanced n q t
+note n q ended t = closed t
+
+-- session s tells something, or several things, the newest first
+abbrev pub hear : ℕ → ℕ → Told → Ledger → Ledger
+hear n s began T = starts s T
+hear n s (got c v) T = amend s (saw c v) T
+hear n s (put c v) T = amend s (wroteTo c v) T
+hear n s sealed T = amend s (sealedAt n (T .place)) T
+hear n s moved T = amend s (advanced n (T .place)) T
+hear n s ended T = amend s closed T
+
+abbrev pub hears : ℕ → ℕ → List Told → Ledger → Ledger
+hears n s [] T = T
+hears n s (w ∷ ws) T = hear n s w (hears n s ws T)
 
 unfoldable pub observe : ℕ → Call → Answer → Ledger → Ledger
-unfolding news over amendBy starts
-observe n (Begin s) a T = cond (eqb (number a) 100) (starts s T) (amendBy s (news n (T .place) (Begin s) a) T)
-observe n (Read s c) a T = amendBy s (news n (T .place) (Read s c) a) T
-observe n (Write s c v) a T = amendBy s (news n (T .place) (Write s c v) a) T
-observe n (Seal s) a T = amendBy s (news n (T .place) (Seal s) a) T
-observe n (Advance s) a T = amendBy s (news n (T .place) (Advance s) a) T
-observe n (Abandon s) a T = amendBy s (news n (T .place) (Abandon s) a) T
-observe n (Peek s c) a T = amendBy s (news n (T .place) (Peek s c) a) T
+observe n k a T = tick (hears n (sessionOf k) (tells k a) (calm T))
 
 abbrev pub blank : Ledger
-blank = record { place = 1; mine = λ s. ended (opened s 0); commits = [] }
+blank = record { place = 1; mine = λ s. closed (opened 0); commits = []; new = false }
 
 -- the ledger of n cells after a list of calls, from one to go on with
 unfoldable pub ledger : ℕ → Ledger → Store → List Call → Ledger

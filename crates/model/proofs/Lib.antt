@@ -11,6 +11,7 @@ pub mod Sealing
 pub mod Advancing
 pub mod Preservation
 pub mod Matching
+pub mod Names
 pub mod Settled
 pub mod Runs
 pub mod Words
@@ -20,11 +21,13 @@ pub mod Writers
 pub mod Demand3
 pub mod Orders
 pub mod Cases
-pub mod Histories
+pub mod Anomalies
+pub mod ReadWords
+pub mod Twin
 pub mod Caps
 pub mod SerialLedger
 pub mod SerialLocks
 pub mod SerialCalls
 pub mod Serial
 pub mod SerialExamples
-pub mod Twin
+pub mod ReadClaims

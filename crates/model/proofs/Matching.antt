@@ -1,403 +1,301 @@
--- The transactions that a list of events tells, one for each place, are those that the ledger keeps as the run goes.
-use Prim.Native.Nat.{ℕ, suc, _<_}
-use native.Mathlib.Omega.{arith}
+-- The transactions that a list tells, one for each name, are those that the ledger keeps as the run goes: one thing more told.
+use Prim.Native.Nat.{ℕ, _<_}
 use mathlib.Core.Path.{_≡_, refl, sym, _∙_, ap, subst}
 use mathlib.Core.Logic.{_⊎_, inl, inr}
 use mathlib.Core.Bool.{Bool, true, false, cond, not, _&&_, _||_}
-use mathlib.Core.Option.{Option, none, some}
 use mathlib.Core.List.{List, [], _∷_}
 use lib.Dec.{eqb}
-use lib.ListN.{length}
 use borrow.Author.Tests.{eqb-true, eq-eqb, ne-eqb, not-true}
-use Rattle.model.specs.declared.Call.{Call}
-use Rattle.model.specs.declared.Call.the-variants.{Begin, Read, Write, Seal, Advance, Abandon, Peek}
-use Rattle.model.specs.declared.Answer.{Answer}
-use Rattle.model.specs.History.{Event, ReadOf}
-use Rattle.model.specs.Isolation.{All, at}
-use Rattle.model.specs.Step.{number, sessionOf}
+use Rattle.model.specs.History.{Item, Name, name, extend, transaction, isOpen, wrote, valueWritten, readsBeforeWriting, snapshot, commit, committed}
+use Rattle.model.specs.Isolation.{All}
+use Rattle.model.specs.Told.{Told, began, got, put, sealed, moved, ended, begins, ends, ReadOf}
 use Rattle.model.proofs.Invariant.{all-map}
-use Rattle.model.proofs.Ledger.{Txn, opened, over, news, apply, absorb, begins, txn, Commit, Ledger, tick, asCommit, amend, amendBy, starts, observe}
-use Rattle.model.proofs.Tools.{same, split, test, clash, both-l, both-r, upd, upd-same, upd-other}
+use Rattle.model.proofs.Ledger.{Txn, opened, Commit, Ledger, asCommit, amend, starts, note, hear}
+use Rattle.model.proofs.Tools.{same, test, clash, both-l, both-r, upd, upd-same, upd-other}
+use Rattle.model.proofs.Words.{summary, Fits, more, empty-committed, alone, settled, commits-here}
 
-abbrev pub OptAll : ((Txn → Txn) → Type 0) → Option (Txn → Txn) → Type 0
-OptAll P none = Unit
-OptAll P (some f) = P f
+pub name-is : (p s : ℕ) (x : Name) → p ≡ x .place → s ≡ x .session → name p s ≡ x
+name-is p s x a b = rw (a, b)
 
--- what news never changes, and where it commits
-pub record Well (q : ℕ) (f : Txn → Txn) : Type 0 where
-  pub who : (t : Txn) → f t .who ≡ t .who
-  pub began : (t : Txn) → f t .began ≡ t .began
-  pub commit : (t : Txn) → t .done ≡ false → f t .done ≡ true → f t .commit ≡ q
-  pub more : (t : Txn) (c : ℕ) → t .wrote c ≡ true → f t .wrote c ≡ true
-
-over-well : (q : ℕ) (a : Answer) → OptAll (Well q) (over a)
-unfolding over
-over-well q a =
-    split (OptAll (Well q)) (eqb (number a) 6 || eqb (number a) 105)
-    (λ _. record { who = λ t. refl; began = λ t. refl; commit = λ t x y. absurd (clash (t .done) y x); more = λ t c h. h }) (λ _. tt)
-
-pub news-well : (n q : ℕ) (k : Call) (a : Answer) → OptAll (Well q) (news n q k a)
-unfolding news
-news-well n q (Begin s) a = over-well q a
-news-well n q (Read s c) a =
-    split (OptAll (Well q)) (eqb (number a) 101)
-    (λ _. record { who = λ t. refl; began = λ t. refl; commit = λ t x y. absurd (clash (t .done) y x); more = λ t c h. h }) (λ _. over-well q a)
-news-well n q (Write s c v) a =
-    split (OptAll (Well q)) (eqb (number a) 100)
-    (λ _. record { who = λ t. refl; began = λ t. refl; commit = λ t x y. absurd (clash (t .done) y x); more = λ t d h. same d c (λ e. rw (e, upd-same (t .wrote) c true)) (λ e. rw (upd-other (t .wrote) c true d e) h) }) (λ _. over-well q a)
-news-well n q (Seal s) a =
-    split (OptAll (Well q)) (eqb (number a) 102)
-    (λ _. record { who = λ t. refl; began = λ t. refl; commit = λ t x y. rw y; more = λ t c h. h })
-    (λ _. split (OptAll (Well q)) (eqb (number a) 105) (λ _. record { who = λ t. refl; began = λ t. refl; commit = λ t x y. rw y; more = λ t c h. h }) (λ _. over-well q a))
-news-well n q (Advance s) a =
-    split (OptAll (Well q)) (eqb (number a) 103)
-    (λ _. record { who = λ t. refl; began = λ t. refl; commit = λ t x y. rw x (rw (rw x at y)); more = λ t c h. h }) (λ _. over-well q a)
-news-well n q (Abandon s) a =
-    split (OptAll (Well q)) (eqb (number a) 100)
-    (λ _. record { who = λ t. refl; began = λ t. refl; commit = λ t x y. absurd (clash (t .done) y x); more = λ t c h. h }) (λ _. over-well q a)
-news-well n q (Peek s c) a = over-well q a
-
--- ---- one event
-
-module _ (n q : ℕ) (e : Event) where
-  pub absorb-mine : (t : Txn) → t .live ≡ true → sessionOf (e .call) ≡ t .who → absorb n q e t ≡ apply (news n q (e .call) (e .answer)) t
-  unfolding absorb
-  absorb-mine t l w =
-      split (λ (u : Txn). u ≡ apply (news n q (e .call) (e .answer)) t) (t .live && eqb (sessionOf (e .call)) (t .who)) (λ _. refl)
-      (λ p. absurd (clash (t .live && eqb (sessionOf (e .call)) (t .who)) (rw (l, eq-eqb (sessionOf (e .call)) (t .who) w)) p))
-
-  pub absorb-other : (t : Txn) → (t .live ≡ true → sessionOf (e .call) ≡ t .who → ⊥) → absorb n q e t ≡ t
-  unfolding absorb
-  absorb-other t h =
-      split (λ (u : Txn). u ≡ t) (t .live && eqb (sessionOf (e .call)) (t .who))
-      (λ p. absurd (h (both-l (t .live) (eqb (sessionOf (e .call)) (t .who)) p)
-      (eqb-true (sessionOf (e .call)) (t .who) (both-r (t .live) (eqb (sessionOf (e .call)) (t .who)) p))))
-      (λ _. refl)
-
-begins-began : (p : ℕ) (k : Call) (a : Answer) → begins p k a .began ≡ p
-unfolding begins
-begins-began p (Begin s) a = split (λ (t : Txn). t .began ≡ p) (eqb (number a) 100) (λ _. refl) (λ _. refl)
-begins-began p (Read s c) a = refl
-begins-began p (Write s c v) a = refl
-begins-began p (Seal s) a = refl
-begins-began p (Advance s) a = refl
-begins-began p (Abandon s) a = refl
-begins-began p (Peek s c) a = refl
-
-apply-began : (q : ℕ) (o : Option (Txn → Txn)) → OptAll (Well q) o → (t : Txn) → apply o t .began ≡ t .began
-unfolding apply
-apply-began q none w t = refl
-apply-began q (some f) w t = w .began t
-
-absorb-began : (n q : ℕ) (e : Event) (t : Txn) → absorb n q e t .began ≡ t .began
-unfolding absorb
-absorb-began n q e t =
-    split (λ (u : Txn). u .began ≡ t .began) (t .live && eqb (sessionOf (e .call)) (t .who))
-    (λ _. apply-began q (news n q (e .call) (e .answer)) (news-well n q (e .call) (e .answer)) t) (λ _. refl)
-
-module _ (n : ℕ) (e : Event) (h : List Event) where
-  pub txn-new : txn n (suc (length h)) (e ∷ h) ≡ begins (suc (length h)) (e .call) (e .answer)
-  unfolding txn
-  txn-new = rw (eq-eqb (suc (length h)) (suc (length h)) refl)
-
-  pub txn-old : (p : ℕ) → (suc (length h) ≡ p → ⊥) → txn n p (e ∷ h) ≡ absorb n (suc (length h)) e (txn n p h)
-  unfolding txn
-  txn-old p d = rw (ne-eqb (suc (length h)) p d)
-
-pub txn-began : (n p : ℕ) (h : List Event) → txn n p h .began ≡ p
-txn-began n p [] = unfold txn in refl
-txn-began n p (e ∷ h) =
-    same (suc (length h)) p
-    (λ d. subst (λ (x : ℕ). txn n x (e ∷ h) .began ≡ x) d (ap (λ (t : Txn). t .began) (txn-new n e h) ∙ begins-began (suc (length h)) (e .call) (e .answer)))
-    (λ d. ap (λ (t : Txn). t .began) (txn-old n e h p d) ∙ absorb-began n (suc (length h)) e (txn n p h) ∙ txn-began n p h)
-
--- ---- the ledger and the transactions
-
--- a commit is what the list tells of the transaction of its place
-pub record Recorded (n : ℕ) (h : List Event) (k : Commit) : Type 0 where
-  pub done : txn n (k .began) h .done ≡ true
-  pub commit : txn n (k .began) h .commit ≡ k .place
-  pub snap : txn n (k .began) h .snap ≡ k .snap
-  pub reads : txn n (k .began) h .reads ≡ k .reads
-  pub wrote : txn n (k .began) h .wrote ≡ k .wrote
-  pub value : txn n (k .began) h .value ≡ k .value
-  pub who : txn n (k .began) h .who ≡ k .who
-
-abbrev pub In : ℕ → List Commit → Type 0
-In p [] = ⊥
-In p (k ∷ ks) = (k .began ≡ p) ⊎ In p ks
-
-pub record Matches (n : ℕ) (h : List Event) (T : Ledger) : Type 0 where
-  pub place : T .place ≡ suc (length h)
-  pub who : (s : ℕ) → T .mine s .who ≡ s
-  pub open′ : (p : ℕ) → txn n p h .live ≡ true → txn n p h ≡ T .mine (txn n p h .who)
-  pub mine : (s : ℕ) → T .mine s .live ≡ true → txn n (T .mine s .began) h ≡ T .mine s
-  pub unborn : (p : ℕ) → length h < p → (txn n p h .live ≡ false) × (txn n p h .done ≡ false)
-  pub recorded : All (Recorded n h) (T .commits)
-  pub every : (p : ℕ) → txn n p h .done ≡ true → In p (T .commits)
-
-recorded-same : (n : ℕ) (h g : List Event) (k : Commit) → txn n (k .began) g ≡ txn n (k .began) h → Recorded n h k → Recorded n g k
-recorded-same n h g k e t =
-    record { done = rw e (t .done); commit = rw e (t .commit); snap = rw e (t .snap); reads = rw e (t .reads); wrote = rw e (t .wrote); value = rw e (t .value); who = rw e (t .who) }
-
--- nothing of a committed transaction that counts changes
-pub record Same (t u : Txn) : Type 0 where
-  pub done : u .done ≡ t .done
-  pub commit : u .commit ≡ t .commit
-  pub snap : u .snap ≡ t .snap
-  pub reads : u .reads ≡ t .reads
-  pub wrote : u .wrote ≡ t .wrote
-  pub value : u .value ≡ t .value
-  pub who : u .who ≡ t .who
-
-recorded-change : (n : ℕ) (h g : List Event) (k : Commit) {t u : Txn} → txn n (k .began) h ≡ t → txn n (k .began) g ≡ u → Same t u → Recorded n h k → Recorded n g k
-recorded-change n h g k {t} {u} a b c d =
-    let x : (A : Type 0) (f : Txn → A) → f u ≡ f t → f (txn n (k .began) g) ≡ f (txn n (k .began) h) = λ A f z. ap f b ∙ z ∙ sym (ap f a) in
-    record {
-      done = x Bool (λ t. t .done) (c .done) ∙ d .done;
-      commit = x ℕ (λ t. t .commit) (c .commit) ∙ d .commit;
-      snap = x ℕ (λ t. t .snap) (c .snap) ∙ d .snap;
-      reads = x (List ReadOf) (λ t. t .reads) (c .reads) ∙ d .reads;
-      wrote = x (ℕ → Bool) (λ t. t .wrote) (c .wrote) ∙ d .wrote;
-      value = x (ℕ → ℕ) (λ t. t .value) (c .value) ∙ d .value;
-      who = x ℕ (λ t. t .who) (c .who) ∙ d .who;
-    }
-
-in-there : (p : ℕ) (k : Commit) (ks : List Commit) → In p ks → In p (k ∷ ks)
-in-there p k ks i = inr i
-
-module _ {n : ℕ} {h : List Event} {T : Ledger} (M : Matches n h T) (e : Event) where
-  abbrev q : ℕ
-  q = suc (length h)
-
-  abbrev s : ℕ
-  s = sessionOf (e .call)
-
-  -- a recorded commit's place of begin is one of the list's
-  recorded-born : (k : Commit) → Recorded n h k → q ≡ k .began → ⊥
-  recorded-born k t d = clash (txn n (k .began) h .done) (t .done) (M .unborn (k .began) (omega arith) .1)
-
-  mine-born : (t : ℕ) → T .mine t .live ≡ true → q ≡ T .mine t .began → ⊥
-  mine-born t l d = clash (txn n (T .mine t .began) h .live) (rw (M .mine t l) l) (M .unborn (T .mine t .began) (omega arith) .0)
-
-  -- no transaction but those of this place changes
-  module _ (still : (p : ℕ) → (q ≡ p → ⊥) → txn n p (e ∷ h) ≡ txn n p h) where
-    still-recorded : All (Recorded n (e ∷ h)) (T .commits)
-    still-recorded = all-map (λ k t. recorded-same n h (e ∷ h) k (still (k .began) (recorded-born k t)) t) (T .commits) (M .recorded)
-
-    pub silent : begins q (e .call) (e .answer) .live ≡ false → begins q (e .call) (e .answer) .done ≡ false → Matches n (e ∷ h) (tick T)
-    silent a b =
-        record {
-          place = ap suc (M .place);
-          who = M .who;
-          open′ = λ p. same q p (λ d l. absurd (clash (txn n p (e ∷ h) .live) l (rw (← d) (rw (txn-new n e h) a)))) (λ d. rw (still p d) (M .open′ p));
-          mine = λ t l. still (T .mine t .began) (mine-born t l) ∙ M .mine t l;
-          unborn = λ p l. same q p (λ d. rw (← d) (rw (txn-new n e h) (a, b))) (λ d. rw (still p d) (M .unborn p (omega arith)));
-          recorded = still-recorded;
-          every = λ p. same q p (λ d l. absurd (clash (txn n p (e ∷ h) .done) l (rw (← d) (rw (txn-new n e h) b)))) (λ d. rw (still p d) (M .every p));
-        }
-
-    pub opens : begins q (e .call) (e .answer) ≡ opened s q → T .mine s .live ≡ false → Matches n (e ∷ h) (starts s T)
-    unfolding starts
-    opens a dead =
-        record {
-          place = ap suc (M .place);
-          who = λ t. same t s (λ d. rw (d, upd-same (T .mine) s u)) (λ d. rw (upd-other (T .mine) s u t d) (M .who t));
-          open′ = λ p. same q p
-              (λ d. subst (λ (x : ℕ). txn n x (e ∷ h) .live ≡ true → txn n x (e ∷ h) ≡ upd (T .mine) s u (txn n x (e ∷ h) .who)) d
-              (rw (txn-new n e h ∙ a) (λ _. sym (upd-same (T .mine) s u ∙ ap (opened s) (M .place)))))
-              (λ d. rw (still p d) (λ l.
-              let o = M .open′ p l in
-              o ∙ sym (upd-other (T .mine) s u (txn n p h .who)
-              (λ w. clash (txn n p h .live) l (ap (λ (t : Txn). t .live) o ∙ rw w dead)))));
-          mine = λ t. same t s
-              (λ d. rw (d, upd-same (T .mine) s u) (λ _. ap (λ (x : ℕ). txn n x (e ∷ h)) (M .place) ∙ txn-new n e h ∙ a ∙ sym (ap (opened s) (M .place))))
-              (λ d. rw (upd-other (T .mine) s u t d) (λ l. still (T .mine t .began) (mine-born t l) ∙ M .mine t l));
-          unborn = λ p l. same q p (λ d. absurd (omega arith)) (λ d. rw (still p d) (M .unborn p (omega arith)));
-          recorded = still-recorded;
-          every = λ p. same q p (λ d l. absurd (clash (txn n p (e ∷ h) .done) l (rw (← d) (ap (λ (t : Txn). t .done) (txn-new n e h ∙ a))))) (λ d. rw (still p d) (M .every p));
-        }
-      where
-        u : Txn
-        u = opened s (T .place)
-
-  -- the open transaction of the session changes
-  module _ (f : Txn → Txn) (w : Well q f) (l : T .mine s .live ≡ true) (now : txn n (T .mine s .began) (e ∷ h) ≡ f (T .mine s))
-      (still : (p : ℕ) → (q ≡ p → ⊥) → (p ≡ T .mine s .began → ⊥) → txn n p (e ∷ h) ≡ txn n p h)
-      (dead : (begins q (e .call) (e .answer) .live ≡ false) × (begins q (e .call) (e .answer) .done ≡ false))
-      (tame : T .mine s .done ≡ true → Same (T .mine s) (f (T .mine s))) where
-    changed-recorded : All (Recorded n (e ∷ h)) (T .commits)
-    changed-recorded =
-        all-map (λ k t. same (k .began) (T .mine s .began)
-        (λ d. let a = ap (λ (x : ℕ). txn n x h) d ∙ M .mine s l in
-        recorded-change n h (e ∷ h) k a (ap (λ (x : ℕ). txn n x (e ∷ h)) d ∙ now) (tame (sym (ap (λ (t : Txn). t .done) a) ∙ t .done)) t)
-        (λ d. recorded-same n h (e ∷ h) k (still (k .began) (recorded-born k t) d) t))
-        (T .commits) (M .recorded)
-
-    pub changes : (ks : List Commit) → All (Recorded n (e ∷ h)) ks → ((p : ℕ) → txn n p h .done ≡ true → In p ks)
-        → (T .mine s .done ≡ false → f (T .mine s) .done ≡ true → In (T .mine s .began) ks)
-        → Matches n (e ∷ h) (record { place = suc (T .place); mine = upd (T .mine) s (f (T .mine s)); commits = ks })
-    changes ks tl ev nw =
-        record {
-          place = ap suc (M .place);
-          who = λ t. same t s (λ d. rw (d, upd-same (T .mine) s u) mine-who) (λ d. rw (upd-other (T .mine) s u t d) (M .who t));
-          open′ = λ p. same q p (λ d l. absurd (clash (txn n p (e ∷ h) .live) l (rw (← d) (rw (txn-new n e h) (dead .0)))))
-              (λ d. same p p₀
-              (λ c. rw (c, now) (λ _. sym (ap (upd (T .mine) s u) mine-who ∙ upd-same (T .mine) s u)))
-              (λ c. rw (still p d c) (λ l.
-              let o = M .open′ p l in
-              o ∙ sym (upd-other (T .mine) s u (txn n p h .who)
-              (λ x. c (sym (txn-began n p h) ∙ ap (λ (t : Txn). t .began) (o ∙ ap (T .mine) x)))))));
-          mine = λ t. same t s
-              (λ d. rw (d, upd-same (T .mine) s u) (λ _. ap (λ (x : ℕ). txn n x (e ∷ h)) (w .began (T .mine s)) ∙ now))
-              (λ d. rw (upd-other (T .mine) s u t d) (λ l′.
-              still (T .mine t .began) (mine-born t l′)
-              (λ c. d (sym (M .who t) ∙ ap (λ (t : Txn). t .who) (sym (M .mine t l′) ∙ ap (λ (x : ℕ). txn n x h) c ∙ M .mine s l) ∙ M .who s))
-              ∙ M .mine t l′));
-          unborn = λ p g. same q p (λ d. absurd (omega arith))
-              (λ d. same p p₀ (λ c. absurd (clash (txn n p h .live) (rw (c, M .mine s l) l) (M .unborn p (omega arith) .0))) (λ c. rw (still p d c) (M .unborn p (omega arith))));
-          recorded = tl;
-          every = λ p. same q p (λ d l. absurd (clash (txn n p (e ∷ h) .done) l (rw (← d) (rw (txn-new n e h) (dead .1)))))
-              (λ d. same p p₀
-              (λ c. rw (c, now) (λ x. test (T .mine s .done) (λ y. ev p₀ (rw (M .mine s l) y)) (λ y. nw y x)))
-              (λ c. rw (still p d c) (ev p)));
-        }
-      where
-        u : Txn
-        u = f (T .mine s)
-
-        p₀ : ℕ
-        p₀ = T .mine s .began
-
-        mine-who : f (T .mine s) .who ≡ s
-        mine-who = w .who (T .mine s) ∙ M .who s
-
--- ---- a call
-
-cond-at {ℓ} : {A : Type ℓ} (b : Bool) (x y : A) → b ≡ true → cond b x y ≡ x
+pub cond-at {ℓ} : {A : Type ℓ} (b : Bool) (x y : A) → b ≡ true → cond b x y ≡ x
 cond-at b x y h = rw h
 
 cond-off {ℓ} : {A : Type ℓ} (b : Bool) (x y : A) → b ≡ false → cond b x y ≡ y
 cond-off b x y h = rw h
 
-module _ {n : ℕ} {h : List Event} {T : Ledger} (M : Matches n h T) (k : Call) (a : Answer) where
-  abbrev ev : Event
-  ev = record { call = k; answer = a }
+-- ---- a transaction, and one thing more told
 
-  abbrev sk : ℕ
-  sk = sessionOf k
+-- it stays; or it was open, of that session, and goes on; or it begins
+pub data Next (x : Name) (i : Item) (h : List Item) : Type 0 where
+  stays : transaction x (i ∷ h) ≡ transaction x h → (x .session ≡ i .session → isOpen (transaction x h) ≡ false) → Next x i h
+  grows : x .session ≡ i .session → isOpen (transaction x h) ≡ true → transaction x (i ∷ h) ≡ i ∷ transaction x h → Next x i h
+  starts-here : begins (i .told) ≡ true → x .place ≡ i .place → x .session ≡ i .session → transaction x h ≡ [] → transaction x (i ∷ h) ≡ i ∷ [] → Next x i h
 
-  abbrev qk : ℕ
-  qk = suc (length h)
-
-  -- a transaction that the call does not concern
-  aside : (p : ℕ) → (qk ≡ p → ⊥) → (txn n p h .live ≡ true → sk ≡ txn n p h .who → ⊥) → txn n p (ev ∷ h) ≡ txn n p h
-  aside p d x = txn-old n ev h p d ∙ absorb-other n qk ev (txn n p h) x
-
-  -- an open transaction of the session is its latest
-  latest-one : (p : ℕ) → txn n p h .live ≡ true → sk ≡ txn n p h .who → txn n p h ≡ T .mine sk
-  latest-one p l w = M .open′ p l ∙ ap (T .mine) (sym w)
-
-  listens : (begins qk k a .live ≡ false) × (begins qk k a .done ≡ false)
-      → (T .mine sk .live ≡ true → T .mine sk .done ≡ true → OptAll (λ f. Same (T .mine sk) (f (T .mine sk))) (news n qk k a))
-      → (o : Option (Txn → Txn)) → news n qk k a ≡ o → Matches n (ev ∷ h) (amendBy sk o T)
-  unfolding amendBy amend
-  listens dead tame none e =
-      silent M ev
-      (λ p d. txn-old n ev h p d ∙ unfold absorb in
-      split (λ (u : Txn). u ≡ txn n p h) (txn n p h .live && eqb sk (txn n p h .who)) (λ _. unfold apply in rw e) (λ _. refl))
-      (dead .0) (dead .1)
-  listens dead tame (some f) e =
-      test (T .mine sk .live)
-      (λ l.
-      let w : Well qk f = rw e at (news-well n qk k a) in
-      let now : txn n (T .mine sk .began) (ev ∷ h) ≡ f (T .mine sk) =
-      txn-old n ev h (T .mine sk .began) (mine-born M ev sk l) ∙ ap (absorb n qk ev) (M .mine sk l) ∙ absorb-mine n qk ev (T .mine sk) l (sym (M .who sk)) ∙ unfold apply in rw e in
-      let still : (p : ℕ) → (qk ≡ p → ⊥) → (p ≡ T .mine sk .began → ⊥) → txn n p (ev ∷ h) ≡ txn n p h =
-      λ p d c. aside p d (λ x y. c (sym (txn-began n p h) ∙ ap (λ (t : Txn). t .began) (latest-one p x y))) in
-      let tm : T .mine sk .done ≡ true → Same (T .mine sk) (f (T .mine sk)) = λ d. rw e at (tame l d) in
-      subst (Matches n (ev ∷ h)) (sym (cond-at (T .mine sk .live) _ _ l))
-      (split (λ (ks : List Commit). Matches n (ev ∷ h) (record { place = suc (T .place); mine = upd (T .mine) sk (f (T .mine sk)); commits = ks }))
-      (f (T .mine sk) .done && not (T .mine sk .done))
-      (λ y.
-      let dn = both-l (f (T .mine sk) .done) (not (T .mine sk .done)) y in
-      let nd = not-true (T .mine sk .done) (both-r (f (T .mine sk) .done) (not (T .mine sk .done)) y) in
-      let at = ap (λ (x : ℕ). txn n x (ev ∷ h)) (w .began (T .mine sk)) ∙ now in
-      changes M ev f w l now still dead tm (asCommit sk (T .place) (f (T .mine sk)) ∷ T .commits) (
-        record {
-          done = ap (λ (t : Txn). t .done) at ∙ dn;
-          commit = ap (λ (t : Txn). t .commit) at ∙ w .commit (T .mine sk) nd dn ∙ sym (M .place);
-          snap = ap (λ (t : Txn). t .snap) at;
-          reads = ap (λ (t : Txn). t .reads) at;
-          wrote = ap (λ (t : Txn). t .wrote) at;
-          value = ap (λ (t : Txn). t .value) at;
-          who = ap (λ (t : Txn). t .who) at ∙ w .who (T .mine sk) ∙ M .who sk;
-        },
-        changed-recorded M ev f w l now still dead tm,
-      )
-      (λ p d. inr (M .every p d)) (λ _ _. inl (w .began (T .mine sk))))
-      (λ y. changes M ev f w l now still dead tm (T .commits) (changed-recorded M ev f w l now still dead tm) (M .every)
-      (λ nd dn. absurd (clash (f (T .mine sk) .done && not (T .mine sk .done)) (rw (dn, nd)) y)))))
-      (λ l.
-      subst (Matches n (ev ∷ h)) (sym (cond-off (T .mine sk .live) _ _ l))
-      (silent M ev (λ p d. aside p d (λ x y. clash (txn n p h .live) x (ap (λ (t : Txn). t .live) (latest-one p x y) ∙ l))) (dead .0) (dead .1)))
-
--- the ledger goes on to match, if a session that begins has no open transaction and a committed one changes in nothing that counts
-pub matches : {n : ℕ} {h : List Event} {T : Ledger} → Matches n h T → (k : Call) (a : Answer)
-    → ((s : ℕ) → k ≡ Begin s → number a ≡ 100 → T .mine s .live ≡ false)
-    → (T .mine (sessionOf k) .live ≡ true → T .mine (sessionOf k) .done ≡ true
-    → OptAll (λ f. Same (T .mine (sessionOf k)) (f (T .mine (sessionOf k)))) (news n (T .place) k a))
-    → Matches n (record { call = k; answer = a } ∷ h) (observe n k a T)
-unfolding observe begins
-matches {n} {h} {T} M k a b t = go k b (rw (M .place) at t)
+pub next : (x : Name) (i : Item) (h : List Item) → Next x i h
+next x i h =
+    same (i .session) (x .session) (λ e. go e (transaction x h) refl)
+    (λ d. stays (unfold transaction in rw (ne-eqb (i .session) (x .session) d)) (λ e. absurd (d (sym e))))
   where
-    go : (k : Call) → ((s : ℕ) → k ≡ Begin s → number a ≡ 100 → T .mine s .live ≡ false)
-        → (T .mine (sessionOf k) .live ≡ true → T .mine (sessionOf k) .done ≡ true
-        → OptAll (λ f. Same (T .mine (sessionOf k)) (f (T .mine (sessionOf k)))) (news n (suc (length h)) k a))
-        → Matches n (record { call = k; answer = a } ∷ h) (observe n k a T)
-    go (Begin s) b t =
-        test (eqb (number a) 100)
-        (λ y.
-        let l = b s refl (eqb-true (number a) 100 y) in
-        subst (Matches n (record { call = Begin s; answer = a } ∷ h)) (sym (cond-at (eqb (number a) 100) _ _ y))
-        (opens M (record { call = Begin s; answer = a })
-        (λ p d. aside M (Begin s) a p d (λ x z. clash (txn n p h .live) x (ap (λ (t : Txn). t .live) (latest-one M (Begin s) a p x z) ∙ l)))
-        (cond-at (eqb (number a) 100) _ _ y) l))
-        (λ y.
-        subst (Matches n (record { call = Begin s; answer = a } ∷ h)) (sym (cond-off (eqb (number a) 100) _ _ y))
-        (listens M (Begin s) a (rw y (refl, refl)) t (news n (T .place) (Begin s) a) (ap (λ (x : ℕ). news n x (Begin s) a) (sym (M .place)))))
-    go (Read s c) b t = listens M (Read s c) a (refl, refl) t (news n (T .place) (Read s c) a) (ap (λ (x : ℕ). news n x (Read s c) a) (sym (M .place)))
-    go (Write s c v) b t = listens M (Write s c v) a (refl, refl) t (news n (T .place) (Write s c v) a) (ap (λ (x : ℕ). news n x (Write s c v) a) (sym (M .place)))
-    go (Seal s) b t = listens M (Seal s) a (refl, refl) t (news n (T .place) (Seal s) a) (ap (λ (x : ℕ). news n x (Seal s) a) (sym (M .place)))
-    go (Advance s) b t = listens M (Advance s) a (refl, refl) t (news n (T .place) (Advance s) a) (ap (λ (x : ℕ). news n x (Advance s) a) (sym (M .place)))
-    go (Abandon s) b t = listens M (Abandon s) a (refl, refl) t (news n (T .place) (Abandon s) a) (ap (λ (x : ℕ). news n x (Abandon s) a) (sym (M .place)))
-    go (Peek s c) b t = listens M (Peek s c) a (refl, refl) t (news n (T .place) (Peek s c) a) (ap (λ (x : ℕ). news n x (Peek s c) a) (sym (M .place)))
+    mine : i .session ≡ x .session → transaction x (i ∷ h) ≡ extend (x .place) i (transaction x h)
+    mine e = unfold transaction in rw (eq-eqb (i .session) (x .session) e)
 
--- ---- commits only come on
+    go : i .session ≡ x .session → (t : List Item) → transaction x h ≡ t → Next x i h
+    go e [] n =
+        test (begins (i .told) && eqb (i .place) (x .place))
+        (λ y. starts-here (both-l (begins (i .told)) (eqb (i .place) (x .place)) y)
+        (sym (eqb-true (i .place) (x .place) (both-r (begins (i .told)) (eqb (i .place) (x .place)) y))) (sym e) n (mine e ∙ rw (n, y)))
+        (λ y. stays (mine e ∙ rw (n, y)) (λ _. rw n))
+    go e (j ∷ t) n =
+        test (ends (j .told)) (λ y. stays (mine e ∙ rw (n, y)) (λ _. rw (n, y))) (λ y. grows (sym e) (rw (n, y)) (mine e ∙ rw (n, y)))
 
-pub data Grown (T U : Ledger) : Type 0 where
-  kept : U .commits ≡ T .commits → Grown T U
-  grew : (k : Commit) → U .commits ≡ k ∷ T .commits → k .place ≡ T .place → Grown T U
+-- ---- the ledger and the transactions
 
-amend-grows : (s : ℕ) (f : Txn → Txn) (T : Ledger) → Grown T (amend s f T)
-unfolding amend
-amend-grows s f T =
-    split (Grown T) (T .mine s .live)
-    (λ _. split (λ (ks : List Commit). Grown T (record { place = suc (T .place); mine = upd (T .mine) s (f (T .mine s)); commits = ks }))
-    (f (T .mine s) .done && not (T .mine s .done)) (λ _. grew (asCommit s (T .place) (f (T .mine s))) refl refl) (λ _. kept refl))
-    (λ _. kept refl)
+abbrev pub nameOf : Commit → Name
+nameOf k = name (k .began) (k .who)
 
-amendBy-grows : (s : ℕ) (o : Option (Txn → Txn)) (T : Ledger) → Grown T (amendBy s o T)
-unfolding amendBy
-amendBy-grows s none T = kept refl
-amendBy-grows s (some f) T = amend-grows s f T
+-- a commit is what the transaction of its name tells
+pub record Kept (n : ℕ) (k : Commit) (t : List Item) : Type 0 where
+  pub committed : committed n t ≡ true
+  pub commit : commit n t ≡ k .place
+  pub snapshot : snapshot t ≡ k .snap
+  pub reads : readsBeforeWriting t ≡ k .reads
+  pub wrote : wrote t ≡ k .wrote
+  pub value : valueWritten t ≡ k .value
 
-pub observe-grows : (n : ℕ) (k : Call) (a : Answer) (T : Ledger) → Grown T (observe n k a T)
-unfolding observe starts
-observe-grows n (Begin s) a T = split (Grown T) (eqb (number a) 100) (λ _. kept refl) (λ _. amendBy-grows s (news n (T .place) (Begin s) a) T)
-observe-grows n (Read s c) a T = amendBy-grows s (news n (T .place) (Read s c) a) T
-observe-grows n (Write s c v) a T = amendBy-grows s (news n (T .place) (Write s c v) a) T
-observe-grows n (Seal s) a T = amendBy-grows s (news n (T .place) (Seal s) a) T
-observe-grows n (Advance s) a T = amendBy-grows s (news n (T .place) (Advance s) a) T
-observe-grows n (Abandon s) a T = amendBy-grows s (news n (T .place) (Abandon s) a) T
-observe-grows n (Peek s c) a T = amendBy-grows s (news n (T .place) (Peek s c) a) T
+abbrev pub Recorded : ℕ → List Item → Commit → Type 0
+Recorded n h k = Kept n k (transaction (nameOf k) h)
+
+abbrev pub In : Name → List Commit → Type 0
+In x [] = ⊥
+In x (k ∷ ks) = (nameOf k ≡ x) ⊎ In x ks
+
+-- what a transaction tells, it tells after its begin
+abbrev pub Stands : Name → Item → Type 0
+Stands x i = (begins (i .told) ≡ true) ⊎ (x .place < i .place)
+
+pub record Matches (n : ℕ) (h : List Item) (T : Ledger) : Type 0 where
+  pub open′ : (x : Name) → isOpen (transaction x h) ≡ true → T .mine (x .session) ≡ summary n (x .place) (transaction x h)
+  pub mine : (s : ℕ) → T .mine s .live ≡ true → isOpen (transaction (name (T .mine s .began) s) h) ≡ true
+  pub recorded : All (Recorded n h) (T .commits)
+  pub every : (x : Name) → committed n (transaction x h) ≡ true → In x (T .commits)
+  pub stands : (x : Name) → All (Stands x) (transaction x h)
+
+recorded-same : (n : ℕ) (h g : List Item) (k : Commit) → transaction (nameOf k) g ≡ transaction (nameOf k) h → Recorded n h k → Recorded n g k
+recorded-same n h g k e r =
+    subst (Kept n k) (sym e) r
+
+-- nothing that the ledger keeps has changed
+pub unchanged : {n : ℕ} {h g : List Item} {T U : Ledger} → ((x : Name) → transaction x g ≡ transaction x h) → U .mine ≡ T .mine → U .commits ≡ T .commits → Matches n h T → Matches n g U
+unchanged {n} {h} {g} {T} {U} e a b M =
+    record {
+      open′ = λ x. rw (e x, a) (M .open′ x);
+      mine = λ s. rw a (λ l. rw (e (name (T .mine s .began) s)) (M .mine s l));
+      recorded = rw b (all-map (λ k r. recorded-same n h g k (e (nameOf k)) r) (T .commits) (M .recorded));
+      every = λ x. rw (e x, b) (M .every x);
+      stands = λ x. rw (e x) (M .stands x);
+    }
+
+module _ {n : ℕ} {h : List Item} {T : Ledger} (M : Matches n h T) (s : ℕ) (w : Told) where
+  abbrev i : Item
+  i = record { place = T .place; session = s; told = w }
+
+  -- an open transaction of the session: the ledger has it
+  told-live : (x : Name) → x .session ≡ s → isOpen (transaction x h) ≡ true → T .mine s ≡ summary n (x .place) (transaction x h)
+  told-live x e o = ap (T .mine) (sym e) ∙ M .open′ x o
+
+  -- no transaction of the session is open
+  module _ (dead : T .mine s .live ≡ false) where
+    shut : (x : Name) → x .session ≡ s → isOpen (transaction x h) ≡ true → ⊥
+    shut x e o = clash (isOpen (transaction x h)) o (sym (ap (λ (t : Txn). t .live) (told-live x e o)) ∙ dead)
+
+    pub silent : begins w ≡ false → Matches n (i ∷ h) T
+    silent b = unchanged (λ x. go x (next x i h)) refl refl M
+      where
+        go : (x : Name) → Next x i h → transaction x (i ∷ h) ≡ transaction x h
+        go x (stays e _) = e
+        go x (grows e o _) = absurd (shut x e o)
+        go x (starts-here y _ _ _ _) = absurd (clash (begins w) y b)
+
+    -- a transaction begins
+    pub opens : w ≡ began → transaction (name (T .place) s) h ≡ [] → Matches n (i ∷ h) (starts s T)
+    unfolding starts
+    opens b none =
+        record {
+          open′ = λ x. on x (next x i h);
+          mine = λ t. same t s (λ e. rw (e, upd-same (T .mine) s u) (λ _. born)) (λ d. rw (upd-other (T .mine) s u t d) (λ l. off t d (T .mine t .began) (next (name (T .mine t .began) t) i h) (M .mine t l)));
+          recorded = all-map (λ k r. rec k (next (nameOf k) i h) r) (T .commits) (M .recorded);
+          every = λ x. ev x (next x i h);
+          stands = λ x. st x (next x i h);
+        }
+      where
+        u : Txn
+        u = opened (T .place)
+
+        is : u ≡ summary n (T .place) (i ∷ [])
+        is = rw b (alone n (T .place) s)
+
+        born : isOpen (transaction (name (T .place) s) (i ∷ h)) ≡ true
+        born = unfold transaction in rw (eq-eqb s s refl, none, b, eq-eqb (T .place) (T .place) refl)
+
+        on : (x : Name) → Next x i h → isOpen (transaction x (i ∷ h)) ≡ true → upd (T .mine) s u (x .session) ≡ summary n (x .place) (transaction x (i ∷ h))
+        on x (stays e c) o =
+            let p : isOpen (transaction x h) ≡ true = rw e at o in
+            rw e (upd-other (T .mine) s u (x .session) (λ d. clash (isOpen (transaction x h)) p (c d)) ∙ M .open′ x p)
+        on x (grows e p _) o = absurd (shut x e p)
+        on x (starts-here _ p e _ f) o =
+            ap (upd (T .mine) s u) e ∙ upd-same (T .mine) s u ∙ is ∙ ap (λ (p : ℕ). summary n p (i ∷ [])) (sym p) ∙ ap (summary n (x .place)) (sym f)
+
+        off : (t : ℕ) → (t ≡ s → ⊥) → (p : ℕ) → Next (name p t) i h → isOpen (transaction (name p t) h) ≡ true → isOpen (transaction (name p t) (i ∷ h)) ≡ true
+        off t d p (stays e _) o = rw e o
+        off t d p (grows e _ _) o = absurd (d e)
+        off t d p (starts-here _ _ e _ _) o = absurd (d e)
+
+        rec : (k : Commit) → Next (nameOf k) i h → Recorded n h k → Recorded n (i ∷ h) k
+        rec k (stays e _) r = recorded-same n h (i ∷ h) k e r
+        rec k (grows e o _) r = absurd (shut (nameOf k) e o)
+        rec k (starts-here _ _ _ e _) r = absurd (clash (committed n (transaction (nameOf k) h)) (r .committed) (rw e (empty-committed n)))
+
+        ev : (x : Name) → Next x i h → committed n (transaction x (i ∷ h)) ≡ true → In x (T .commits)
+        ev x (stays e _) d = M .every x (rw e at d)
+        ev x (grows e o _) d = absurd (shut x e o)
+        ev x (starts-here _ _ _ _ e) d = absurd (clash (committed n (i ∷ [])) (rw e at d) (sym (ap (λ (t : Txn). t .done) is)))
+
+        st : (x : Name) → Next x i h → All (Stands x) (transaction x (i ∷ h))
+        st x (stays e _) = rw e (M .stands x)
+        st x (grows e o _) = absurd (shut x e o)
+        st x (starts-here y _ _ _ e) = rw e (inl y, tt)
+
+  -- the open transaction of the session goes on
+  module _ (l : T .mine s .live ≡ true) (b : begins w ≡ false) (fits : Fits (T .mine s) w) (late : 0 < T .place)
+      (before : (x : Name) → isOpen (transaction x h) ≡ true → x .place < T .place) where
+    abbrev u : Txn
+    u = note n (T .place) w (T .mine s)
+
+    -- what it tells now
+    now : (x : Name) → x .session ≡ s → isOpen (transaction x h) ≡ true → u ≡ summary n (x .place) (i ∷ transaction x h)
+    now x e o =
+        let k = told-live x e o in
+        ap (note n (T .place) w) k ∙ more n (T .place) s (transaction x h) (x .place) w o late (λ _. subst (λ (t : Txn). Fits t w) k fits)
+
+    abbrev x₀ : Name
+    x₀ = name (T .mine s .began) s
+
+    o₀ : isOpen (transaction (name (T .mine s .began) s) h) ≡ true
+    o₀ = M .mine s l
+
+    began-is : u .began ≡ T .mine s .began
+    began-is = ap (λ (t : Txn). t .began) (now x₀ refl o₀)
+
+    goes : transaction (name (T .mine s .began) s) (i ∷ h) ≡ i ∷ transaction (name (T .mine s .began) s) h
+    goes = go (next x₀ i h)
+      where
+        go : Next (name (T .mine s .began) s) i h → transaction (name (T .mine s .began) s) (i ∷ h) ≡ i ∷ transaction (name (T .mine s .began) s) h
+        go (stays _ c) = absurd (clash (isOpen (transaction x₀ h)) o₀ (c refl))
+        go (grows _ _ e) = e
+        go (starts-here y _ _ _ _) = absurd (clash (begins w) y b)
+
+    rec : (k : Commit) → Next (nameOf k) i h → Recorded n h k → Recorded n (i ∷ h) k
+    rec k (stays e _) r = recorded-same n h (i ∷ h) k e r
+    rec k (starts-here y _ _ _ _) r = absurd (clash (begins w) y b)
+    rec k (grows e o g) r =
+        let x = nameOf k in
+        let a = told-live x e o in
+        let c = now x e o in
+        let m = settled n (T .place) w (T .mine s) (ap (λ (t : Txn). t .done) a ∙ r .committed) fits in
+        let via : (A : Type 0) (f : Txn → A) → f u ≡ f (T .mine s) → f (summary n (x .place) (i ∷ transaction x h)) ≡ f (summary n (x .place) (transaction x h)) = λ A f z. sym (ap f c) ∙ z ∙ ap f a in
+        subst (Kept n k) (sym g)
+        (record {
+          committed = via Bool (λ t. t .done) (m .done) ∙ r .committed;
+          commit = via ℕ (λ t. t .commit) (m .commit) ∙ r .commit;
+          snapshot = via ℕ (λ t. t .snap) (m .snap) ∙ r .snapshot;
+          reads = via (List ReadOf) (λ t. t .reads) (m .reads) ∙ r .reads;
+          wrote = via (ℕ → Bool) (λ t. t .wrote) (m .wrote) ∙ r .wrote;
+          value = via (ℕ → ℕ) (λ t. t .value) (m .value) ∙ r .value;
+        })
+
+    pub changes : (ks : List Commit) (nw : Bool) → All (Recorded n (i ∷ h)) ks → ((x : Name) → committed n (transaction x h) ≡ true → In x ks)
+        → (T .mine s .done ≡ false → u .done ≡ true → In (name (T .mine s .began) s) ks)
+        → Matches n (i ∷ h) (record { place = T .place; mine = upd (T .mine) s u; commits = ks; new = nw })
+    changes ks nw rs ev fresh =
+        record {
+          open′ = λ x. on x (next x i h);
+          mine = λ t. same t s
+              (λ e. rw (e, upd-same (T .mine) s u) (λ v. rw (began-is, goes) (sym (ap (λ (t : Txn). t .live) (now x₀ refl o₀)) ∙ v)))
+              (λ d. rw (upd-other (T .mine) s u t d) (λ v. off t d (T .mine t .began) (next (name (T .mine t .began) t) i h) (M .mine t v)));
+          recorded = rs;
+          every = λ x. all x (next x i h);
+          stands = λ x. st x (next x i h);
+        }
+      where
+        on : (x : Name) → Next x i h → isOpen (transaction x (i ∷ h)) ≡ true → upd (T .mine) s u (x .session) ≡ summary n (x .place) (transaction x (i ∷ h))
+        on x (stays e c) o =
+            let p : isOpen (transaction x h) ≡ true = rw e at o in
+            rw e (upd-other (T .mine) s u (x .session) (λ d. clash (isOpen (transaction x h)) p (c d)) ∙ M .open′ x p)
+        on x (grows e p g) o = ap (upd (T .mine) s u) e ∙ upd-same (T .mine) s u ∙ now x e p ∙ ap (summary n (x .place)) (sym g)
+        on x (starts-here y _ _ _ _) o = absurd (clash (begins w) y b)
+
+        off : (t : ℕ) → (t ≡ s → ⊥) → (p : ℕ) → Next (name p t) i h → isOpen (transaction (name p t) h) ≡ true → isOpen (transaction (name p t) (i ∷ h)) ≡ true
+        off t d p (stays e _) o = rw e o
+        off t d p (grows e _ _) o = absurd (d e)
+        off t d p (starts-here _ _ e _ _) o = absurd (d e)
+
+        all : (x : Name) → Next x i h → committed n (transaction x (i ∷ h)) ≡ true → In x ks
+        all x (stays e _) d = ev x (rw e at d)
+        all x (starts-here y _ _ _ _) d = absurd (clash (begins w) y b)
+        all x (grows e o g) d =
+            let a = told-live x e o in
+            test (committed n (transaction x h)) (λ y. ev x y)
+            (λ y. subst (λ (x : Name). In x ks) (name-is (T .mine s .began) s x (ap (λ (t : Txn). t .began) a) (sym e))
+            (fresh (ap (λ (t : Txn). t .done) a ∙ y) (ap (λ (t : Txn). t .done) (now x e o) ∙ (rw g at d))))
+
+        st : (x : Name) → Next x i h → All (Stands x) (transaction x (i ∷ h))
+        st x (stays e _) = rw e (M .stands x)
+        st x (grows e o g) = rw g (inr (before x o), M .stands x)
+        st x (starts-here y _ _ _ _) = absurd (clash (begins w) y b)
+
+    -- with the commit that it may make
+    pub amends : Matches n (i ∷ h) (amend s (note n (T .place) w) T)
+    unfolding amend
+    amends = subst (Matches n (i ∷ h)) (sym (cond-at (T .mine s .live) _ _ l)) (go (u .done && not (T .mine s .done)) refl)
+      where
+        older : All (Recorded n (i ∷ h)) (T .commits)
+        older = all-map (λ k r. rec k (next (nameOf k) i h) r) (T .commits) (M .recorded)
+
+        go : (d : Bool) → (u .done && not (T .mine s .done)) ≡ d
+            → Matches n (i ∷ h) (record { place = T .place; mine = upd (T .mine) s u; commits = cond d (asCommit s (T .place) u ∷ T .commits) (T .commits); new = T .new || d })
+        go false y = changes (T .commits) (T .new || false) older (M .every) (λ nd dn. absurd (clash (u .done && not (T .mine s .done)) (rw (dn, nd)) y))
+        go true y =
+            let dn = both-l (u .done) (not (T .mine s .done)) y in
+            let nd = not-true (T .mine s .done) (both-r (u .done) (not (T .mine s .done)) y) in
+            let c = now x₀ refl o₀ in
+            changes (asCommit s (T .place) u ∷ T .commits) (T .new || true) (
+              subst (Kept n (asCommit s (T .place) u)) (sym (ap (λ (p : ℕ). transaction (name p s) (i ∷ h)) began-is ∙ goes))
+                  (record {
+                    committed = sym (ap (λ (t : Txn). t .done) c) ∙ dn;
+                    commit = sym (ap (λ (t : Txn). t .commit) c) ∙ commits-here n (T .place) w (T .mine s) nd dn;
+                    snapshot = sym (ap (λ (t : Txn). t .snap) c);
+                    reads = sym (ap (λ (t : Txn). t .reads) c);
+                    wrote = sym (ap (λ (t : Txn). t .wrote) c);
+                    value = sym (ap (λ (t : Txn). t .value) c);
+                  }),
+              older,
+            )
+            (λ x d. inr (M .every x d)) (λ _ _. inl (ap (λ (p : ℕ). name p s) began-is))
+
+-- ---- what is told
+
+module _ {n : ℕ} {h : List Item} {T : Ledger} (M : Matches n h T) (s : ℕ) (late : 0 < T .place)
+    (before : (x : Name) → isOpen (transaction x h) ≡ true → x .place < T .place) where
+  goes-on : (w : Told) → begins w ≡ false → Fits (T .mine s) w → Matches n (record { place = T .place; session = s; told = w } ∷ h) (amend s (note n (T .place) w) T)
+  goes-on w b f =
+      test (T .mine s .live) (λ l. amends M s w l b f late before)
+      (λ l. unfold amend in subst (Matches n (record { place = T .place; session = s; told = w } ∷ h)) (sym (cond-off (T .mine s .live) _ _ l)) (silent M s w l b))
+
+  pub one-told : (w : Told) → Fits (T .mine s) w → (begins w ≡ true → transaction (name (T .place) s) h ≡ [])
+      → Matches n (record { place = T .place; session = s; told = w } ∷ h) (hear n s w T)
+  one-told began f e = opens M s began f refl (e refl)
+  one-told (got c v) f e = goes-on (got c v) refl f
+  one-told (put c v) f e = goes-on (put c v) refl f
+  one-told sealed f e = goes-on sealed refl f
+  one-told moved f e = goes-on moved refl f
+  one-told ended f e = goes-on ended refl f

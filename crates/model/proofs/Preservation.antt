@@ -18,15 +18,16 @@ use Rattle.model.specs.Buffers.{Buffers, Store, size, idle, moveTo, Entr
 use Rattle.model.specs.Isolation.{at}
 use Rattle.model.specs.Readers.{otherReaders}
 use Rattle.model.specs.Search.{some?, find, below, tally}
-use Rattle.model.specs.Step.{rolledBack, handled, change, recordOf, after, releasing, answer, recordFits, guard, known, claimed, newCell, readSlot, writeSlot, writeCapped, sealTarget, promotePlan, advanceTarget, peekSlot, plan, sessionOf, planOf, step, reply, logOf, admit, entriesFit, readPlan, writePlan, sealPlan, peekPlan}
+use Rattle.model.specs.Told.{tells, ending}
+use Rattle.model.specs.Step.{rolledBack, handled, change, recordOf, after, releasing, answer, recordFits, guard, known, claimed, newCell, readSlot, writeSlot, writeCapped, sealTarget, promotePlan, advanceTarget, peekSlot, plan, sessionOf, planOf, step, reply, logOf, admit, entriesFit}
 use Rattle.model.proofs.Advancing.{target-some, target-none, late, role-late, more-open, holds-more, last-done, holds-last, waits, publishes-more, publishes-last, releases-more, releases-last}
-use Rattle.model.proofs.Effects.{running-role, slot-none, slot-some, amended, rolls, started, tells, enter-phase, enter-look, enter-slot, enters, notes}
-use Rattle.model.proofs.Invariant.{roleIn, roleOf, role, Running, Promoting, Finishing, Inv, ticks}
+use Rattle.model.proofs.Effects.{running-role, slot-none, slot-some, replaced, rolls, started, learns, enter-phase, enter-look, enter-slot, enters, notes}
+use Rattle.model.proofs.Invariant.{roleIn, roleOf, role, Running, Promoting, Finishing, Inv, calms, ticks}
 use Rattle.model.proofs.Laws.{find-some, below-is, tally-flat, tally-more}
-use Rattle.model.proofs.Ledger.{Txn, ended, saw, wroteTo, sealedAt, advanced, over, news, Commit, Ledger, asCommit, amend, amendBy, starts, observe}
+use Rattle.model.proofs.Ledger.{Txn, closed, saw, wroteTo, sealedAt, advanced, Commit, Ledger, tick, calm, asCommit, amend, starts, observe}
 use Rattle.model.proofs.Roles.{pends, flip}
 use Rattle.model.proofs.Sealing.{wrote-is, promotes, rests}
-use Rattle.model.proofs.Tools.{split, test, which, nothing, clash, both-l, both-r}
+use Rattle.model.proofs.Tools.{split, test, which, nothing, clash, both-l, both-r, upd, upd-same, upd-twice}
 use Rattle.model.proofs.View.{slot, look, written, target}
 
 and-not : (b : Bool) → (b && not b) ≡ false
@@ -68,15 +69,40 @@ neither-other false false h = absurd (clash true refl h)
 -- ---- the ledger
 
 module _ (s : ℕ) (f : Txn → Txn) (T : Ledger) (l : T .mine s .live ≡ true) where
-  amend-same : (f (T .mine s) .done && not (T .mine s .done)) ≡ false
-      → amend s f T ≡ amended s (f (T .mine s)) (T .commits) T
+  abbrev made : Bool → Ledger
+  made b = record { place = T .place; mine = upd (T .mine) s (f (T .mine s)); commits = cond b (asCommit s (T .place) (f (T .mine s)) ∷ T .commits) (T .commits); new = b }
+
+  -- of a ledger whose last call has made no commit
+  amend-same : (f (T .mine s) .done && not (T .mine s .done)) ≡ false → amend s f (calm T) ≡ replaced s (f (T .mine s)) T
   unfolding amend
-  amend-same d = cond-true (T .mine s .live) _ _ l ∙ ap (λ (ks : List Commit). amended s (f (T .mine s)) ks T) (cond-false (f (T .mine s) .done && not (T .mine s .done)) _ _ d)
+  amend-same d = cond-true (T .mine s .live) _ _ l ∙ ap made d
 
   amend-commit : (f (T .mine s) .done && not (T .mine s .done)) ≡ true
-      → amend s f T ≡ amended s (f (T .mine s)) (asCommit s (T .place) (f (T .mine s)) ∷ T .commits) T
+      → amend s f (calm T) ≡ record { place = T .place; mine = upd (T .mine) s (f (T .mine s)); commits = asCommit s (T .place) (f (T .mine s)) ∷ T .commits; new = true }
   unfolding amend
-  amend-commit d = cond-true (T .mine s .live) _ _ l ∙ ap (λ (ks : List Commit). amended s (f (T .mine s)) ks T) (cond-true (f (T .mine s) .done && not (T .mine s .done)) _ _ d)
+  amend-commit d = cond-true (T .mine s .live) _ _ l ∙ ap made d
+
+-- the end, which commits nothing
+amend-closed : (s : ℕ) (T : Ledger) → T .mine s .live ≡ true → amend s closed T ≡ record { place = T .place; mine = upd (T .mine) s (closed (T .mine s)); commits = T .commits; new = T .new }
+unfolding amend
+amend-closed s T l = cond-true (T .mine s .live) _ _ l ∙ go (T .mine s .done && not (T .mine s .done)) (and-not (T .mine s .done)) (T .new)
+  where
+    go : (b : Bool) → b ≡ false → (w : Bool)
+        → _≡_ {A = Ledger}
+        (record { place = T .place; mine = upd (T .mine) s (closed (T .mine s)); commits = cond b (asCommit s (T .place) (closed (T .mine s)) ∷ T .commits) (T .commits); new = w || b })
+        (record { place = T .place; mine = upd (T .mine) s (closed (T .mine s)); commits = T .commits; new = w })
+    go true h w = absurd (clash true refl h)
+    go false h true = refl
+    go false h false = refl
+
+-- a commit, and in the same call the end
+amend-commit-closed : (s : ℕ) (u : Txn) (k : Commit) (T : Ledger) → u .live ≡ true
+    → amend s closed (record { place = T .place; mine = upd (T .mine) s u; commits = k ∷ T .commits; new = true })
+    ≡ record { place = T .place; mine = upd (T .mine) s (closed u); commits = k ∷ T .commits; new = true }
+amend-commit-closed s u k T l =
+    amend-closed s (record { place = T .place; mine = upd (T .mine) s u; commits = k ∷ T .commits; new = true }) (ap (λ (t : Txn). t .live) (upd-same (T .mine) s u) ∙ l)
+    ∙ ap (λ (m : ℕ → Txn). record { place = T .place; mine = m; commits = k ∷ T .commits; new = true })
+    (ap (λ (t : Txn). upd (upd (T .mine) s u) s (closed t)) (upd-same (T .mine) s u) ∙ upd-twice (T .mine) s u (closed u))
 
 -- ---- what a call that is not turned down has passed
 
@@ -160,9 +186,13 @@ module _ {first : List ℕ} {σ : Store} {T : Ledger} (I : Inv first σ T) where
   abbrev Kept : Call → Plan → Type 0
   Kept k p = Inv first (after (sessionOf k) p σ) (observe (length first) k (answer (sessionOf k) p σ) T)
 
+  -- a call that tells nothing
+  stays : Inv first σ (tick (calm T))
+  stays = ticks (calms I)
+
   roll-back : (s : ℕ) → s < 16 → T .mine s .live ≡ true → ((c : ℕ) → pends (role σ c s) ≡ false)
-      → Inv first (change σ s (rolledBack (logOf σ s) (recordOf σ s .count) s (σ .lent .locks)) (σ .lent .values) (σ .lent .logs) idle) (amend s ended T)
-  roll-back s lt l np = rw (amend-same s ended T l (and-not (T .mine s .done))) (rolls s lt I np (ended (T .mine s)) refl)
+      → Inv first (change σ s (rolledBack (logOf σ s) (recordOf σ s .count) s (σ .lent .locks)) (σ .lent .values) (σ .lent .logs) idle) (amend s closed (calm T))
+  roll-back s lt l np = rw (amend-same s closed T l (and-not (T .mine s .done))) (rolls s lt I np (closed (T .mine s)) refl)
 
   calm₁ : (s : ℕ) → recordOf σ s .phase ≡ 1 → (c : ℕ) → pends (role σ c s) ≡ false
   calm₁ s ph c = which (look σ s c) (λ p. unfold role roleOf in rw p) (λ e p. rw (running-role σ s c e ph p))
@@ -172,22 +202,22 @@ module _ {first : List ℕ} {σ : Store} {T : Ledger} (I : Inv first σ T) where
   calm₂ s ph c = rw (role-late σ s c 0 ph) (test (written σ s c) (λ w. rw w (test (leb (recordOf σ s .next) c) (λ b. rw b) (λ b. rw b))) (λ w. rw w))
 
   keep-begin : (s : ℕ) → Kept (Begin s) (planOf (Begin s) σ)
-  unfolding planOf plan observe news over amendBy after answer starts
+  unfolding planOf plan observe tells ending after answer starts
   keep-begin s =
-      guarded (Kept (Begin s)) (σ .lent) s (recordOf σ s) (eqb (recordOf σ s .phase) 0) Start (ticks I) (ticks I) (ticks I) (ticks I)
+      guarded (Kept (Begin s)) (σ .lent) s (recordOf σ s) (eqb (recordOf σ s .phase) 0) Start stays stays stays stays
       (λ lt k h. started s lt I (eqb-true (recordOf σ s .phase) 0 h))
 
   keep-abandon : (s : ℕ) → Kept (Abandon s) (planOf (Abandon s) σ)
-  unfolding planOf plan observe news over amendBy after answer
+  unfolding planOf plan observe tells ending after answer
   keep-abandon s =
-      guarded (Kept (Abandon s)) (σ .lent) s (recordOf σ s) (eqb (recordOf σ s .phase) 1 || eqb (recordOf σ s .phase) 2) Cancel (ticks I) (ticks I) (ticks I) (ticks I)
+      guarded (Kept (Abandon s)) (σ .lent) s (recordOf σ s) (eqb (recordOf σ s .phase) 1 || eqb (recordOf σ s .phase) 2) Cancel stays stays stays stays
       (λ lt k h.
       test (eqb (recordOf σ s .phase) 1)
-      (λ q. let ph = eqb-true (recordOf σ s .phase) 1 q in let r : Running (look σ s) (T .mine s) = rw ph at (I .link s) in roll-back s lt (r .live) (calm₁ s ph))
+      (λ q. let ph = eqb-true (recordOf σ s .phase) 1 q in let r : Running (look σ s) (T .mine s) = rw ph at (I .link s) in ticks (roll-back s lt (r .live) (calm₁ s ph)))
       (λ q.
       let ph = eqb-true (recordOf σ s .phase) 2 (either-r (eqb (recordOf σ s .phase) 1) (eqb (recordOf σ s .phase) 2) h q) in
       let r : Promoting first (T .commits) (T .place) (recordOf σ s .next) (look σ s) (T .mine s) = rw ph at (I .link s) in
-      roll-back s lt (r .live) (calm₂ s ph)))
+      ticks (roll-back s lt (r .live) (calm₂ s ph))))
 
   -- a call of a running session on a cell: 7, 1, 9, 2 and 3 leave all as before
   on-cell : (k : Call) (c : ℕ) (p : Plan) → let s = sessionOf k in
@@ -199,12 +229,12 @@ module _ {first : List ℕ} {σ : Store} {T : Ledger} (I : Inv first σ T) where
       running-cell (Kept k) (σ .lent) (sessionOf k) (recordOf σ (sessionOf k)) c p r7 r1 r9 r2 r3 (λ lt ph l. f lt ph (omega (arith, I .shape .values)))
 
   keep-peek : (s c : ℕ) → Kept (Peek s c) (planOf (Peek s c) σ)
-  unfolding planOf plan observe news over amendBy after answer peekSlot
+  unfolding planOf plan observe tells ending after answer peekSlot
   keep-peek s c =
-      on-cell (Peek s c) c (peekSlot (logOf σ s) c (slotIn (logOf σ s) (recordOf σ s .count) c)) (ticks I) (ticks I) (ticks I) (ticks I) (ticks I)
+      on-cell (Peek s c) c (peekSlot (logOf σ s) c (slotIn (logOf σ s) (recordOf σ s .count) c)) stays stays stays stays stays
       (λ _ _ _.
-      choose (Kept (Peek s c)) (peekSlot (logOf σ s) c) (slotIn (logOf σ s) (recordOf σ s .count) c) (λ _. ticks I)
-      (λ k _. split (Kept (Peek s c)) (entryAt (logOf σ s) k .dirty) (λ _. ticks I) (λ _. ticks I)))
+      choose (Kept (Peek s c)) (peekSlot (logOf σ s) c) (slotIn (logOf σ s) (recordOf σ s .count) c) (λ _. stays)
+      (λ k _. split (Kept (Peek s c)) (entryAt (logOf σ s) k .dirty) (λ _. stays) (λ _. stays)))
 
   pub runs : (s : ℕ) → recordOf σ s .phase ≡ 1 → Running (look σ s) (T .mine s)
   runs s ph = rw ph at (I .link s)
@@ -217,37 +247,37 @@ module _ {first : List ℕ} {σ : Store} {T : Ledger} (I : Inv first σ T) where
   new-cell k c p r5 r6 f = cell-new (Kept k) (recordOf σ (sessionOf k)) (lockAt (σ .lent .locks) c) p r5 (λ _. r6) f
 
   keep-read : (s c : ℕ) → Kept (Read s c) (planOf (Read s c) σ)
-  unfolding planOf plan observe news over amendBy after answer readSlot slot
+  unfolding planOf plan observe tells ending after answer readSlot slot
   keep-read s c =
-      on-cell (Read s c) c (readSlot (logOf σ s) (recordOf σ s) (lockAt (σ .lent .locks) c) c (slotIn (logOf σ s) (recordOf σ s .count) c)) (ticks I) (ticks I) (ticks I) (ticks I) (ticks I)
+      on-cell (Read s c) c (readSlot (logOf σ s) (recordOf σ s) (lockAt (σ .lent .locks) c) c (slotIn (logOf σ s) (recordOf σ s .count) c)) stays stays stays stays stays
       (λ lt ph lc.
       let r = runs s ph in
       choose (Kept (Read s c)) (readSlot (logOf σ s) (recordOf σ s) (lockAt (σ .lent .locks) c) c) (slot σ s c)
-      (λ p. new-cell (Read s c) c (Enter c) (ticks I) (roll-back s lt (r .live) (calm₁ s ph))
+      (λ p. new-cell (Read s c) c (Enter c) stays (ticks (roll-back s lt (r .live) (calm₁ s ph)))
       (λ room cl.
       rw (amend-same s (saw c (getD (σ .lent .values) c 0)) T (r .live) (and-not (T .mine s .done)))
-      (tells s lt (enters s lt I c ph p room lc cl) c _ (enter-phase s lt I c ph p room) (enter-look s lt I c ph p room))))
+      (ticks (learns s lt (enters s lt I c ph p room lc cl) c _ (enter-phase s lt I c ph p room) (enter-look s lt I c ph p room)))))
       (λ j p.
       rw (amend-same s (saw c (entryAt (logOf σ s) j .current)) T (r .live) (and-not (T .mine s .done)))
-      (tells s lt I c (entryAt (logOf σ s) j) ph (slot-some σ s c p))))
+      (ticks (learns s lt I c (entryAt (logOf σ s) j) ph (slot-some σ s c p)))))
 
   keep-write : (s c v : ℕ) → Kept (Write s c v) (planOf (Write s c v) σ)
-  unfolding planOf plan observe news over amendBy after answer writeCapped writeSlot slot
+  unfolding planOf plan observe tells ending after answer writeCapped writeSlot slot
   keep-write s c v =
       let k = getD (σ .lent .classes) c 0 in
-      on-cell (Write s c v) c (cond (ltb k 16) (writeCapped (logOf σ s) (recordOf σ s) (lockAt (σ .lent .locks) c) c v (cap k)) (Refuse 8)) (ticks I) (ticks I) (ticks I) (ticks I) (ticks I)
+      on-cell (Write s c v) c (cond (ltb k 16) (writeCapped (logOf σ s) (recordOf σ s) (lockAt (σ .lent .locks) c) c v (cap k)) (Refuse 8)) stays stays stays stays stays
       (λ lt ph lc.
       let r = runs s ph in
       split (Kept (Write s c v)) (ltb k 16)
       (λ _. split (Kept (Write s c v)) (leb v (cap k))
       (λ _. choose (Kept (Write s c v)) (writeSlot (recordOf σ s) (lockAt (σ .lent .locks) c) c v) (slot σ s c)
-      (λ p. new-cell (Write s c v) c (EnterUpdate c v) (ticks I) (roll-back s lt (r .live) (calm₁ s ph))
+      (λ p. new-cell (Write s c v) c (EnterUpdate c v) stays (ticks (roll-back s lt (r .live) (calm₁ s ph)))
       (λ room cl.
       rw (amend-same s (wroteTo c v) T (r .live) (and-not (T .mine s .done)))
       (notes s lt (enters s lt I c ph p room lc cl) c (recordOf σ s .count) v (enter-phase s lt I c ph p room) (enter-slot s lt I c ph p room))))
       (λ j p. rw (amend-same s (wroteTo c v) T (r .live) (and-not (T .mine s .done))) (notes s lt I c j v ph p)))
-      (λ _. ticks I))
-      (λ _. ticks I))
+      (λ _. stays))
+      (λ _. stays))
 
   -- a seal that finds no written cell
   none-targeted : (s : ℕ) → target σ s 0 ≡ none → (c : ℕ) → written σ s c ≡ false
@@ -259,9 +289,9 @@ module _ {first : List ℕ} {σ : Store} {T : Ledger} (I : Inv first σ T) where
   none-written s lt ph ins p = tally-flat (T .mine s .wrote) 0 (length first) (omega arith) (λ c _ _. wrote-is s lt I ph ins c ∙ none-targeted s p c)
 
   keep-seal : (s : ℕ) → Kept (Seal s) (planOf (Seal s) σ)
-  unfolding planOf plan observe news over amendBy after answer target sealTarget
+  unfolding planOf plan observe tells ending after answer target sealTarget
   keep-seal s =
-      guarded (Kept (Seal s)) (σ .lent) s (recordOf σ s) (eqb (recordOf σ s .phase) 1) (sealTarget (targetIn (logOf σ s) (recordOf σ s .count) 0)) (ticks I) (ticks I) (ticks I) (ticks I)
+      guarded (Kept (Seal s)) (σ .lent) s (recordOf σ s) (eqb (recordOf σ s .phase) 1) (sealTarget (targetIn (logOf σ s) (recordOf σ s .count) 0)) stays stays stays stays
       (λ lt k h.
       let ph = eqb-true (recordOf σ s .phase) 1 h in
       let r = runs s ph in
@@ -269,8 +299,9 @@ module _ {first : List ℕ} {σ : Store} {T : Ledger} (I : Inv first σ T) where
       let ins = inside I s k non in
       choose (Kept (Seal s)) sealTarget (target σ s 0)
       (λ p.
-      rw (amend-commit s (λ t. ended (sealedAt (length first) (T .place) t)) T (r .live) (rw (eq-eqb (tally (T .mine s .wrote) (length first)) 0 (none-written s lt ph ins p), r .open′)))
-      (rests s lt I ph ins (none-targeted s p)))
+      let d : (sealedAt (length first) (T .place) (T .mine s) .done && not (T .mine s .done)) ≡ true = rw (eq-eqb (tally (T .mine s .wrote) (length first)) 0 (none-written s lt ph ins p), r .open′) in
+      rw (amend-commit s (sealedAt (length first) (T .place)) T (r .live) d)
+      (rw (amend-commit-closed s (sealedAt (length first) (T .place) (T .mine s)) (asCommit s (T .place) (sealedAt (length first) (T .place) (T .mine s))) T (r .live)) (rests s lt I ph ins (none-targeted s p))))
       (λ c p.
       let w = target-some σ s 0 p .1 in
       let lc = inside-wrote I s k non c w in
@@ -287,7 +318,7 @@ module _ {first : List ℕ} {σ : Store} {T : Ledger} (I : Inv first σ T) where
     D = advanced (length first) (T .place) (T .mine s) .done
 
     keep-own : recordOf σ s .phase ≡ 2 → otherReaders s (lockAt (σ .lent .locks) c .readers) ≡ 0 → Kept (Advance s) (Acquire c)
-    unfolding observe news over amendBy after answer
+    unfolding observe tells ending after answer
     keep-own ph al =
         let r : Promoting first (T .commits) (T .place) (recordOf σ s .next) (look σ s) (T .mine s) = rw ph at (I .link s) in
         which (target σ s (suc c))
@@ -301,30 +332,30 @@ module _ {first : List ℕ} {σ : Store} {T : Ledger} (I : Inv first σ T) where
         (holds-more s lt I ins c tgt ph al p)))
 
     module _ (r : Finishing (T .mine s)) where
-      on-103 : amend s (advanced (length first) (T .place)) T ≡ amended s (advanced (length first) (T .place) (T .mine s)) (T .commits) T
+      on-103 : amend s (advanced (length first) (T .place)) (calm T) ≡ replaced s (advanced (length first) (T .place) (T .mine s)) T
       on-103 = amend-same s (advanced (length first) (T .place)) T (r .live) (long-done D (T .mine s .done) (r .done))
 
       keep-publish : recordOf σ s .phase ≡ 3 → Kept (Advance s) (Publish c (currentOf (look σ s c)))
-      unfolding observe news over amendBy after answer
+      unfolding observe tells ending after answer
       keep-publish ph =
           which (target σ s (suc c))
           (λ p. rw (handled-rise σ s c p ph (λ e. omega arith)) (rw on-103 (publishes-last s lt I ins c tgt r ph p)))
           (λ d p. rw (handled-more σ s c p ph) (rw on-103 (publishes-more s lt I ins c tgt r ph)))
 
       keep-release : recordOf σ s .phase ≡ 4 → Kept (Advance s) (Release c)
-      unfolding observe news over amendBy after answer releasing target
+      unfolding observe tells ending after answer releasing target
       keep-release ph =
           which (target σ s (suc c))
-          (λ p. rw (handled-idle σ s c p ph) (rw p (rw (amend-same s ended T (r .live) (and-not (T .mine s .done))) (releases-last s lt I ins c tgt r ph p))))
+          (λ p. rw (handled-idle σ s c p ph) (rw p (rw (amend-same s closed T (r .live) (and-not (T .mine s .done))) (releases-last s lt I ins c tgt r ph p))))
           (λ d p. rw (handled-more σ s c p ph) (rw p (rw on-103 (releases-more s lt I ins c tgt r ph))))
 
   keep-advance : (s : ℕ) → Kept (Advance s) (planOf (Advance s) σ)
-  unfolding planOf plan observe news over amendBy after answer advanceTarget promotePlan claimed target
+  unfolding planOf plan observe tells ending after answer advanceTarget promotePlan claimed target
   keep-advance s =
-      guarded (Kept (Advance s)) (σ .lent) s (recordOf σ s) (leb 2 (recordOf σ s .phase)) (advanceTarget s (logOf σ s) (recordOf σ s) (lockAt (σ .lent .locks)) (targetIn (logOf σ s) (recordOf σ s .count) (recordOf σ s .next))) (ticks I) (ticks I) (ticks I) (ticks I)
+      guarded (Kept (Advance s)) (σ .lent) s (recordOf σ s) (leb 2 (recordOf σ s .phase)) (advanceTarget s (logOf σ s) (recordOf σ s) (lockAt (σ .lent .locks)) (targetIn (logOf σ s) (recordOf σ s .count) (recordOf σ s .next))) stays stays stays stays
       (λ lt k h.
       let two = leb-true 2 (recordOf σ s .phase) h in
-      choose (Kept (Advance s)) (advanceTarget s (logOf σ s) (recordOf σ s) (lockAt (σ .lent .locks))) (target σ s (recordOf σ s .next)) (λ _. ticks I)
+      choose (Kept (Advance s)) (advanceTarget s (logOf σ s) (recordOf σ s) (lockAt (σ .lent .locks))) (target σ s (recordOf σ s .next)) (λ _. stays)
       (λ c tgt.
       split (Kept (Advance s)) (eqb (recordOf σ s .phase) 2)
       (λ q.
@@ -332,7 +363,7 @@ module _ {first : List ℕ} {σ : Store} {T : Ledger} (I : Inv first σ T) where
       let r : Promoting first (T .commits) (T .place) (recordOf σ s .next) (look σ s) (T .mine s) = rw ph at (I .link s) in
       let l = lockAt (σ .lent .locks) c in
       split (Kept (Advance s)) (not (eqb (l .claimant) 16) && not (eqb (l .claimant) s))
-      (λ _. roll-back s lt (r .live) (calm₂ s ph))
+      (λ _. ticks (roll-back s lt (r .live) (calm₂ s ph)))
       (λ cl. split (Kept (Advance s)) (eqb (otherReaders s (l .readers)) 0)
       (λ z. keep-own s lt k two c tgt ph (eqb-true (otherReaders s (l .readers)) 0 z))
       (λ _. waits s lt I (ins s lt k two c tgt) c tgt ph (neither-other (eqb (l .claimant) 16) (eqb (l .claimant) s) cl))))

@@ -4,7 +4,7 @@ use mathlib.Core.Path.{_≡_, refl, sym, _∙_, ap}
 use mathlib.Core.Bool.{true, false}
 use mathlib.Core.Option.{Option, none, some}
 use Rattle.model.specs.Buffers.{Entry, isDirty}
-use Rattle.model.specs.History.{ReadOf}
+use Rattle.model.specs.Told.{ReadOf}
 use Rattle.model.specs.Isolation.{All, at}
 use Rattle.model.proofs.Invariant.{all-map, Running}
 use Rattle.model.proofs.Ledger.{Txn, saw, wroteTo}

@@ -1,7 +1,7 @@
 -- The theorem: every list of calls, from a store that set-up left.
-use Prim.Native.Nat.{ℕ, zero, suc}
+use Prim.Native.Nat.{ℕ, zero, suc, _<_}
 use native.Mathlib.Omega.{arith}
-use mathlib.Core.Path.{_≡_, refl, sym, _∙_, ap}
+use mathlib.Core.Path.{_≡_, refl, sym, _∙_, ap, subst}
 use mathlib.Core.Logic.{inl}
 use mathlib.Core.Bool.{false}
 use mathlib.Core.List.{List, [], _∷_}
@@ -9,17 +9,20 @@ use lib.ListN.{length, getD, replicate, length-replicate}
 use Rattle.model.specs.declared.Session.{Session}
 use Rattle.model.specs.declared.Call.{Call}
 use Rattle.model.specs.Buffers.{Buffers, Store, size, idle, sessionAt, lockAt, fresh}
-use Rattle.model.specs.History.{run, history}
+use Rattle.model.specs.History.{Item, add, run, events, told, history, transaction}
+use Rattle.model.specs.Isolation.{All}
 use Rattle.model.specs.Readers.{odd, member}
-use Rattle.model.specs.Step.{recordOf, reply}
+use Rattle.model.specs.Step.{recordOf, sessionOf, reply}
+use Rattle.model.specs.Told.{Told, tells}
 use Rattle.model.proofs.Effects.{idle-out}
-use Rattle.model.proofs.Invariant.{role, latest, Inv}
-use Rattle.model.proofs.Ledger.{txn, Ledger, blank, ledger}
-use Rattle.model.proofs.Matching.{Matches, matches}
+use Rattle.model.proofs.Invariant.{role, latest, all-map, Inv}
+use Rattle.model.proofs.Ledger.{Ledger, blank, ledger}
+use Rattle.model.proofs.Matching.{Matches}
 use Rattle.model.proofs.Preservation.{keep}
 use Rattle.model.proofs.Roles.{out, holds, owns}
-use Rattle.model.proofs.Settled.{begin-idle, keeps-settled}
+use Rattle.model.proofs.Settled.{heeds, observe-place}
 use Rattle.model.proofs.Tools.{clash}
+use Rattle.model.proofs.Words.{empty-committed}
 
 -- ---- set-up
 
@@ -79,36 +82,82 @@ module _ (B : Buffers) where
 
 -- ---- every list of calls
 
+events-length : (φ : Store) (ks : List Call) → length (events φ ks) ≡ length ks
+unfolding events
+events-length φ [] = refl
+events-length φ (k ∷ ks) = ap suc (events-length φ ks)
+
+-- one call more tells at its place, after what the list before it tells
+pub history-step : (start : List Item) (φ : Store) (k : Call) (ks : List Call)
+    → history start φ (k ∷ ks) ≡ add (suc (length ks)) (sessionOf k) (tells k (reply k (run φ ks))) (history start φ ks)
+unfolding told events
+history-step start φ k ks = ap (λ (m : ℕ). add (suc m) (sessionOf k) (tells k (reply k (run φ ks))) (history start φ ks)) (events-length φ ks)
+
+-- what is told is told at the places of the list
+abbrev Below : ℕ → List Item → Type 0
+Below m h = All (λ (i : Item). i .place < m) h
+
+below-add : (m q s : ℕ) → q < m → (ws : List Told) (h : List Item) → Below m h → Below m (add q s ws h)
+below-add m q s l [] h a = a
+below-add m q s l (w ∷ ws) h a = (l, below-add m q s l ws h a)
+
+told-before : (start : List Item) → Below 1 start → (φ : Store) (ks : List Call) → Below (suc (length ks)) (history start φ ks)
+told-before start b φ [] = unfold told events in b
+told-before start b φ (k ∷ ks) =
+    subst (Below (suc (suc (length ks)))) (sym (history-step start φ k ks))
+    (below-add (suc (suc (length ks))) (suc (length ks)) (sessionOf k) (omega arith) (tells k (reply k (run φ ks))) (history start φ ks)
+    (all-map (λ i l. omega arith) (history start φ ks) (told-before start b φ ks)))
+
 -- from any store and ledger with the invariant
 pub inv-from : {start : List ℕ} {φ : Store} {T : Ledger} → Inv start φ T → (ks : List Call) → Inv start (run φ ks) (ledger (length start) T φ ks)
 unfolding run ledger
 inv-from I [] = I
 inv-from I (k ∷ ks) = keep (inv-from I ks) k
 
--- from any store with the invariant and no transaction open
-module _ (φ : Store) (I₀ : Inv (φ .lent .values) φ blank) where
+-- a start: the ledger of what is told there, which commits nothing
+pub record Ready (φ : Store) (h₀ : List Item) (T₀ : Ledger) : Type 0 where
+  pub inv : Inv (φ .lent .values) φ T₀
+  pub match : Matches (length (φ .lent .values)) h₀ T₀
+  pub below : All (λ (i : Item). i .place < 1) h₀
+  pub place : T₀ .place ≡ 1
+  pub commits : T₀ .commits ≡ []
+
+-- from any start
+module _ {φ : Store} {h₀ : List Item} {T₀ : Ledger} (R : Ready φ h₀ T₀) where
+  abbrev n : ℕ
+  n = length (φ .lent .values)
+
   abbrev pub ledger-of : List Call → Ledger
-  ledger-of ks = ledger (length (φ .lent .values)) blank φ ks
+  ledger-of ks = ledger (length (φ .lent .values)) T₀ φ ks
 
   pub inv-run : (ks : List Call) → Inv (φ .lent .values) (run φ ks) (ledger-of ks)
-  inv-run = inv-from I₀
+  inv-run = inv-from (R .inv)
 
-  match-start : Matches (length (φ .lent .values)) [] blank
-  unfolding txn
-  match-start =
-      record {
-        place = refl;
-        who = λ s. refl;
-        open′ = λ p l. absurd (clash false l refl);
-        mine = λ s l. absurd (clash false l refl);
-        unborn = λ p l. (refl, refl);
-        recorded = tt;
-        every = λ p d. clash false d refl;
-      }
+  pub place-is : (ks : List Call) → ledger-of ks .place ≡ suc (length ks)
+  unfolding ledger
+  place-is [] = R .place
+  place-is (k ∷ ks) = observe-place n k (reply k (run φ ks)) (ledger-of ks) ∙ ap suc (place-is ks)
 
-  pub match-run : (ks : List Call) → Matches (length (φ .lent .values)) (history φ ks) (ledger-of ks)
-  unfolding history ledger
-  match-run [] = match-start
+  pub match-run : (ks : List Call) → Matches (length (φ .lent .values)) (history h₀ φ ks) (ledger-of ks)
+  unfolding ledger
+  match-run [] = unfold told events in R .match
   match-run (k ∷ ks) =
-      matches (match-run ks) k (reply k (run φ ks)) (λ s e h. begin-idle (inv-run ks) s (rw (← e) h))
-      (keeps-settled (inv-run ks) (length (φ .lent .values)) (ledger-of ks .place) k)
+      subst (λ (h : List Item). Matches n h (ledger-of (k ∷ ks))) (sym (history-step h₀ φ k ks))
+      (heeds (inv-run ks) (match-run ks) (suc (length ks)) (place-is ks) (told-before h₀ (R .below) φ ks) k)
+
+-- with no transaction open
+pub ready : (φ : Store) → Inv (φ .lent .values) φ blank → Ready φ [] blank
+ready φ I =
+    record {
+      inv = I;
+      match = record {
+        open′ = λ x o. absurd (clash false (unfold transaction in o) refl);
+        mine = λ s l. absurd (clash false l refl);
+        recorded = tt;
+        every = λ x d. clash false (sym (empty-committed (length (φ .lent .values))) ∙ (unfold transaction in d)) refl;
+        stands = λ x. unfold transaction in tt;
+      };
+      below = tt;
+      place = refl;
+      commits = refl;
+    }

@@ -9,14 +9,14 @@ use mathlib.Core.List.{List, _∷_}
 use lib.ListN.{length, getD}
 use borrow.Author.Tests.{ne-eqb, le-leb}
 use Rattle.model.specs.Buffers.{Locks, Store, idle, moveTo, Entry, cellAt, entryAt, slotIn, publishesIn, lockAt, leave}
-use Rattle.model.specs.History.{ReadOf}
+use Rattle.model.specs.Told.{ReadOf}
 use Rattle.model.specs.Isolation.{All, at}
 use Rattle.model.specs.Search.{find, tally}
 use Rattle.model.specs.Step.{readsDropped, change, recordOf, logOf}
-use Rattle.model.proofs.Effects.{Acts, ses-same, frame, look-mine, role-gone, shaped, link-mine, unknown, running-role, look-is, slot-none, slot-some, acts, amended}
+use Rattle.model.proofs.Effects.{Acts, ses-same, frame, look-mine, role-gone, shaped, link-mine, unknown, running-role, look-is, slot-none, slot-some, acts, amended, joined}
 use Rattle.model.proofs.Invariant.{roleIn, roleOf, role, latest, before-latest, all-map, Running, Inv, Frame, role-other, quiet, committing}
 use Rattle.model.proofs.Laws.{Long, long-sweep, lock-sweep, leave-leave, tally-more}
-use Rattle.model.proofs.Ledger.{Txn, ended, sealedAt, Ledger, asCommit, valueBefore}
+use Rattle.model.proofs.Ledger.{Txn, closed, sealedAt, Ledger, asCommit, valueBefore}
 use Rattle.model.proofs.Roles.{Role, out, wanting, holds, owns, pends, claims?, Locked, Valued, kept, leaves, stays}
 use Rattle.model.proofs.Tools.{test, which, clash}
 use Rattle.model.proofs.View.{slot, look, written, dirty-publishes}
@@ -98,9 +98,9 @@ module _ {start : List ℕ} {σ : Store} {T : Ledger} (s : ℕ) (lt : s < 16) (I
     -- a written cell: it promotes
     pub promotes : (c : ℕ) → c < length start → written σ s c ≡ true
         → Inv start (change σ s (readsDropped (logOf σ s) (recordOf σ s .count) s (σ .lent .locks)) (σ .lent .values) (σ .lent .logs) (moveTo 2 0 (recordOf σ s)))
-        (amended s (sealedAt (length start) (T .place) (T .mine s)) (T .commits) T)
+        (amended s (sealedAt (length start) (T .place) (T .mine s)) T)
     promotes c lc wc =
-        quiet s I (frame a) (shaped a (I .shape .values) dropped-long (I .shape .counts s)) u
+        quiet s I (frame a) (shaped a (I .shape .values) dropped-long (I .shape .counts s)) u (suc (T .place)) (omega arith)
         (λ d ld. dropped-locked (frame a) d ld (role-is d))
         (λ d ld. dropped-valued (frame a) d ld (role-is d))
         (link-mine a start (T .commits) (suc (T .place)) u refl
@@ -135,9 +135,9 @@ module _ {start : List ℕ} {σ : Store} {T : Ledger} (s : ℕ) (lt : s < 16) (I
 
     -- nothing written: it commits with its seal
     pub rests : ((c : ℕ) → written σ s c ≡ false)
-        → let u = ended (sealedAt (length start) (T .place) (T .mine s)) in
+        → let u = closed (sealedAt (length start) (T .place) (T .mine s)) in
         Inv start (change σ s (readsDropped (logOf σ s) (recordOf σ s .count) s (σ .lent .locks)) (σ .lent .values) (σ .lent .logs) idle)
-        (amended s u (asCommit s (T .place) u ∷ T .commits) T)
+        (joined s u (asCommit s (T .place) u) T)
     rests wn =
         committing s I (frame a) (shaped a (I .shape .values) dropped-long (omega arith)) u (asCommit s (T .place) u) refl
         (λ t c n p q r. clash (T .mine s .wrote c) q (dry c))
@@ -153,7 +153,7 @@ module _ {start : List ℕ} {σ : Store} {T : Ledger} (s : ℕ) (lt : s < 16) (I
         (λ c w. absurd (clash (T .mine s .wrote c) w (dry c)))
       where
         u : Txn
-        u = ended (sealedAt (length start) (T .place) (T .mine s))
+        u = closed (sealedAt (length start) (T .place) (T .mine s))
 
         τ : Store
         τ = change σ s D (σ .lent .values) (σ .lent .logs) idle

@@ -1,22 +1,22 @@
--- Companion (b), one after the other: what it claims is `SeriallyEqual` of specs/Companions.antt. Along a list in which a transaction begins only
+-- One after the other: what it claims is `SeriallyEqual` of specs/Serial.antt. Along a list in which a transaction begins only
 -- when none is open, the serial store follows the ledger call by call; with none open the store's values and the serial store's are the last committed.
 use Prim.Native.Nat.{ℕ, _<_}
-use mathlib.Core.Path.{_≡_, refl, sym, _∙_, ap, subst}
+use mathlib.Core.Path.{_≡_, refl, sym, _∙_, subst}
 use mathlib.Core.Bool.{false}
 use mathlib.Core.List.{List, [], _∷_, reverse}
 use lib.Seq.{ext-getD}
 use Rattle.model.specs.declared.Call.{Call}
 use Rattle.model.specs.Buffers.{Store, fresh}
-use Rattle.model.specs.Companions.{serial, NoneOpen, OneAtATime, ReadsSerially, Undisturbed, SeriallyEqual}
-use Rattle.model.specs.History.{run, history}
+use Rattle.model.specs.Serial.{serial, NoneOpen, OneAtATime, ReadsSerially, Undisturbed, SeriallyEqual}
+use Rattle.model.specs.History.{Event, run, events, name, history, transaction, isOpen}
 use Rattle.model.specs.Isolation.{All}
 use Rattle.model.specs.Step.{number, reply, setUpAnswer, setUp}
-use Rattle.model.proofs.Agreement.{agrees-run}
+use Rattle.model.specs.Told.{tells}
 use Rattle.model.proofs.Demand3.{set-up-fresh}
-use Rattle.model.proofs.Invariant.{latest, Inv}
-use Rattle.model.proofs.Ledger.{Txn, blank, ledger}
+use Rattle.model.proofs.Invariant.{latest, all-map, Inv}
+use Rattle.model.proofs.Ledger.{blank, ledger}
 use Rattle.model.proofs.Roles.{flip}
-use Rattle.model.proofs.Runs.{inv-fresh, ledger-of, inv-run, match-run}
+use Rattle.model.proofs.Runs.{inv-fresh, ready, ledger-of, inv-run, match-run}
 use Rattle.model.proofs.SerialCalls.{Serially, serially}
 use Rattle.model.proofs.SerialLedger.{Follows}
 use Rattle.model.proofs.SerialLocks.{closed-out, value-latest}
@@ -25,21 +25,20 @@ use Rattle.model.proofs.Tools.{clash}
 -- from any store with the invariant and no transaction open
 module _ (φ : Store) (I₀ : Inv (φ .lent .values) φ blank) where
   -- no transaction of the list is open: none of the ledger is, since the list tells the ledger's open ones
-  none-live : (ks : List Call) → NoneOpen (history φ ks) → (s : ℕ) → ledger-of φ I₀ ks .mine s .live ≡ false
+  none-live : (ks : List Call) → NoneOpen (history [] φ ks) → (s : ℕ) → ledger-of (ready φ I₀) ks .mine s .live ≡ false
   none-live ks h s =
-      let t = ledger-of φ I₀ ks .mine s in
+      let t = ledger-of (ready φ I₀) ks .mine s in
+      let x = name (t .began) s in
       flip (t .live)
-      (λ l.
-      let e = ap (λ (u : Txn). u .live) (match-run φ I₀ ks .mine s l) in
-      clash (t .live) l (sym e ∙ agrees-run φ I₀ ks (t .began) .live ∙ h (t .began)))
+      (λ l. clash (isOpen (transaction x (history [] φ ks))) (match-run (ready φ I₀) ks .mine s l) (h x))
 
-  module _ (k : Call) (ks : List Call) (F : Follows (φ .lent .values) (ledger-of φ I₀ ks) (serial (φ .lent .values) (history φ ks))) where
-    one-more : OneAtATime (history φ (k ∷ ks)) → Serially (φ .lent .values) (ledger-of φ I₀ ks) (serial (φ .lent .values) (history φ ks)) k (reply k (run φ ks))
-    unfolding history
-    one-more o = serially (inv-run φ I₀ ks) F k (λ b. none-live ks (o .1 b))
+  module _ (k : Call) (ks : List Call) (F : Follows (φ .lent .values) (ledger-of (ready φ I₀) ks) (serial (φ .lent .values) (events φ ks))) where
+    one-more : OneAtATime (events φ (k ∷ ks)) → Serially (φ .lent .values) (ledger-of (ready φ I₀) ks) (serial (φ .lent .values) (events φ ks)) k (reply k (run φ ks))
+    unfolding events
+    one-more o = serially (inv-run (ready φ I₀) ks) F k (all-map (λ w a b. none-live ks (a b)) (tells k (reply k (run φ ks))) (o .1))
 
-  follows-run : (ks : List Call) → OneAtATime (history φ ks) → Follows (φ .lent .values) (ledger-of φ I₀ ks) (serial (φ .lent .values) (history φ ks))
-  unfolding history ledger serial latest
+  follows-run : (ks : List Call) → OneAtATime (events φ ks) → Follows (φ .lent .values) (ledger-of (ready φ I₀) ks) (serial (φ .lent .values) (events φ ks))
+  unfolding events ledger serial latest
   follows-run [] o =
       record {
         alone = λ s u l m. absurd (clash false l refl);
@@ -49,34 +48,34 @@ module _ (φ : Store) (I₀ : Inv (φ .lent .values) φ blank) where
       }
   follows-run (k ∷ ks) o = one-more k ks (follows-run ks (o .0)) o .follows
 
-  reads-run : (ks : List Call) → OneAtATime (history φ ks) → ReadsSerially (φ .lent .values) (history φ ks)
-  unfolding history
+  reads-run : (ks : List Call) → OneAtATime (events φ ks) → ReadsSerially (φ .lent .values) (events φ ks)
+  unfolding events
   reads-run [] o = tt
   reads-run (k ∷ ks) o = (reads-run ks (o .0), one-more k ks (follows-run ks (o .0)) o .read)
 
-  undisturbed-run : (ks : List Call) → OneAtATime (history φ ks) → All Undisturbed (history φ ks)
-  unfolding history
+  undisturbed-run : (ks : List Call) → OneAtATime (events φ ks) → All (λ (e : Event). Undisturbed (e .answer)) (events φ ks)
+  unfolding events
   undisturbed-run [] o = tt
   undisturbed-run (k ∷ ks) o = (one-more k ks (follows-run ks (o .0)) o .undisturbed, undisturbed-run ks (o .0))
 
-  values-run : (ks : List Call) → OneAtATime (history φ ks) → NoneOpen (history φ ks)
-      → run φ ks .lent .values ≡ serial (φ .lent .values) (history φ ks) .values
+  values-run : (ks : List Call) → OneAtATime (events φ ks) → NoneOpen (history [] φ ks)
+      → run φ ks .lent .values ≡ serial (φ .lent .values) (events φ ks) .values
   values-run ks o h =
-      let I = inv-run φ I₀ ks in
+      let I = inv-run (ready φ I₀) ks in
       let F = follows-run ks o in
-      ext-getD 0 (run φ ks .lent .values) (serial (φ .lent .values) (history φ ks) .values) (I .shape .values ∙ sym (F .lengths .0))
+      ext-getD 0 (run φ ks .lent .values) (serial (φ .lent .values) (events φ ks) .values) (I .shape .values ∙ sym (F .lengths .0))
       (λ c l.
       let lc = subst (λ (m : ℕ). c < m) (I .shape .values) l in
       value-latest I c lc (λ u. closed-out I u (none-live ks h u) c) ∙ sym (F .closed (none-live ks h) c lc))
 
-  pub serially-equal-from : (calls : List Call) → OneAtATime (history φ (reverse calls)) → SeriallyEqual φ (reverse calls)
+  pub serially-equal-from : (calls : List Call) → OneAtATime (events φ (reverse calls)) → SeriallyEqual φ (reverse calls)
   serially-equal-from calls o =
       let ks = reverse calls in
       record { reads = reads-run ks o; left = values-run ks o; undisturbed = undisturbed-run ks o }
 
 -- any store that set-up answers 100, and any list of calls from what it leaves in which a transaction begins only when none is open
 pub serially-equal : (σ : Store) → number (setUpAnswer (σ .lent)) ≡ 100 → (calls : List Call)
-    → OneAtATime (history (setUp σ) (reverse calls)) → SeriallyEqual (setUp σ) (reverse calls)
+    → OneAtATime (events (setUp σ) (reverse calls)) → SeriallyEqual (setUp σ) (reverse calls)
 serially-equal σ h calls =
-    subst (λ (φ : Store). OneAtATime (history φ (reverse calls)) → SeriallyEqual φ (reverse calls)) (sym (set-up-fresh σ h))
+    subst (λ (φ : Store). OneAtATime (events φ (reverse calls)) → SeriallyEqual φ (reverse calls)) (sym (set-up-fresh σ h))
     (serially-equal-from (fresh (σ .lent)) (inv-fresh (σ .lent)) calls)

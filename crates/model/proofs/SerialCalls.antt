@@ -5,7 +5,7 @@ use native.Mathlib.Omega.{arith}
 use mathlib.Core.Path.{_≡_, refl, sym, _∙_}
 use mathlib.Core.Bool.{Bool, true, false, cond, not, _&&_, _||_}
 use mathlib.Core.Option.{none}
-use mathlib.Core.List.{List}
+use mathlib.Core.List.{List, []}
 use lib.Dec.{leb, ltb, eqb}
 use lib.ListN.{length, getD}
 use borrow.Author.Tests.{eqb-true, eqb-false, eq-eqb, ne-eqb, ltb-true, leb-true, not-true}
@@ -16,40 +16,39 @@ use Rattle.model.specs.declared.Answer.the-variants.{Done, Value, Sealed
 use Rattle.model.specs.declared.Plan.{Plan}
 use Rattle.model.specs.declared.Plan.the-variants.{Refuse, Start, Enter, EnterUpdate, Cancel}
 use Rattle.model.specs.Buffers.{Store, size, entryAt, slotIn, targetIn, lockAt, cap}
-use Rattle.model.specs.Companions.{Serial, serialStep, Undisturbed}
-use Rattle.model.specs.History.{kind, cellOf, is}
+use Rattle.model.specs.Isolation.{All}
+use Rattle.model.specs.Serial.{Serial, serialStep, Undisturbed}
 use Rattle.model.specs.Readers.{otherReaders}
 use Rattle.model.specs.Search.{some?, tally}
-use Rattle.model.specs.Step.{number, valueOf, recordOf, releasing, answer, recordFits, guard, known, claimed, newCell, readSlot, writeSlot, writeCapped, sealTarget, promotePlan, advanceTarget, peekSlot, plan, sessionOf, planOf, reply, logOf, admit, readPlan, writePlan, sealPlan, peekPlan}
+use Rattle.model.specs.Step.{number, recordOf, releasing, answer, recordFits, guard, known, claimed, newCell, readSlot, writeSlot, writeCapped, sealTarget, promotePlan, advanceTarget, peekSlot, plan, sessionOf, planOf, reply, logOf, admit}
+use Rattle.model.specs.Told.{Told, ending, tells, begins, WhereGot}
 use Rattle.model.proofs.Advancing.{target-some}
 use Rattle.model.proofs.Effects.{slot-some}
 use Rattle.model.proofs.Invariant.{latest, Promoting, Finishing, Inv}
-use Rattle.model.proofs.Ledger.{ended, saw, sealedAt, advanced, over, news, Ledger, tick, amendBy, observe}
+use Rattle.model.proofs.Ledger.{closed, saw, sealedAt, advanced, Ledger, calm, starts, observe}
 use Rattle.model.proofs.Preservation.{choose, guarded, running-cell, cell-new, inside, inside-wrote, phase-le, runs, none-written}
 use Rattle.model.proofs.Roles.{flip}
-use Rattle.model.proofs.SerialLedger.{overlay, Follows, follows-tick, follows-start, follows-on, follows-commit, follows-end, follows-write}
+use Rattle.model.proofs.SerialLedger.{overlay, Follows, follows-tick, follows-calm, follows-rest, follows-start, follows-on, follows-commit, follows-end, follows-write}
 use Rattle.model.proofs.SerialLocks.{unlogged-out, no-readers, own-claim, reads-store, reads-entry}
-use Rattle.model.proofs.Tools.{split, test, clash, both-l, both-r, and-false}
+use Rattle.model.proofs.Tools.{split, test, clash, both-l, both-r}
 use Rattle.model.proofs.View.{slot, look, target}
 
--- call k answered a, where the serial store z follows the ledger T: it goes on to follow, nobody was in the way, and a value read is the draft's
+-- call k answered a, where the serial store z follows the ledger T: it goes on to follow, nobody was in the way, and a value got is the draft's
 pub record Serially (start : List ℕ) (T : Ledger) (z : Serial) (k : Call) (a : Answer) : Type 0 where
   pub follows : Follows start (observe (length start) k a T) (serialStep (record { call = k; answer = a }) z)
-  pub undisturbed : Undisturbed (record { call = k; answer = a })
-  pub read : is 2 101 k a ≡ true → valueOf a ≡ getD (z .draft) (cellOf k) 0
+  pub undisturbed : Undisturbed a
+  pub read : All (WhereGot (λ c v. v ≡ getD (z .draft) c 0)) (tells k a)
 
--- an answer neither 6 nor 104 nor, to a read, 101: what is left to show is that the serial store goes on to follow
+-- an answer neither 6 nor 104
 module _ {start : List ℕ} {T : Ledger} {z : Serial} (k : Call) (a : Answer) where
-  answered : eqb (number a) 6 ≡ false → eqb (number a) 104 ≡ false → is 2 101 k a ≡ false
+  answered : eqb (number a) 6 ≡ false → eqb (number a) 104 ≡ false → All (WhereGot (λ c v. v ≡ getD (z .draft) c 0)) (tells k a)
       → Follows start (observe (length start) k a T) (serialStep (record { call = k; answer = a }) z) → Serially start T z k a
-  answered x y r f =
-      record {
-        follows = f;
-        undisturbed = (eqb-false (number a) 6 x, eqb-false (number a) 104 y);
-        read = λ h. absurd (clash (is 2 101 k a) h r);
-      }
+  answered x y r f = record { follows = f; undisturbed = (eqb-false (number a) 6 x, eqb-false (number a) 104 y); read = r }
 
 module _ {start : List ℕ} {σ : Store} {T : Ledger} {z : Serial} (I : Inv start σ T) (F : Follows start T z) where
+  G : Follows start (calm T) z
+  G = follows-calm F
+
   abbrev Fine : Call → Plan → Type 0
   Fine k p = Serially start T z k (answer (sessionOf k) p σ)
 
@@ -62,25 +61,20 @@ module _ {start : List ℕ} {σ : Store} {T : Ledger} {z : Serial} (I : Inv star
     not-six : eqb r 6 ≡ false
     not-six = not-true (eqb r 6) (both-r (ltb r 100) (not (eqb r 6)) small)
 
-    refused-tick : (k : Call) → observe (length start) k (Refused r) T ≡ tick T
-    unfolding observe news over amendBy
-    refused-tick (Begin s) = rw (off 100 (omega arith), not-six, off 105 (omega arith))
-    refused-tick (Read s c) = rw (off 101 (omega arith), not-six, off 105 (omega arith))
-    refused-tick (Write s c v) = rw (off 100 (omega arith), not-six, off 105 (omega arith))
-    refused-tick (Seal s) = rw (off 102 (omega arith), not-six, off 105 (omega arith))
-    refused-tick (Advance s) = rw (off 103 (omega arith), not-six, off 105 (omega arith))
-    refused-tick (Abandon s) = rw (off 100 (omega arith), not-six, off 105 (omega arith))
-    refused-tick (Peek s c) = rw (not-six, off 105 (omega arith))
-
-    refused-step : (k : Call) → serialStep (record { call = k; answer = Refused r }) z ≡ z
-    unfolding serialStep
-    refused-step k = rw (off 100 (omega arith), and-false (eqb (kind k) 1), and-false (eqb (kind k) 3), off 105 (omega arith))
+    refused-tells : (k : Call) → tells k (Refused r) ≡ []
+    unfolding tells ending
+    refused-tells (Begin s) = rw (off 100 (omega arith), not-six, off 105 (omega arith))
+    refused-tells (Read s c) = rw (off 101 (omega arith), not-six, off 105 (omega arith))
+    refused-tells (Write s c v) = rw (off 100 (omega arith), not-six, off 105 (omega arith))
+    refused-tells (Seal s) = rw (off 102 (omega arith), not-six, off 105 (omega arith))
+    refused-tells (Advance s) = rw (off 103 (omega arith), not-six, off 105 (omega arith))
+    refused-tells (Abandon s) = rw (off 100 (omega arith), not-six, off 105 (omega arith))
+    refused-tells (Peek s c) = rw (not-six, off 105 (omega arith))
 
     refused : (k : Call) → Fine k (Refuse r)
-    unfolding answer
+    unfolding answer observe serialStep
     refused k =
-        answered k (Refused r) not-six (off 104 (omega arith)) (rw (off 101 (omega arith)) (and-false (eqb (kind k) 2)))
-        (rw (refused-tick k, refused-step k) (follows-tick F))
+        answered k (Refused r) not-six (off 104 (omega arith)) (rw (refused-tells k) tt) (rw (refused-tells k, off 105 (omega arith)) (follows-tick G))
 
   -- a call that the guard lets pass; one on a cell, of a running session
   passing : (k : Call) (fits : Bool) (p : Plan) → let s = sessionOf k in
@@ -96,7 +90,7 @@ module _ {start : List ℕ} {σ : Store} {T : Ledger} {z : Serial} (I : Inv star
       (refused 3 refl k) (λ _ ph l. f ph (omega (arith, I .shape .values)))
 
   peek-fine : (s c : ℕ) → Fine (Peek s c) (planOf (Peek s c) σ)
-  unfolding planOf plan peekSlot answer observe news over amendBy serialStep
+  unfolding planOf plan peekSlot answer observe tells ending serialStep
   peek-fine s c =
       on-cell (Peek s c) c (peekSlot (logOf σ s) c (slotIn (logOf σ s) (recordOf σ s .count) c))
       (λ _ _.
@@ -104,7 +98,7 @@ module _ {start : List ℕ} {σ : Store} {T : Ledger} {z : Serial} (I : Inv star
       (λ k _. split (Fine (Peek s c)) (entryAt (logOf σ s) k .dirty) (λ _. shown) (λ _. shown)))
     where
       shown : Serially start T z (Peek s c) Done
-      shown = answered (Peek s c) Done refl refl refl (follows-tick F)
+      shown = answered (Peek s c) Done refl refl tt (follows-tick G)
 
   -- ---- one session has a transaction open
 
@@ -121,7 +115,7 @@ module _ {start : List ℕ} {σ : Store} {T : Ledger} {z : Serial} (I : Inv star
       (λ n. absurd (own-claim I s a c lc n .1 (unlogged-out σ s c new))) (λ _ _. f)
 
   read-fine : (s c : ℕ) → Fine (Read s c) (planOf (Read s c) σ)
-  unfolding planOf plan readSlot answer observe news over amendBy serialStep slot
+  unfolding planOf plan readSlot answer observe tells ending serialStep slot
   read-fine s c =
       on-cell (Read s c) c (readSlot (logOf σ s) (recordOf σ s) (lockAt (σ .lent .locks) c) c (slotIn (logOf σ s) (recordOf σ s .count) c))
       (λ ph lc.
@@ -134,13 +128,13 @@ module _ {start : List ℕ} {σ : Store} {T : Ledger} {z : Serial} (I : Inv star
       told ph lc v e =
           let r = runs I s ph in
           record {
-            follows = follows-on F s (r .live) (saw c v) (r .live) refl refl (λ d. d);
+            follows = follows-tick (follows-on G s (r .live) (saw c v) (r .live) refl refl (λ d. d));
             undisturbed = (λ e. omega arith, λ e. omega arith);
-            read = λ _. e ∙ sym (F .works s (r .live) .draft (r .open′) c lc);
+            read = (e ∙ sym (F .works s (r .live) .draft (r .open′) c lc), tt);
           }
 
   write-fine : (s c v : ℕ) → Fine (Write s c v) (planOf (Write s c v) σ)
-  unfolding planOf plan writeCapped writeSlot answer observe news over amendBy serialStep slot
+  unfolding planOf plan writeCapped writeSlot answer observe tells ending serialStep slot
   write-fine s c v =
       let k = getD (σ .lent .classes) c 0 in
       on-cell (Write s c v) c (cond (ltb k 16) (writeCapped (logOf σ s) (recordOf σ s) (lockAt (σ .lent .locks) c) c v (cap k)) (Refuse 8))
@@ -153,10 +147,10 @@ module _ {start : List ℕ} {σ : Store} {T : Ledger} {z : Serial} (I : Inv star
       (λ _. refused 8 refl (Write s c v)))
     where
       wrote : recordOf σ s .phase ≡ 1 → c < length start → Serially start T z (Write s c v) Done
-      wrote ph lc = let r = runs I s ph in answered (Write s c v) Done refl refl refl (follows-write F s (r .live) c v lc (r .open′))
+      wrote ph lc = let r = runs I s ph in answered (Write s c v) Done refl refl (tt, tt) (follows-tick (follows-write G s (r .live) c v lc (r .open′)))
 
   seal-fine : (s : ℕ) → Fine (Seal s) (planOf (Seal s) σ)
-  unfolding planOf plan sealTarget answer observe news over amendBy serialStep target
+  unfolding planOf plan sealTarget answer observe tells ending serialStep target
   seal-fine s =
       passing (Seal s) (eqb (recordOf σ s .phase) 1) (sealTarget (targetIn (logOf σ s) (recordOf σ s .count) 0))
       (λ lt k h.
@@ -164,15 +158,15 @@ module _ {start : List ℕ} {σ : Store} {T : Ledger} {z : Serial} (I : Inv star
       let r = runs I s ph in
       choose (Fine (Seal s)) sealTarget (target σ s 0)
       (λ p.
-      answered (Seal s) Committed refl refl refl
-      (follows-commit F s (r .live) (λ t. ended (sealedAt (length start) (T .place) t)) refl refl refl
-      (eq-eqb (tally (T .mine s .wrote) (length start)) 0 (none-written I s lt ph (inside I s k (λ e. omega arith)) p))))
+      answered (Seal s) Committed refl refl (tt, (tt, tt))
+      (follows-tick (follows-rest G s (r .live) (sealedAt (length start) (T .place)) (r .live) refl refl
+      (eq-eqb (tally (T .mine s .wrote) (length start)) 0 (none-written I s lt ph (inside I s k (λ e. omega arith)) p)))))
       (λ c p.
-      answered (Seal s) Sealed refl refl refl
-      (follows-on F s (r .live) (sealedAt (length start) (T .place)) (r .live) refl refl (λ d. absurd (clash (T .mine s .done) d (r .open′))))))
+      answered (Seal s) Sealed refl refl (tt, tt)
+      (follows-tick (follows-on G s (r .live) (sealedAt (length start) (T .place)) (r .live) refl refl (λ d. absurd (clash (T .mine s .done) d (r .open′)))))))
 
   abandon-fine : (s : ℕ) → Fine (Abandon s) (planOf (Abandon s) σ)
-  unfolding planOf plan answer observe news over amendBy serialStep
+  unfolding planOf plan answer observe tells ending serialStep
   abandon-fine s =
       passing (Abandon s) (eqb (recordOf σ s .phase) 1 || eqb (recordOf σ s .phase) 2) Cancel
       (λ lt k h.
@@ -184,18 +178,22 @@ module _ {start : List ℕ} {σ : Store} {T : Ledger} {z : Serial} (I : Inv star
       gave-up (r .live) (r .open′)))
     where
       gave-up : T .mine s .live ≡ true → T .mine s .done ≡ false → Serially start T z (Abandon s) Done
-      gave-up l d = answered (Abandon s) Done refl refl refl (follows-end F s l d)
+      gave-up l d = answered (Abandon s) Done refl refl (tt, tt) (follows-tick (follows-end G s l d))
 
-  begin-fine : (s : ℕ) → (is 1 100 (Begin s) (reply (Begin s) σ) ≡ true → (u : ℕ) → T .mine u .live ≡ false) → Serially start T z (Begin s) (reply (Begin s) σ)
-  unfolding reply planOf plan answer observe serialStep
+  -- where a begin is told, no transaction is open
+  abbrev Alone : List Told → Type 0
+  Alone ws = All (λ (w : Told). begins w ≡ true → (u : ℕ) → T .mine u .live ≡ false) ws
+
+  begin-fine : (s : ℕ) → Alone (tells (Begin s) (reply (Begin s) σ)) → Serially start T z (Begin s) (reply (Begin s) σ)
+  unfolding reply planOf plan answer observe tells ending starts serialStep
   begin-fine s =
-      guarded (λ p. (is 1 100 (Begin s) (answer s p σ) ≡ true → (u : ℕ) → T .mine u .live ≡ false) → Fine (Begin s) p)
+      guarded (λ p. Alone (tells (Begin s) (answer s p σ)) → Fine (Begin s) p)
       (σ .lent) s (recordOf σ s) (eqb (recordOf σ s .phase) 0) Start
       (λ _. refused 7 refl (Begin s)) (λ _. refused 1 refl (Begin s)) (λ _. refused 9 refl (Begin s)) (λ _. refused 2 refl (Begin s))
-      (λ _ _ _ closed. answered (Begin s) Done refl refl refl (follows-start F s (closed refl)))
+      (λ _ _ _ alone. answered (Begin s) Done refl refl (tt, tt) (follows-tick (follows-start G s (alone .0 refl))))
 
   advance-fine : (s : ℕ) → Fine (Advance s) (planOf (Advance s) σ)
-  unfolding planOf plan advanceTarget promotePlan claimed answer releasing observe news over amendBy serialStep target
+  unfolding planOf plan advanceTarget promotePlan claimed answer releasing observe tells ending serialStep target
   advance-fine s =
       passing (Advance s) (leb 2 (recordOf σ s .phase)) (advanceTarget s (logOf σ s) (recordOf σ s) (lockAt (σ .lent .locks)) (targetIn (logOf σ s) (recordOf σ s .count) (recordOf σ s .next)))
       (λ lt k h.
@@ -223,12 +221,12 @@ module _ {start : List ℕ} {σ : Store} {T : Ledger} {z : Serial} (I : Inv star
       let ph : recordOf σ s .phase ≡ 4 = omega (arith, phase-le I s k) in
       let r : Finishing (T .mine s) = rw ph at (I .link s) in
       split (Serially start T z (Advance s)) (some? (target σ s (suc c))) (λ _. moved (r .live))
-      (λ _. answered (Advance s) Committed refl refl refl (follows-commit F s (r .live) ended refl refl refl (r .done)))))))
+      (λ _. answered (Advance s) Committed refl refl (tt, tt) (follows-tick (follows-commit G s (r .live) closed refl refl refl (r .done))))))))
     where
       moved : T .mine s .live ≡ true → Serially start T z (Advance s) Moved
-      moved l = answered (Advance s) Moved refl refl refl (follows-on F s l (advanced (length start) (T .place)) l refl refl (λ d. rw d))
+      moved l = answered (Advance s) Moved refl refl (tt, tt) (follows-tick (follows-on G s l (advanced (length start) (T .place)) l refl refl (λ d. rw d)))
 
-  pub serially : (k : Call) → (is 1 100 k (reply k σ) ≡ true → (u : ℕ) → T .mine u .live ≡ false) → Serially start T z k (reply k σ)
+  pub serially : (k : Call) → Alone (tells k (reply k σ)) → Serially start T z k (reply k σ)
   unfolding reply planOf
   serially (Begin s) b = begin-fine s b
   serially (Read s c) b = read-fine s c

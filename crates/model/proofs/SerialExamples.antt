@@ -1,69 +1,56 @@
 -- The claim of Serial.antt meets two lists of calls: a transaction that writes and one after it that reads, to which it applies, and the listing of
 -- document 01, in which two transactions are open at a time. Whether one begins while another is open is a test, since none begins past the list's end.
-use Prim.Native.Nat.{ℕ, suc, _<_}
-use native.Mathlib.Omega.{arith}
-use mathlib.Core.Path.{_≡_, refl, _∙_, ap}
+use mathlib.Core.Path.{_≡_, refl, _∙_}
 use mathlib.Core.Bool.{Bool, true, false, cond, _&&_}
 use mathlib.Core.List.{List, [], _∷_, map, reverse}
-use lib.Dec.{ltb, eqb}
-use lib.ListN.{length, replicate}
-use borrow.Author.Tests.{eqb-true, eq-eqb, ne-eqb, ltb-true, ltb-false}
+use lib.ListN.{replicate}
 use Rattle.model.specs.declared.Call.{Call}
 use Rattle.model.specs.declared.Call.the-variants.{Begin, Read, Write, Seal, Advance}
 use Rattle.model.specs.declared.Answer.{Answer}
 use Rattle.model.specs.declared.Answer.the-variants.{Done, Value, Sealed, Moved, Waiting, Committed, Refused}
 use Rattle.model.specs.Buffers.{Store, idle}
-use Rattle.model.specs.Companions.{serialStep, serial, NoneOpen, OneAtATime, SeriallyEqual}
 use Rattle.model.specs.Computing.{computing, counting}
-use Rattle.model.specs.History.{Event, run, history, is, opening, continued, transaction, isOpen}
-use Rattle.model.specs.Search.{tally}
+use Rattle.model.specs.History.{Event, tellsOf, run, events, told}
+use Rattle.model.specs.Isolation.{All}
+use Rattle.model.specs.Serial.{serialStep, serial, OneAtATime, SeriallyEqual}
 use Rattle.model.specs.Step.{number, setUpAnswer, setUp}
-use Rattle.model.proofs.Laws.{tally-flat, tally-more}
-use Rattle.model.proofs.Roles.{flip}
+use Rattle.model.specs.Told.{Told, begins}
+use Rattle.model.proofs.Names.{noneOpen, none-open, open-none}
 use Rattle.model.proofs.Serial.{serially-equal}
 use Rattle.model.proofs.Tools.{test, clash, both-l, both-r}
 
 -- ---- the test
 
-past-end : (p : ℕ) (h : List Event) → length h < p → transaction p h ≡ []
-unfolding transaction continued
-past-end p [] l = refl
-past-end p (e ∷ h) l = rw (ne-eqb (suc (length h)) p (λ e. omega arith), past-end p h (omega arith))
+-- where something told is a begin, b
+beginsIf : Bool → List Told → Bool
+beginsIf b [] = true
+beginsIf b (w ∷ ws) = cond (begins w) b true && beginsIf b ws
 
--- how many transactions are open
-unfoldable openIn : List Event → ℕ
-openIn h = tally (λ p. isOpen (transaction p h)) (suc (length h))
+begins-all : {A : Type 0} (b : Bool) → (b ≡ true → A) → (ws : List Told) → beginsIf b ws ≡ true → All (λ (w : Told). begins w ≡ true → A) ws
+unfolding beginsIf
+begins-all b f [] t = tt
+begins-all b f (w ∷ ws) t = (λ y. f (rw y at (both-l (cond (begins w) b true) (beginsIf b ws) t)), begins-all b f ws (both-r (cond (begins w) b true) (beginsIf b ws) t))
 
-none-open : (h : List Event) → openIn h ≡ 0 → NoneOpen h
-unfolding openIn
-none-open h e p =
-    flip (isOpen (transaction p h))
-    (λ o. test (ltb p (suc (length h)))
-    (λ y. omega (arith, tally-more (λ p. isOpen (transaction p h)) 0 (suc (length h)) p (omega arith) (ltb-true p (suc (length h)) y) o))
-    (λ y. clash (isOpen (transaction p h)) o (ap isOpen (past-end p h (ltb-false p (suc (length h)) y)))))
-
-open-none : (h : List Event) → NoneOpen h → openIn h ≡ 0
-unfolding openIn tally
-open-none h o = tally-flat (λ p. isOpen (transaction p h)) 0 (suc (length h)) (omega arith) (λ p _ _. o p)
+all-begins : {A : Type 0} (b : Bool) → (A → b ≡ true) → (ws : List Told) → All (λ (w : Told). begins w ≡ true → A) ws → beginsIf b ws ≡ true
+unfolding beginsIf
+all-begins b f [] a = refl
+all-begins b f (w ∷ ws) a = rw (all-begins b f ws (a .1)) (test (begins w) (λ y. rw (y, f (a .0 y))) (λ y. rw y))
 
 unfoldable oneAtATime : List Event → Bool
 oneAtATime [] = true
-oneAtATime (e ∷ h) = oneAtATime h && cond (is 1 100 (e .call) (e .answer)) (eqb (openIn h) 0) true
+oneAtATime (e ∷ h) = oneAtATime h && beginsIf (noneOpen (told [] h)) (tellsOf e)
 
 passes : (h : List Event) → oneAtATime h ≡ true → OneAtATime h
 unfolding oneAtATime
 passes [] t = tt
-passes (e ∷ h) t = (
-  passes h (both-l (oneAtATime h) (cond (is 1 100 (e .call) (e .answer)) (eqb (openIn h) 0) true) t),
-  λ b. none-open h (eqb-true (openIn h) 0 (rw b at (both-r (oneAtATime h) (cond (is 1 100 (e .call) (e .answer)) (eqb (openIn h) 0) true) t))),
-)
+passes (e ∷ h) t =
+    let b = noneOpen (told [] h) in
+    (passes h (both-l (oneAtATime h) (beginsIf b (tellsOf e)) t), begins-all b (none-open (told [] h)) (tellsOf e) (both-r (oneAtATime h) (beginsIf b (tellsOf e)) t))
 
 passed : (h : List Event) → OneAtATime h → oneAtATime h ≡ true
 unfolding oneAtATime
 passed [] o = refl
-passed (e ∷ h) o =
-    rw (passed h (o .0))
-    (test (is 1 100 (e .call) (e .answer)) (λ b. rw b (eq-eqb (openIn h) 0 (open-none h (o .1 b)))) (λ b. rw b))
+passed (e ∷ h) o = rw (passed h (o .0)) (all-begins (noneOpen (told [] h)) (open-none (told [] h)) (tellsOf e) (o .1))
 
 -- ---- the lists, from two cells of class 2 with values 3 and 5
 
@@ -79,8 +66,8 @@ given =
       sessions = record { records = replicate 16 idle };
     }
 
-unfoldable pub told : List Call → List Event
-told calls = history (setUp given) (reverse calls)
+unfoldable pub made : List Call → List Event
+made calls = events (setUp given) (reverse calls)
 
 -- session 0 reads and writes cell 0; then session 1 reads it
 unfoldable pub inTurn : List Call
@@ -91,32 +78,32 @@ unfoldable pub atOnce : List Call
 atOnce = Begin 0 ∷ Begin 1 ∷ Read 0 0 ∷ Read 1 0 ∷ Write 0 0 4 ∷ Write 1 0 2 ∷ Seal 0 ∷ Seal 1 ∷ Advance 0 ∷ Advance 1 ∷ Advance 0 ∷ Advance 0 ∷ Advance 0 ∷ []
 
 answers : List Call → List Answer
-answers calls = reverse (map (λ (e : Event). e .answer) (told calls))
+answers calls = reverse (map (λ (e : Event). e .answer) (made calls))
 
 record Computed : Type 0 where
   set-up : number (setUpAnswer (given .lent)) ≡ 100
-  serial-list : oneAtATime (told inTurn) ≡ true
+  serial-list : oneAtATime (made inTurn) ≡ true
   serial-answers : answers inTurn ≡ Done ∷ Value 3 ∷ Done ∷ Sealed ∷ Moved ∷ Moved ∷ Committed ∷ Done ∷ Value 4 ∷ Committed ∷ []
-  serial-open : openIn (told inTurn) ≡ 0
-  serial-values : serial (setUp given .lent .values) (told inTurn) .values ≡ 4 ∷ 5 ∷ []
-  other-list : oneAtATime (told atOnce) ≡ false
+  serial-open : noneOpen (told [] (made inTurn)) ≡ true
+  serial-values : serial (setUp given .lent .values) (made inTurn) .values ≡ 4 ∷ 5 ∷ []
+  other-list : oneAtATime (made atOnce) ≡ false
   other-answers : answers atOnce ≡ Done ∷ Done ∷ Value 3 ∷ Value 3 ∷ Done ∷ Done ∷ Sealed ∷ Sealed ∷ Waiting ∷ Refused 6 ∷ Moved ∷ Moved ∷ Committed ∷ []
 
 computed : Computed
-unfolding given told inTurn atOnce answers openIn oneAtATime serialStep serial computing counting
+unfolding given made inTurn atOnce answers noneOpen beginsIf oneAtATime serialStep serial computing counting
 computed =
     record { set-up = refl; serial-list = refl; serial-answers = refl; serial-open = refl; serial-values = refl; other-list = refl; other-answers = refl }
 
 -- the first list is one that the claim is about; none is open at its end, and the values left are the serial store's
 pub in-turn : SeriallyEqual (setUp given) (reverse inTurn)
-unfolding told
-in-turn = serially-equal given (computed .set-up) inTurn (passes (told inTurn) (computed .serial-list))
+unfolding made
+in-turn = serially-equal given (computed .set-up) inTurn (passes (made inTurn) (computed .serial-list))
 
 pub in-turn-left : run (setUp given) (reverse inTurn) .lent .values ≡ 4 ∷ 5 ∷ []
-unfolding told
-in-turn-left = in-turn .left (none-open (told inTurn) (computed .serial-open)) ∙ computed .serial-values
+unfolding made
+in-turn-left = in-turn .left (none-open (told [] (made inTurn)) (computed .serial-open)) ∙ computed .serial-values
 
 -- the listing is none: session 1 begins while session 0's transaction is open
-pub at-once : OneAtATime (history (setUp given) (reverse atOnce)) → ⊥
-unfolding told
-at-once o = clash (oneAtATime (told atOnce)) (passed (told atOnce) o) (computed .other-list)
+pub at-once : OneAtATime (events (setUp given) (reverse atOnce)) → ⊥
+unfolding made
+at-once o = clash (oneAtATime (made atOnce)) (passed (made atOnce) o) (computed .other-list)

@@ -8,9 +8,9 @@ use mathlib.Core.List.{List, _∷_}
 use lib.ListN.{length, getD, set, length-set}
 use lib.Seq.{getD-set-same, getD-set-other}
 use borrow.Author.Tests.{not-true}
-use Rattle.model.specs.Companions.{Serial}
+use Rattle.model.specs.Serial.{Serial}
 use Rattle.model.proofs.Invariant.{latest}
-use Rattle.model.proofs.Ledger.{Txn, opened, ended, wroteTo, Commit, Ledger, tick, asCommit, amend, starts}
+use Rattle.model.proofs.Ledger.{Txn, opened, closed, wroteTo, Commit, Ledger, tick, calm, asCommit, amend, starts}
 use Rattle.model.proofs.Roles.{flip}
 use Rattle.model.proofs.Tools.{same, split, test, clash, both-l, both-r, upd, upd-same, upd-other}
 
@@ -64,6 +64,9 @@ module _ {start : List ℕ} {T : Ledger} {z : Serial} (F : Follows start T z) wh
   pub follows-tick : Follows start (tick T) z
   follows-tick = record { alone = F .alone; closed = F .closed; works = F .works; lengths = F .lengths }
 
+  pub follows-calm : Follows start (calm T) z
+  follows-calm = record { alone = F .alone; closed = F .closed; works = F .works; lengths = F .lengths }
+
   -- a transaction begins where none is open
   pub follows-start : (s : ℕ) → ((u : ℕ) → T .mine u .live ≡ false) → Follows start (starts s T) (record { values = z .values; draft = z .values })
   unfolding starts
@@ -77,7 +80,7 @@ module _ {start : List ℕ} {T : Ledger} {z : Serial} (F : Follows start T z) wh
       }
     where
       t : Txn
-      t = opened s (T .place)
+      t = opened (T .place)
 
       only : (a : ℕ) → upd (T .mine) s t a .live ≡ true → a ≡ s
       only a p = same a s (λ e. e) (λ n. absurd (clash (T .mine a .live) (ap (λ (u : Txn). u .live) (sym (upd-other (T .mine) s t a n)) ∙ p) (dead a)))
@@ -118,9 +121,9 @@ module _ {start : List ℕ} {T : Ledger} {z : Serial} (F : Follows start T z) wh
         (λ _. works-on s (T .place) (f (T .mine s)) (F .works s l) a b (λ _. m) .committed m) (λ e. absurd (clash (f (T .mine s) .live) e h))
 
     -- it ends not committed
-    pub follows-end : T .mine s .done ≡ false → Follows start (amend s ended T) z
+    pub follows-end : T .mine s .done ≡ false → Follows start (amend s closed T) z
     follows-end d =
-        amended ended z (F .lengths) (λ _. works-on s (T .place) (ended (T .mine s)) (F .works s l) refl refl (λ e. e) .values d) (λ e. absurd (clash false e refl))
+        amended closed z (F .lengths) (λ _. works-on s (T .place) (closed (T .mine s)) (F .works s l) refl refl (λ e. e) .values d) (λ e. absurd (clash false e refl))
 
     -- it writes
     pub follows-write : (c v : ℕ) → c < length start → T .mine s .done ≡ false
@@ -142,3 +145,14 @@ module _ {start : List ℕ} {T : Ledger} {z : Serial} (F : Follows start T z) wh
       where
         W : Works start (T .commits) (T .mine s) z
         W = F .works s l
+
+-- it is sealed with nothing written and ends committed: the values are the draft
+pub follows-rest : {start : List ℕ} {T : Ledger} {z : Serial} → Follows start T z → (s : ℕ) → T .mine s .live ≡ true → (f : Txn → Txn) → let t = T .mine s in
+    f t .live ≡ true → f t .wrote ≡ t .wrote → f t .value ≡ t .value → f t .done ≡ true → Follows start (amend s closed (amend s f T)) (record { values = z .draft; draft = z .draft })
+follows-rest {start} {T} {z} F s l f h a b m =
+    let U = amend s f T in
+    let e : U .mine s ≡ f (T .mine s) = now in
+    follows-commit (follows-on F s l f h a b (λ _. m)) s (ap (λ (t : Txn). t .live) e ∙ h) closed refl refl refl (ap (λ (t : Txn). t .done) e ∙ m)
+  where
+    now : amend s f T .mine s ≡ f (T .mine s)
+    now = unfold amend in split (λ (U : Ledger). U .mine s ≡ f (T .mine s)) (T .mine s .live) (λ _. upd-same (T .mine) s (f (T .mine s))) (λ d. absurd (clash (T .mine s .live) l d))

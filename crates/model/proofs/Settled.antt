@@ -1,94 +1,178 @@
--- What the store's answers spare: a session that begins has no open transaction, and a committed one only advances and stops.
-use Prim.Native.Nat.{ℕ, zero, suc, _≤_, _<_}
+-- What the store's answers spare: a session that begins has no open transaction, and values are got and put and a seal is told before the seal.
+-- So the ledger goes on to match with every call.
+use Prim.Native.Nat.{ℕ, suc, _≤_, _<_}
 use native.Mathlib.Omega.{arith}
-use mathlib.Core.Path.{_≡_, refl}
+use mathlib.Core.Path.{_≡_, refl, sym, _∙_, ap, subst}
 use mathlib.Core.Bool.{true, false, _||_}
-use mathlib.Core.List.{List}
-use lib.Dec.{leb, eqb}
-use borrow.Author.Tests.{eqb-true, ne-eqb}
+use mathlib.Core.List.{List, [], _∷_}
+use lib.Dec.{ltb, eqb}
+use lib.ListN.{length}
+use borrow.Author.Tests.{eqb-true, ltb-true, ltb-false}
 use Rattle.model.specs.declared.Call.{Call}
 use Rattle.model.specs.declared.Call.the-variants.{Begin, Read, Write, Seal, Advance, Abandon, Peek}
+use Rattle.model.specs.declared.Answer.{Answer}
 use Rattle.model.specs.declared.Plan.{Plan}
-use Rattle.model.specs.declared.Plan.the-variants.{Refuse, Start, Cancel}
-use Rattle.model.specs.Buffers.{Store, targetIn, size, lockAt}
-use Rattle.model.specs.Isolation.{at}
-use Rattle.model.specs.Search.{some?}
-use Rattle.model.specs.Step.{number, recordOf, releasing, answer, guard, advanceTarget, plan, sessionOf, planOf, reply, logOf, admit, readPlan, writePlan, sealPlan, peekPlan}
-use Rattle.model.proofs.Invariant.{Running, Link, Inv}
-use Rattle.model.proofs.Ledger.{ended, advanced, over, news, Ledger}
-use Rattle.model.proofs.Matching.{OptAll, Same}
-use Rattle.model.proofs.Preservation.{choose, guarded}
+use Rattle.model.specs.declared.Plan.the-variants.{Refuse, Start}
+use Rattle.model.specs.Buffers.{Store, size}
+use Rattle.model.specs.History.{Item, add, Name, name, transaction, isOpen}
+use Rattle.model.specs.Isolation.{All}
+use Rattle.model.specs.Step.{number, valueOf, recordOf, answer, guard, plan, sessionOf, planOf, reply, logOf, admit}
+use Rattle.model.specs.Told.{Told, began, got, put, sealed, moved, ended, ending, tells, begins}
+use Rattle.model.proofs.Invariant.{Inv}
+use Rattle.model.proofs.Ledger.{Ledger, calm, amend, starts, hear, hears, observe}
+use Rattle.model.proofs.Matching.{Next, stays, grows, starts-here, next, Matches, unchanged, one-told}
+use Rattle.model.proofs.Preservation.{guarded, runs}
 use Rattle.model.proofs.Tools.{split, test, clash}
-use Rattle.model.proofs.View.{look}
+use Rattle.model.proofs.Words.{Unsealed, Fits}
 
-module _ {first : List ℕ} {σ : Store} {T : Ledger} (I : Inv first σ T) where
-  pub begin-idle : (s : ℕ) → number (reply (Begin s) σ) ≡ 100 → T .mine s .live ≡ false
-  unfolding reply planOf plan
-  begin-idle s =
-      guarded (λ p. number (answer s p σ) ≡ 100 → T .mine s .live ≡ false) (σ .lent) s (recordOf σ s) (eqb (recordOf σ s .phase) 0) Start
-      (unfold answer in λ e. absurd (omega arith)) (unfold answer in λ e. absurd (omega arith)) (unfold answer in λ e. absurd (omega arith)) (unfold answer in λ e. absurd (omega arith))
-      (λ lt k h e. let ph = eqb-true (recordOf σ s .phase) 0 h in rw ph at (I .link s))
+-- ---- before a place
 
-  -- a write is answered 100 only before the seal
-  pub write-early : (s c v : ℕ) → number (reply (Write s c v) σ) ≡ 100 → (T .mine s .moved ≡ 0) × (T .mine s .snap ≡ 0)
-  unfolding reply planOf plan
-  write-early s c v =
-      guarded (λ p. number (answer s p σ) ≡ 100 → (T .mine s .moved ≡ 0) × (T .mine s .snap ≡ 0)) (σ .lent) s (recordOf σ s) (eqb (recordOf σ s .phase) 1) _
-      (unfold answer in λ e. absurd (omega arith)) (unfold answer in λ e. absurd (omega arith)) (unfold answer in λ e. absurd (omega arith)) (unfold answer in λ e. absurd (omega arith))
-      (λ lt k h e. let r : Running (look σ s) (T .mine s) = rw (eqb-true (recordOf σ s .phase) 1 h) at (I .link s) in (r .moved, r .unsealed))
+-- no transaction of a list begins past its places
+pub unborn : (q : ℕ) (h : List Item) → All (λ (i : Item). i .place < q) h → (x : Name) → q ≤ x .place → transaction x h ≡ []
+unborn q [] a x l = unfold transaction in refl
+unborn q (i ∷ h) a x l = go (unborn q h (a .1) x l) (next x i h)
+  where
+    go : transaction x h ≡ [] → Next x i h → transaction x (i ∷ h) ≡ []
+    go n (stays e _) = e ∙ n
+    go n (grows _ o _) = absurd (clash (isOpen (transaction x h)) o (rw n))
+    go n (starts-here _ e _ _ _) = absurd (omega (arith, a .0))
 
-  late-phase : (s : ℕ) → T .mine s .live ≡ true → T .mine s .done ≡ true → 3 ≤ recordOf σ s .phase
-  late-phase s l d = go (recordOf σ s .phase) (I .link s)
-    where
-      go : (ph : ℕ) → Link first (T .commits) (T .place) (recordOf σ s .next) (look σ s) (T .mine s) ph → 3 ≤ ph
-      go zero x = absurd (clash (T .mine s .live) l x)
-      go (suc zero) x = absurd (clash (T .mine s .done) d (x .open′))
-      go (suc (suc zero)) x = absurd (clash (T .mine s .done) d (x .open′))
-      go (suc (suc (suc k))) x = omega arith
+-- those that are open began before
+pub Before : ℕ → List Item → Type 0
+Before q h = (x : Name) → isOpen (transaction x h) ≡ true → x .place < q
 
-  module _ (n q : ℕ) (s : ℕ) (l : T .mine s .live ≡ true) (d : T .mine s .done ≡ true) where
-    abbrev Fine : Call → Plan → Type 0
-    Fine k p = OptAll (λ f. Same (T .mine s) (f (T .mine s))) (news n q k (answer s p σ))
+pub before-place : (q : ℕ) (h : List Item) → All (λ (i : Item). i .place < q) h → Before q h
+unfolding Before
+before-place q h a x o =
+    test (ltb (x .place) q) (λ y. ltb-true (x .place) q y)
+    (λ y. absurd (clash (isOpen (transaction x h)) o (rw (unborn q h a x (ltb-false (x .place) q y)))))
 
-    goes-on : Same (T .mine s) (advanced n q (T .mine s))
-    goes-on = record { done = rw d; commit = rw d; snap = refl; reads = refl; wrote = refl; value = refl; who = refl }
+-- and so it stays, unless something begins
+pub before-more : (q : ℕ) (i : Item) (h : List Item) → begins (i .told) ≡ false → Before q h → Before q (i ∷ h)
+unfolding Before
+before-more q i h b f x o = go (next x i h)
+  where
+    go : Next x i h → x .place < q
+    go (stays e _) = f x (rw e at o)
+    go (grows _ p _) = f x p
+    go (starts-here y _ _ _ _) = absurd (clash (begins (i .told)) y b)
 
-    stops : Same (T .mine s) (ended (T .mine s))
-    stops = record { done = refl; commit = refl; snap = refl; reads = refl; wrote = refl; value = refl; who = refl }
+-- ---- a ledger's place
 
-    late : 3 ≤ recordOf σ s .phase
-    late = late-phase s l d
+hear-place : (n s : ℕ) (w : Told) (T : Ledger) → hear n s w T .place ≡ T .place
+unfolding amend
+hear-place n s began T = unfold starts in refl
+hear-place n s (got c v) T = split (λ (U : Ledger). U .place ≡ T .place) (T .mine s .live) (λ _. refl) (λ _. refl)
+hear-place n s (put c v) T = split (λ (U : Ledger). U .place ≡ T .place) (T .mine s .live) (λ _. refl) (λ _. refl)
+hear-place n s sealed T = split (λ (U : Ledger). U .place ≡ T .place) (T .mine s .live) (λ _. refl) (λ _. refl)
+hear-place n s moved T = split (λ (U : Ledger). U .place ≡ T .place) (T .mine s .live) (λ _. refl) (λ _. refl)
+hear-place n s ended T = split (λ (U : Ledger). U .place ≡ T .place) (T .mine s .live) (λ _. refl) (λ _. refl)
 
-    -- a call that asks for phase m, below 3
-    early : (k : Call) (p : Plan) (m : ℕ) → m < 3 → Fine k (Refuse 7) → Fine k (Refuse 1) → Fine k (Refuse 9) → Fine k (Refuse 2)
-        → Fine k (admit (σ .lent) s (guard (size (σ .lent)) (logOf σ s) (recordOf σ s) (eqb (recordOf σ s .phase) m) p))
-    early k p m lm a b c e =
-        guarded (Fine k) (σ .lent) s (recordOf σ s) (eqb (recordOf σ s .phase) m) p a b c e (λ _ _ h. absurd (let x = eqb-true (recordOf σ s .phase) m h in omega (arith, late)))
+pub hears-place : (n s : ℕ) (ws : List Told) (T : Ledger) → hears n s ws T .place ≡ T .place
+hears-place n s [] T = refl
+hears-place n s (w ∷ ws) T = hear-place n s w (hears n s ws T) ∙ hears-place n s ws T
 
-    fine-abandon : Fine (Abandon s) (planOf (Abandon s) σ)
-    unfolding planOf plan answer news over
-    fine-abandon =
-        guarded (Fine (Abandon s)) (σ .lent) s (recordOf σ s) (eqb (recordOf σ s .phase) 1 || eqb (recordOf σ s .phase) 2) Cancel tt tt tt tt
-        (λ _ _ h. absurd (clash (eqb (recordOf σ s .phase) 1 || eqb (recordOf σ s .phase) 2) h
-        (rw (ne-eqb (recordOf σ s .phase) 1 (λ e. omega (arith, late)), ne-eqb (recordOf σ s .phase) 2 (λ e. omega (arith, late))))))
+-- ---- a call
 
-    fine-advance : Fine (Advance s) (planOf (Advance s) σ)
-    unfolding planOf plan answer news over advanceTarget releasing
-    fine-advance =
-        guarded (Fine (Advance s)) (σ .lent) s (recordOf σ s) (leb 2 (recordOf σ s .phase)) (advanceTarget s (logOf σ s) (recordOf σ s) (lockAt (σ .lent .locks)) (targetIn (logOf σ s) (recordOf σ s .count) (recordOf σ s .next))) tt tt tt tt
-        (λ _ _ h. choose (Fine (Advance s)) (advanceTarget s (logOf σ s) (recordOf σ s) (lockAt (σ .lent .locks))) (targetIn (logOf σ s) (recordOf σ s .count) (recordOf σ s .next)) (λ _. tt)
-        (λ c _.
-        split (Fine (Advance s)) (eqb (recordOf σ s .phase) 2) (λ e. absurd (let x = eqb-true (recordOf σ s .phase) 2 e in omega (arith, late)))
-        (λ _. split (Fine (Advance s)) (eqb (recordOf σ s .phase) 3) (λ _. goes-on)
-        (λ _. test (some? (targetIn (logOf σ s) (recordOf σ s .count) (suc c))) (λ y. rw y goes-on) (λ y. rw y stops)))))
+module _ {first : List ℕ} {σ : Store} {T : Ledger} (I : Inv first σ T) {n : ℕ} {h : List Item} (M : Matches n h T) (before : Before (T .place) h) where
+  abbrev Goes : ℕ → List Told → Type 0
+  Goes s ws = Matches n (add (T .place) s ws h) (hears n s ws (calm T))
 
-  pub keeps-settled : (n q : ℕ) (k : Call) → T .mine (sessionOf k) .live ≡ true → T .mine (sessionOf k) .done ≡ true
-      → OptAll (λ f. Same (T .mine (sessionOf k)) (f (T .mine (sessionOf k)))) (news n q k (reply k σ))
-  unfolding reply planOf plan answer news over
-  keeps-settled n q (Begin s) l d = early n q s l d (Begin s) Start 0 (omega arith) tt tt tt tt
-  keeps-settled n q (Read s c) l d = early n q s l d (Read s c) _ 1 (omega arith) tt tt tt tt
-  keeps-settled n q (Write s c v) l d = early n q s l d (Write s c v) _ 1 (omega arith) tt tt tt tt
-  keeps-settled n q (Seal s) l d = early n q s l d (Seal s) _ 1 (omega arith) tt tt tt tt
-  keeps-settled n q (Advance s) l d = fine-advance n q s l d
-  keeps-settled n q (Abandon s) l d = fine-abandon n q s l d
-  keeps-settled n q (Peek s c) l d = early n q s l d (Peek s c) _ 1 (omega arith) tt tt tt tt
+  nothing-told : (s : ℕ) → Goes s []
+  nothing-told s = unchanged (λ x. refl) refl refl M
+
+  told-one : (s : ℕ) (w : Told) → begins w ≡ false → Fits (T .mine s) w → Goes s (w ∷ [])
+  told-one s w b f = one-told (nothing-told s) s (I .begun) (unfold Before in before) w f (λ e. absurd (clash (begins w) e b))
+
+  told-ending : (s : ℕ) (a : Answer) → Goes s (ending a)
+  unfolding ending
+  told-ending s a = split (Goes s) (eqb (number a) 6 || eqb (number a) 105) (λ _. told-one s ended refl tt) (λ _. nothing-told s)
+
+  -- a seal and the end
+  told-both : (s : ℕ) → Unsealed (T .mine s) → Goes s (ended ∷ sealed ∷ [])
+  told-both s u =
+      let e = hears-place n s (sealed ∷ []) (calm T) in
+      subst (λ (q : ℕ). Matches n (record { place = q; session = s; told = ended } ∷ add (T .place) s (sealed ∷ []) h) (hears n s (ended ∷ sealed ∷ []) (calm T))) e
+      (one-told (told-one s sealed refl u) s (rw e (I .begun))
+      (rw e (unfold Before in before-more (T .place) (record { place = T .place; session = s; told = sealed }) h refl before)) ended tt (λ z. absurd (clash false z refl)))
+
+  -- what a call may tell, whatever it is answered
+  says-read : (s c : ℕ) (a : Answer) → Unsealed (T .mine s) → Goes s (tells (Read s c) a)
+  unfolding tells
+  says-read s c a u = split (Goes s) (eqb (number a) 101) (λ _. told-one s (got c (valueOf a)) refl u) (λ _. told-ending s a)
+
+  says-write : (s c v : ℕ) (a : Answer) → Unsealed (T .mine s) → Goes s (tells (Write s c v) a)
+  unfolding tells
+  says-write s c v a u = split (Goes s) (eqb (number a) 100) (λ _. told-one s (put c v) refl u) (λ _. told-ending s a)
+
+  says-seal : (s : ℕ) (a : Answer) → Unsealed (T .mine s) → Goes s (tells (Seal s) a)
+  unfolding tells
+  says-seal s a u =
+      split (Goes s) (eqb (number a) 102) (λ _. told-one s sealed refl u) (λ _. split (Goes s) (eqb (number a) 105) (λ _. told-both s u) (λ _. told-ending s a))
+
+  says-advance : (s : ℕ) (a : Answer) → Goes s (tells (Advance s) a)
+  unfolding tells
+  says-advance s a = split (Goes s) (eqb (number a) 103) (λ _. told-one s moved refl tt) (λ _. told-ending s a)
+
+  says-abandon : (s : ℕ) (a : Answer) → Goes s (tells (Abandon s) a)
+  unfolding tells
+  says-abandon s a = split (Goes s) (eqb (number a) 100) (λ _. told-one s ended refl tt) (λ _. told-ending s a)
+
+  abbrev Fine : Call → Plan → Type 0
+  Fine k p = Goes (sessionOf k) (tells k (answer (sessionOf k) p σ))
+
+  early : (s : ℕ) → eqb (recordOf σ s .phase) 1 ≡ true → Unsealed (T .mine s)
+  early s y = let r = runs I s (eqb-true (recordOf σ s .phase) 1 y) in record { open′ = r .open′; moved = r .moved; unsealed = r .unsealed }
+
+  -- a call of a running session: refused for its length, session, record or phase it tells nothing
+  running : (k : Call) (p : Plan) → let s = sessionOf k in
+      Fine k (Refuse 7) → Fine k (Refuse 1) → Fine k (Refuse 9) → Fine k (Refuse 2) → (Unsealed (T .mine s) → Fine k p)
+      → Fine k (admit (σ .lent) s (guard (size (σ .lent)) (logOf σ s) (recordOf σ s) (eqb (recordOf σ s .phase) 1) p))
+  running k p a b c d f = let s = sessionOf k in guarded (Fine k) (σ .lent) s (recordOf σ s) (eqb (recordOf σ s .phase) 1) p a b c d (λ _ _ y. f (early s y))
+
+  module _ (s : ℕ) where
+    abbrev z : Goes s []
+    z = nothing-told s
+
+    heard-read : (c : ℕ) → Fine (Read s c) (planOf (Read s c) σ)
+    unfolding planOf plan
+    heard-read c = running (Read s c) _ (unfold tells ending answer in z) (unfold tells ending answer in z) (unfold tells ending answer in z) (unfold tells ending answer in z) (says-read s c _)
+
+    heard-write : (c v : ℕ) → Fine (Write s c v) (planOf (Write s c v) σ)
+    unfolding planOf plan
+    heard-write c v = running (Write s c v) _ (unfold tells ending answer in z) (unfold tells ending answer in z) (unfold tells ending answer in z) (unfold tells ending answer in z) (says-write s c v _)
+
+    heard-seal : Fine (Seal s) (planOf (Seal s) σ)
+    unfolding planOf plan
+    heard-seal = running (Seal s) _ (unfold tells ending answer in z) (unfold tells ending answer in z) (unfold tells ending answer in z) (unfold tells ending answer in z) (says-seal s _)
+
+    heard-begin : transaction (name (T .place) s) h ≡ [] → Fine (Begin s) (planOf (Begin s) σ)
+    unfolding planOf plan tells ending answer
+    heard-begin none =
+        guarded (Fine (Begin s)) (σ .lent) s (recordOf σ s) (eqb (recordOf σ s .phase) 0) Start z z z z
+        (λ _ _ y. one-told z s (I .begun) (unfold Before in before) began (rw (eqb-true (recordOf σ s .phase) 0 y) at (I .link s)) (λ _. none))
+
+  pub heard : (k : Call) → ((s : ℕ) → transaction (name (T .place) s) h ≡ []) → Matches n (add (T .place) (sessionOf k) (tells k (reply k σ)) h) (hears n (sessionOf k) (tells k (reply k σ)) (calm T))
+  unfolding reply
+  heard (Begin s) none = heard-begin s (none s)
+  heard (Read s c) none = heard-read s c
+  heard (Write s c v) none = heard-write s c v
+  heard (Seal s) none = heard-seal s
+  heard (Advance s) none = says-advance s _
+  heard (Abandon s) none = says-abandon s _
+  heard (Peek s c) none = unfold tells in told-ending s _
+
+-- the ledger goes on to match
+pub heeds : {first : List ℕ} {σ : Store} {T : Ledger} → Inv first σ T → {h : List Item} → Matches (length first) h T → (q : ℕ) → T .place ≡ q
+    → All (λ (i : Item). i .place < q) h → (k : Call) → Matches (length first) (add q (sessionOf k) (tells k (reply k σ)) h) (observe (length first) k (reply k σ) T)
+unfolding observe
+heeds {first} {σ} {T} I {h} M q e old k =
+    let n = length first in
+    let ws = tells k (reply k σ) in
+    let U = hears n (sessionOf k) ws (calm T) in
+    let N = heard I M (subst (λ (q : ℕ). Before q h) (sym e) (before-place q h old)) k (λ s. rw e (unborn q h old (name q s) (omega arith))) in
+    unchanged {T = U} (λ x. refl) refl refl (subst (λ (q : ℕ). Matches n (add q (sessionOf k) ws h) U) e N)
+
+pub observe-place : (n : ℕ) (k : Call) (a : Answer) (T : Ledger) → observe n k a T .place ≡ suc (T .place)
+unfolding observe
+observe-place n k a T = ap suc (hears-place n (sessionOf k) (tells k a) (calm T))

@@ -2,7 +2,7 @@
 use Prim.Native.Nat.{ℕ, zero, suc, _+_, _*_, _/_, _%_, _<_}
 use native.Mathlib.Decide.{ℕ-discrete}
 use native.Mathlib.Omega.{arith}
-use mathlib.Core.Path.{_≡_, refl, sym, _∙_, ap}
+use mathlib.Core.Path.{_≡_, refl, sym, _∙_, ap, fun-ext}
 use mathlib.Core.Logic.{by-cases}
 use mathlib.Core.Bool.{Bool, true, false, cond, _&&_}
 use mathlib.Core.Option.{Option, none, some}
@@ -65,6 +65,10 @@ upd-same f s a = rw (eq-eqb s s refl)
 pub upd-other {ℓ} : {A : Type ℓ} (f : ℕ → A) (s : ℕ) (a : A) (x : ℕ) → (x ≡ s → ⊥) → upd f s a x ≡ f x
 unfolding upd
 upd-other f s a x h = rw (ne-eqb x s h)
+
+pub upd-twice {ℓ} : {A : Type ℓ} (f : ℕ → A) (s : ℕ) (a b : A) → upd (upd f s a) s b ≡ upd f s b
+unfolding upd
+upd-twice f s a b = fun-ext (λ x. test (eqb x s) (λ y. rw y) (λ y. rw y))
 
 -- ---- bits
 

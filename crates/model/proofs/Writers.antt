@@ -2,38 +2,32 @@
 use Prim.Native.Nat.{ℕ, zero, suc, _≤_, _<_}
 use native.Mathlib.Omega.{arith}
 use mathlib.Core.Path.{_≡_, refl, sym, _∙_, ap, subst}
-use mathlib.Core.Bool.{Bool, true, false, _&&_}
-use mathlib.Core.Option.{Option, none, some}
+use mathlib.Core.Bool.{Bool, true, false, cond, not, _&&_, _||_}
 use mathlib.Core.List.{List, [], _∷_}
 use lib.Dec.{ltb, eqb}
 use lib.ListN.{length, List·getD-eq-default}
 use borrow.Author.Tests.{ltb-true, ltb-false, le-leb, lt-leb}
 use Rattle.model.specs.declared.Call.{Call}
+use Rattle.model.specs.declared.Call.the-variants.{Begin, Read, Write, Seal, Advance, Abandon, Peek}
+use Rattle.model.specs.declared.Answer.{Answer}
 use Rattle.model.specs.Buffers.{Locks, Store, lockAt}
-use Rattle.model.specs.History.{Event, run, history, Placed, transaction, isOpen, ownerOf, wrote}
-use Rattle.model.specs.Isolation.{All, at, Commits, commitOf, Isolated, Holds, firsts, HoldsAtCommit}
-use Rattle.model.specs.Step.{recordOf, sessionOf, reply}
+use Rattle.model.specs.History.{Item, add, run, history, Name, transaction, isOpen, wrote, commit, committed}
+use Rattle.model.specs.Isolation.{All, at, Isolated, Holds, firsts, HoldsAtCommit}
+use Rattle.model.specs.Step.{number, recordOf, sessionOf, reply}
+use Rattle.model.specs.Told.{Told, began, got, put, sealed, moved, ended, ending, tells, writes}
 use Rattle.model.proofs.Advancing.{late, role-late}
-use Rattle.model.proofs.Agreement.{agrees-run}
-use Rattle.model.proofs.Commits.{pick, all-both, tells, isolated}
+use Rattle.model.proofs.Commits.{pick, all-both, isolated}
 use Rattle.model.proofs.Effects.{running-role}
-use Rattle.model.proofs.Invariant.{roleIn, roleOf, role, all-map, Link, Just, Inv}
+use Rattle.model.proofs.Invariant.{roleIn, roleOf, role, Link, Just, Inv}
 use Rattle.model.proofs.Laws.{Long}
-use Rattle.model.proofs.Ledger.{Txn, news, apply, absorb, txn, Commit, Ledger, observe, blank, ledger, Lawful}
-use Rattle.model.proofs.Matching.{OptAll, Well, news-well, txn-old, Recorded, Grown, kept, grew, observe-grows}
+use Rattle.model.proofs.Ledger.{Txn, closed, Commit, Ledger, tick, calm, asCommit, amend, starts, hear, hears, observe, ledger}
+use Rattle.model.proofs.Matching.{Next, stays, grows, starts-here, next, Recorded}
 use Rattle.model.proofs.Roles.{owns, flip}
-use Rattle.model.proofs.Runs.{ledger-of, inv-run, match-run}
-use Rattle.model.proofs.Tools.{same, split, test, which, clash, both-l}
+use Rattle.model.proofs.Runs.{history-step, Ready, ledger-of, inv-run, place-is, match-run}
+use Rattle.model.proofs.Tools.{same, split, test, which, clash, upd}
 use Rattle.model.proofs.View.{look, written}
-use Rattle.model.proofs.Words.{Agrees, commit-is, done-is, who-is}
 
 -- ---- the writer locks
-
--- of the commits only the newest can be of the last place
-newest-just : (start : List ℕ) (σ : Store) (p : ℕ) (ks : List Commit) → All (λ (k : Commit). k .place < p) ks → Lawful start ks → Just σ p ks
-    → All (λ (k : Commit). suc (k .place) ≡ p → (c : ℕ) → k .wrote c ≡ true → Holds σ (k .who) c) ks
-newest-just start σ p [] o l j = tt
-newest-just start σ p (k ∷ ks) o l j = (j, all-map (λ i x e. absurd (omega (arith, o .0))) ks (l .0 .newest))
 
 beyond : (n c : ℕ) (L : Locks) → Long n L → n ≤ c → lockAt L c .exclusive ≡ 0
 unfolding lockAt
@@ -61,51 +55,111 @@ unheld {start} {σ} {T} I s l d w sub c wc al =
     go lc (suc (suc (suc (suc zero)))) e x = clash (T .mine s .done) (x .done) d
     go lc (suc (suc (suc (suc (suc k))))) e x = x
 
--- ---- what a call does to a transaction
+-- ---- commits only come on
 
-module _ (n q : ℕ) (e : Event) (t : Txn) where
-  news-all : OptAll (Well q) (news n q (e .call) (e .answer))
-  news-all = news-well n q (e .call) (e .answer)
+pub data Grown (T U : Ledger) : Type 0 where
+  kept : U .commits ≡ T .commits → Grown T U
+  grew : (k : Commit) → U .commits ≡ k ∷ T .commits → k .place ≡ T .place → U .new ≡ true → Grown T U
 
-  absorb-who : absorb n q e t .who ≡ t .who
-  unfolding absorb apply
-  absorb-who =
-      split (λ (u : Txn). u .who ≡ t .who) (t .live && eqb (sessionOf (e .call)) (t .who))
-      (λ _. go (news n q (e .call) (e .answer)) news-all) (λ _. refl)
-    where
-      go : (o : Option (Txn → Txn)) → OptAll (Well q) o → apply o t .who ≡ t .who
-      go none w = refl
-      go (some f) w = w .who t
+or-true : (b : Bool) → (b || true) ≡ true
+or-true true = refl
+or-true false = refl
 
-  absorb-more : (c : ℕ) → t .wrote c ≡ true → absorb n q e t .wrote c ≡ true
-  unfolding absorb apply
-  absorb-more c h =
-      split (λ (u : Txn). u .wrote c ≡ true) (t .live && eqb (sessionOf (e .call)) (t .who))
-      (λ _. go (news n q (e .call) (e .answer)) news-all) (λ _. h)
-    where
-      go : (o : Option (Txn → Txn)) → OptAll (Well q) o → apply o t .wrote c ≡ true
-      go none w = h
-      go (some f) w = w .more t c h
+amend-grows : (s : ℕ) (f : Txn → Txn) (T : Ledger) → Grown T (amend s f T)
+unfolding amend
+amend-grows s f T =
+    split (Grown T) (T .mine s .live) (λ _. go (f (T .mine s) .done && not (T .mine s .done))) (λ _. kept refl)
+  where
+    go : (d : Bool) → Grown T (record { place = T .place; mine = upd (T .mine) s (f (T .mine s)); commits = cond d (asCommit s (T .place) (f (T .mine s)) ∷ T .commits) (T .commits); new = T .new || d })
+    go true = grew (asCommit s (T .place) (f (T .mine s))) refl refl (or-true (T .new))
+    go false = kept refl
 
-  -- what is open now was open; what is committed now and was not was open
-  absorb-live : absorb n q e t .live ≡ true → t .live ≡ true
-  unfolding absorb
-  absorb-live =
-      split (λ (u : Txn). u .live ≡ true → t .live ≡ true) (t .live && eqb (sessionOf (e .call)) (t .who))
-      (λ y _. both-l (t .live) (eqb (sessionOf (e .call)) (t .who)) y) (λ _ h. h)
+hear-grows : (n s : ℕ) (w : Told) (T : Ledger) → Grown T (hear n s w T)
+hear-grows n s began T = unfold starts in kept refl
+hear-grows n s (got c v) T = amend-grows s _ T
+hear-grows n s (put c v) T = amend-grows s _ T
+hear-grows n s sealed T = amend-grows s _ T
+hear-grows n s moved T = amend-grows s _ T
+hear-grows n s ended T = amend-grows s _ T
 
-  absorb-done : t .done ≡ false → absorb n q e t .done ≡ true → t .live ≡ true
-  unfolding absorb
-  absorb-done d =
-      split (λ (u : Txn). u .done ≡ true → t .live ≡ true) (t .live && eqb (sessionOf (e .call)) (t .who))
-      (λ y _. both-l (t .live) (eqb (sessionOf (e .call)) (t .who)) y) (λ _ h. absurd (clash (t .done) h d))
+-- the end commits nothing
+closed-keeps : (s : ℕ) (T : Ledger) → (amend s closed T .commits ≡ T .commits) × (amend s closed T .new ≡ T .new)
+unfolding amend
+closed-keeps s T = split (λ (U : Ledger). (U .commits ≡ T .commits) × (U .new ≡ T .new)) (T .mine s .live) (λ _. go (T .mine s .done) (T .new)) (λ _. (refl, refl))
+  where
+    go : (d b : Bool) → (cond (d && not d) (asCommit s (T .place) (closed (T .mine s)) ∷ T .commits) (T .commits) ≡ T .commits) × ((b || (d && not d)) ≡ b)
+    go true true = (refl, refl)
+    go true false = (refl, refl)
+    go false true = (refl, refl)
+    go false false = (refl, refl)
+
+-- a call tells nothing, one thing, or a seal and the end
+tells-any : (P : List Told → Type 0) → P [] → ((w : Told) → P (w ∷ [])) → P (ended ∷ sealed ∷ []) → (k : Call) (a : Answer) → P (tells k a)
+unfolding tells ending
+tells-any P z f g k a = go k
+  where
+    e : P (cond (eqb (number a) 6 || eqb (number a) 105) (ended ∷ []) [])
+    e = split P (eqb (number a) 6 || eqb (number a) 105) (λ _. f ended) (λ _. z)
+
+    go : (k : Call) → P (tells k a)
+    go (Begin s) = split P (eqb (number a) 100) (λ _. f began) (λ _. e)
+    go (Read s c) = split P (eqb (number a) 101) (λ _. f _) (λ _. e)
+    go (Write s c v) = split P (eqb (number a) 100) (λ _. f (put c v)) (λ _. e)
+    go (Seal s) = split P (eqb (number a) 102) (λ _. f sealed) (λ _. split P (eqb (number a) 105) (λ _. g) (λ _. e))
+    go (Advance s) = split P (eqb (number a) 103) (λ _. f moved) (λ _. e)
+    go (Abandon s) = split P (eqb (number a) 100) (λ _. f ended) (λ _. e)
+    go (Peek s c) = e
+
+on-tick : {T U : Ledger} → Grown (calm T) U → Grown T (tick U)
+on-tick (kept e) = kept e
+on-tick (grew k e p w) = grew k e p w
+
+observe-grows : (n : ℕ) (k : Call) (a : Answer) (T : Ledger) → Grown T (observe n k a T)
+unfolding observe
+observe-grows n k a T =
+    tells-any (λ ws. Grown T (tick (hears n (sessionOf k) ws (calm T)))) (kept refl) (λ w. on-tick (hear-grows n (sessionOf k) w (calm T)))
+    (go (hear-grows n (sessionOf k) sealed (calm T)) (closed-keeps (sessionOf k) (hear n (sessionOf k) sealed (calm T)))) k a
+  where
+    go : {U W : Ledger} → Grown (calm T) U → (W .commits ≡ U .commits) × (W .new ≡ U .new) → Grown T (tick W)
+    go (kept e) f = kept (f .0 ∙ e)
+    go (grew k e p w) f = grew k (f .0 ∙ e) p (f .1 ∙ w)
+
+-- ---- what more told does to a transaction
+
+-- what is open now was open; what is committed now and was not was open; what was written stays written
+pub record Later (n : ℕ) (t u : List Item) : Type 0 where
+  pub open′ : isOpen u ≡ true → isOpen t ≡ true
+  pub done : committed n t ≡ false → committed n u ≡ true → isOpen t ≡ true
+  pub wrote : (c : ℕ) → wrote t c ≡ true → wrote u c ≡ true
+
+later-same : (n : ℕ) (t : List Item) → Later n t t
+later-same n t = record { open′ = λ o. o; done = λ a b. absurd (clash (committed n t) b a); wrote = λ c w. w }
+
+later-more : (n : ℕ) (i : Item) (t : List Item) → isOpen t ≡ true → Later n t (i ∷ t)
+unfolding wrote
+later-more n i t o = record { open′ = λ _. o; done = λ _ _. o; wrote = λ c w. rw w (or-true (writes (i .told) c)) }
+
+later-item : (n : ℕ) (x : Name) (i : Item) (h : List Item) → (x .place ≡ i .place → ⊥) → Later n (transaction x h) (transaction x (i ∷ h))
+later-item n x i h d = go (next x i h)
+  where
+    go : Next x i h → Later n (transaction x h) (transaction x (i ∷ h))
+    go (stays e _) = subst (Later n (transaction x h)) (sym e) (later-same n (transaction x h))
+    go (grows _ o e) = subst (Later n (transaction x h)) (sym e) (later-more n i (transaction x h) o)
+    go (starts-here _ e _ _ _) = absurd (d e)
+
+later-on : {n : ℕ} {t u v : List Item} → Later n t u → Later n u v → Later n t v
+later-on {n} {t} {u} {v} a b =
+    record {
+      open′ = λ o. a .open′ (b .open′ o);
+      done = λ x y. test (committed n u) (λ z. a .done x z) (λ z. a .open′ (b .done z y));
+      wrote = λ c w. b .wrote c (a .wrote c w);
+    }
+
+later-add : (n : ℕ) (x : Name) (q s : ℕ) (ws : List Told) (h : List Item) → (x .place ≡ q → ⊥) → Later n (transaction x h) (transaction x (add q s ws h))
+later-add n x q s [] h d = later-same n (transaction x h)
+later-add n x q s (w ∷ ws) h d = later-on (later-add n x q s ws h d) (later-item n x (record { place = q; session = s; told = w }) (add q s ws h) d)
 
 -- ---- the runs
-
-length-history : (φ : Store) (ks : List Call) → length (history φ ks) ≡ length ks
-unfolding history
-length-history φ [] = refl
-length-history φ (k ∷ ks) = ap suc (length-history φ ks)
 
 firsts-all : (m : ℕ) (k : Call) (ks : List Call) → m ≡ suc (length ks) → firsts m (k ∷ ks) ≡ k ∷ ks
 unfolding firsts
@@ -115,173 +169,106 @@ firsts-fewer : (m : ℕ) (k : Call) (ks : List Call) → m ≤ length ks → fir
 unfolding firsts
 firsts-fewer m k ks h = rw (lt-leb (suc (length ks)) m (omega arith))
 
-module _ (φ : Store) (I₀ : Inv (φ .lent .values) φ blank) where
+module _ {φ : Store} {h₀ : List Item} {T₀ : Ledger} (R : Ready φ h₀ T₀) where
   abbrev n : ℕ
   n = length (φ .lent .values)
 
-  abbrev tx : List Call → ℕ → Txn
-  tx ks p = txn n p (history φ ks)
-
-  place-is : (ks : List Call) → ledger-of φ I₀ ks .place ≡ suc (length ks)
-  place-is ks = match-run φ I₀ ks .place ∙ ap suc (length-history φ ks)
+  abbrev tx : List Call → Name → List Item
+  tx ks x = transaction x (history h₀ φ ks)
 
   -- the older commits stay
-  older : (P : Commit → Type 0) (k : Call) (ks : List Call) → All P (ledger-of φ I₀ (k ∷ ks) .commits) → All P (ledger-of φ I₀ ks .commits)
+  older : (P : Commit → Type 0) (k : Call) (ks : List Call) → All P (ledger-of R (k ∷ ks) .commits) → All P (ledger-of R ks .commits)
   unfolding ledger
-  older P k ks a = go (observe-grows n k (reply k (run φ ks)) (ledger-of φ I₀ ks))
+  older P k ks a = go (observe-grows n k (reply k (run φ ks)) (ledger-of R ks))
     where
-      go : Grown (ledger-of φ I₀ ks) (observe n k (reply k (run φ ks)) (ledger-of φ I₀ ks)) → All P (ledger-of φ I₀ ks .commits)
+      go : Grown (ledger-of R ks) (observe n k (reply k (run φ ks)) (ledger-of R ks)) → All P (ledger-of R ks .commits)
       go (kept e) = rw e at a
-      go (grew j e _) = (rw e at a) .1
+      go (grew j e _ _) = (rw e at a) .1
 
   -- with its commit a transaction holds what it wrote
   abbrev Held : List Call → Commit → Type 0
   Held ks k = (c : ℕ) → k .wrote c ≡ true → Holds (run φ (firsts (k .place) ks)) (k .who) c
 
-  lift : (x : Call) (ks : List Call) → All (Held ks) (ledger-of φ I₀ ks .commits) → All (Held (x ∷ ks)) (ledger-of φ I₀ ks .commits)
-  lift x ks a = all-both (λ k l q c w. rw (firsts-fewer (k .place) x ks (omega (arith, l, place-is ks))) (q c w)) (ledger-of φ I₀ ks .commits) (inv-run φ I₀ ks .old) a
+  lift : (x : Call) (ks : List Call) → All (Held ks) (ledger-of R ks .commits) → All (Held (x ∷ ks)) (ledger-of R ks .commits)
+  lift x ks a = all-both (λ k l q c w. rw (firsts-fewer (k .place) x ks (omega (arith, l, place-is R ks))) (q c w)) (ledger-of R ks .commits) (inv-run R ks .old) a
 
-  grow : (x : Call) (ks : List Call) → All (Held ks) (ledger-of φ I₀ ks .commits) → (U : Ledger) → Grown (ledger-of φ I₀ ks) U → U .place ≡ suc (suc (length ks))
-      → Just (run φ (x ∷ ks)) (U .place) (U .commits) → All (Held (x ∷ ks)) (U .commits)
-  grow x ks a U (kept e) p j = rw e (lift x ks a)
-  grow x ks a U (grew k e l) p j =
-      let i : Just (run φ (x ∷ ks)) (U .place) (k ∷ ledger-of φ I₀ ks .commits) = subst (Just (run φ (x ∷ ks)) (U .place)) e j in
+  grow : (x : Call) (ks : List Call) → All (Held ks) (ledger-of R ks .commits) → (U : Ledger) → Grown (ledger-of R ks) U
+      → Just (run φ (x ∷ ks)) (U .new) (U .commits) → All (Held (x ∷ ks)) (U .commits)
+  grow x ks a U (kept e) j = rw e (lift x ks a)
+  grow x ks a U (grew k e l w) j =
+      let i : Just (run φ (x ∷ ks)) (U .new) (k ∷ ledger-of R ks .commits) = subst (Just (run φ (x ∷ ks)) (U .new)) e j in
       subst (All (Held (x ∷ ks))) (sym e)
-      (λ c w. rw (firsts-all (k .place) x ks (l ∙ place-is ks)) (i (omega (arith, l, place-is ks)) c w), lift x ks a)
+      (λ c v. rw (firsts-all (k .place) x ks (l ∙ place-is R ks)) (i w c v), lift x ks a)
 
-  held : (ks : List Call) → All (Held ks) (ledger-of φ I₀ ks .commits)
+  held : (ks : List Call) → All (Held ks) (ledger-of R ks .commits)
   unfolding ledger
-  held [] = tt
-  held (x ∷ ks) = grow x ks (held ks) (ledger-of φ I₀ (x ∷ ks)) (observe-grows n x (reply x (run φ ks)) (ledger-of φ I₀ ks)) (place-is (x ∷ ks)) (inv-run φ I₀ (x ∷ ks) .just)
+  held [] = rw (R .commits) tt
+  held (x ∷ ks) = grow x ks (held ks) (ledger-of R (x ∷ ks)) (observe-grows n x (reply x (run φ ks)) (ledger-of R ks)) (inv-run R (x ∷ ks) .just)
 
-  -- a committed transaction stays as it is in what counts
-  pub record Frozen (t u : Txn) : Type 0 where
-    pub done : u .done ≡ true
-    pub commit : u .commit ≡ t .commit
-    pub wrote : u .wrote ≡ t .wrote
-    pub who : u .who ≡ t .who
-
-  frozen : (x : Call) (ks : List Call) (p : ℕ) → tx ks p .done ≡ true → Frozen (tx ks p) (tx (x ∷ ks) p)
-  frozen x ks p d =
-      let M = match-run φ I₀ ks in
-      let y = pick p (ledger-of φ I₀ ks .commits) (M .every p d) (M .recorded) (older (Recorded n (history φ (x ∷ ks))) x ks (match-run φ I₀ (x ∷ ks) .recorded)) in
-      subst (λ (p : ℕ). Frozen (tx ks p) (tx (x ∷ ks) p)) (y .1)
-      (record { done = y .3 .done; commit = y .3 .commit ∙ sym (y .2 .commit); wrote = y .3 .wrote ∙ sym (y .2 .wrote); who = y .3 .who ∙ sym (y .2 .who) })
+  -- a committed transaction stays committed, at its place
+  frozen : (k : Call) (ks : List Call) (x : Name) → committed n (tx ks x) ≡ true → (committed n (tx (k ∷ ks) x) ≡ true) × (commit n (tx (k ∷ ks) x) ≡ commit n (tx ks x))
+  frozen k ks x d =
+      let M = match-run R ks in
+      let y = pick x (ledger-of R ks .commits) (M .every x d) (M .recorded) (older (Recorded n (history h₀ φ (k ∷ ks))) k ks (match-run R (k ∷ ks) .recorded)) in
+      subst (λ (x : Name). (committed n (tx (k ∷ ks) x) ≡ true) × (commit n (tx (k ∷ ks) x) ≡ commit n (tx ks x))) (y .1) (y .3 .committed, y .3 .commit ∙ sym (y .2 .commit))
 
   -- at an earlier moment: open, not committed, and it had written no more
-  pub record Opening (t u : Txn) : Type 0 where
-    pub live : t .live ≡ true
-    pub not-done : t .done ≡ false
-    pub wrote : (c : ℕ) → t .wrote c ≡ true → u .wrote c ≡ true
-    pub who : t .who ≡ u .who
+  pub record Opening (t u : List Item) : Type 0 where
+    pub open′ : isOpen t ≡ true
+    pub not-done : committed (length (φ .lent .values)) t ≡ false
+    pub wrote : (c : ℕ) → wrote t c ≡ true → wrote u c ≡ true
 
-  was-tx : (x : Call) (ks : List Call) (p : ℕ) → p ≤ length ks → tx (x ∷ ks) p ≡ absorb n (suc (length (history φ ks))) (record { call = x; answer = reply x (run φ ks) }) (tx ks p)
-  unfolding history
-  was-tx x ks p h = txn-old n (record { call = x; answer = reply x (run φ ks) }) (history φ ks) p (λ e. omega (arith, length-history φ ks))
+  past : (k : Call) (ks : List Call) (x : Name) → x .place ≤ length ks → Later n (tx ks x) (tx (k ∷ ks) x)
+  past k ks x l =
+      subst (λ (h : List Item). Later n (tx ks x) (transaction x h)) (sym (history-step h₀ φ k ks))
+      (later-add n x (suc (length ks)) (sessionOf k) (tells k (reply k (run φ ks))) (history h₀ φ ks) (λ e. omega arith))
 
-  still-open : (ks : List Call) (p : ℕ) → tx ks p .live ≡ true → tx ks p .done ≡ false → (m : ℕ) → p ≤ m → m ≤ length ks → Opening (tx (firsts m ks) p) (tx ks p)
-  still-open [] p l d m a b = unfold firsts in record { live = l; not-done = d; wrote = λ c h. h; who = refl }
-  still-open (x ∷ ks) p l d m a b =
+  still-open : (ks : List Call) (x : Name) → isOpen (tx ks x) ≡ true → committed n (tx ks x) ≡ false → (m : ℕ) → x .place ≤ m → m ≤ length ks → Opening (tx (firsts m ks) x) (tx ks x)
+  still-open [] x l d m a b = unfold firsts in record { open′ = l; not-done = d; wrote = λ c h. h }
+  still-open (k ∷ ks) x l d m a b =
       same m (suc (length ks))
-      (λ e. rw (firsts-all m x ks e) (record { live = l; not-done = d; wrote = λ c h. h; who = refl }))
+      (λ e. rw (firsts-all m k ks e) (record { open′ = l; not-done = d; wrote = λ c h. h }))
       (λ ne.
-      let w = was-tx x ks p (omega arith) in
-      let q = suc (length (history φ ks)) in
-      let e : Event = record { call = x; answer = reply x (run φ ks) } in
-      let t = tx ks p in
-      let dn : t .done ≡ false = flip (t .done) (λ y. clash (tx (x ∷ ks) p .done) (frozen x ks p y .done) d) in
-      let o = still-open ks p (absorb-live n q e t (ap (λ (z : Txn). z .live) (sym w) ∙ l)) dn m a (omega arith) in
-      rw (firsts-fewer m x ks (omega arith))
-      (record {
-        live = o .live;
-        not-done = o .not-done;
-        wrote = λ c h. ap (λ (z : Txn). z .wrote c) w ∙ absorb-more n q e t c (o .wrote c h);
-        who = o .who ∙ sym (absorb-who n q e t) ∙ sym (ap (λ (z : Txn). z .who) w);
-      }))
+      let p = past k ks x (omega arith) in
+      let o = still-open ks x (p .open′ l) (flip (committed n (tx ks x)) (λ y. clash (committed n (tx (k ∷ ks) x)) (frozen k ks x y .0) d)) m a (omega arith) in
+      rw (firsts-fewer m k ks (omega arith)) (record { open′ = o .open′; not-done = o .not-done; wrote = λ c h. p .wrote c (o .wrote c h) }))
 
-  commit-le : (ks : List Call) (p : ℕ) → tx ks p .done ≡ true → tx ks p .commit ≤ length ks
-  commit-le ks p d =
-      let M = match-run φ I₀ ks in
-      let y = pick p (ledger-of φ I₀ ks .commits) (M .every p d) (M .recorded) (inv-run φ I₀ ks .old) in
-      subst (λ (p : ℕ). tx ks p .commit ≤ length ks) (y .1) (omega (arith, y .2 .commit, y .3, place-is ks))
+  commit-le : (ks : List Call) (x : Name) → committed n (tx ks x) ≡ true → commit n (tx ks x) ≤ length ks
+  commit-le ks x d =
+      let M = match-run R ks in
+      let y = pick x (ledger-of R ks .commits) (M .every x d) (M .recorded) (inv-run R ks .old) in
+      subst (λ (x : Name). commit n (tx ks x) ≤ length ks) (y .1) (omega (arith, y .2 .commit, y .3, place-is R ks))
 
-  not-yet : (ks : List Call) (p : ℕ) → tx ks p .done ≡ true → (m : ℕ) → p ≤ m → m < tx ks p .commit → Opening (tx (firsts m ks) p) (tx ks p)
-  not-yet [] p d m a b = absurd (omega (arith, commit-le [] p d, b))
-  not-yet (x ∷ ks) p d m a b =
-      let c = commit-le (x ∷ ks) p d in
-      let w = was-tx x ks p (omega (arith, a, b, c)) in
-      let q = suc (length (history φ ks)) in
-      let e : Event = record { call = x; answer = reply x (run φ ks) } in
-      let t = tx ks p in
-      rw (firsts-fewer m x ks (omega (arith, b, c)))
-      (test (t .done)
-      (λ y.
-      let f = frozen x ks p y in
-      let o = not-yet ks p y m a (omega (arith, b, f .commit)) in
-      record {
-        live = o .live;
-        not-done = o .not-done;
-        wrote = λ c h. ap (λ (g : ℕ → Bool). g c) (f .wrote) ∙ o .wrote c h;
-        who = o .who ∙ sym (f .who);
-      })
-      (λ y.
-      let o = still-open ks p (absorb-done n q e t y (ap (λ (z : Txn). z .done) (sym w) ∙ d)) y m a (omega (arith, b, c)) in
-      record {
-        live = o .live;
-        not-done = o .not-done;
-        wrote = λ c h. ap (λ (z : Txn). z .wrote c) w ∙ absorb-more n q e t c (o .wrote c h);
-        who = o .who ∙ sym (absorb-who n q e t) ∙ sym (ap (λ (z : Txn). z .who) w);
-      }))
+  not-yet : (ks : List Call) (x : Name) → committed n (tx ks x) ≡ true → (m : ℕ) → x .place ≤ m → m < commit n (tx ks x) → Opening (tx (firsts m ks) x) (tx ks x)
+  not-yet [] x d m a b = absurd (omega (arith, commit-le [] x d, b))
+  not-yet (k ∷ ks) x d m a b =
+      let c = commit-le (k ∷ ks) x d in
+      let p = past k ks x (omega (arith, a, b, c)) in
+      rw (firsts-fewer m k ks (omega (arith, b, c)))
+      (test (committed n (tx ks x))
+      (λ y. let o = not-yet ks x y m a (omega (arith, b, frozen k ks x y .1)) in record { open′ = o .open′; not-done = o .not-done; wrote = λ c h. p .wrote c (o .wrote c h) })
+      (λ y. let o = still-open ks x (p .done y d) y m a (omega (arith, b, c)) in record { open′ = o .open′; not-done = o .not-done; wrote = λ c h. p .wrote c (o .wrote c h) }))
 
-  -- the words of demand 3 in place of the ledger's
-  words : (ks : List Call) (p : ℕ) → Agrees (length (φ .lent .values)) (transaction p (history φ ks)) (txn (length (φ .lent .values)) p (history φ ks))
-  words = agrees-run φ I₀
-
-  done-of : (ks : List Call) (p : ℕ) → Commits (φ .lent .values) (history φ ks) p → tx ks p .done ≡ true
-  done-of ks p d = done-is (words ks p) ∙ d
-
-  commit-of : (ks : List Call) (p : ℕ) → Commits (φ .lent .values) (history φ ks) p → tx ks p .commit ≡ commitOf (φ .lent .values) (history φ ks) p
-  commit-of ks p d = words ks p .commit (done-of ks p d) ∙ commit-is (words ks p)
-
-  wrote-of : (ks : List Call) (p c : ℕ) → tx ks p .wrote c ≡ wrote (transaction p (history φ ks)) c
-  wrote-of ks p c = ap (λ (f : ℕ → Bool). f c) (words ks p .wrote)
-
-  who-open : (t : List Placed) {u : Txn} → Agrees (length (φ .lent .values)) t u → isOpen t ≡ true → u .who ≡ ownerOf t
-  who-open [] A o = absurd (clash false o refl)
-  who-open (x ∷ r) A o = A .who x r refl
-
-  pub writing : (ks : List Call) → HoldsAtCommit φ ks
+  pub writing : (ks : List Call) → HoldsAtCommit h₀ φ ks
   writing ks =
-      let M = match-run φ I₀ ks in
+      let M = match-run R ks in
       record {
-        withThis = λ p d c w.
-            let e = done-of ks p d in
-            let y = pick p (ledger-of φ I₀ ks .commits) (M .every p e) (M .recorded) (held ks) in
-            let g : Holds (run φ (firsts (tx ks p .commit) ks)) (tx ks p .who) c =
-            subst (λ (p : ℕ). tx ks p .wrote c ≡ true → Holds (run φ (firsts (tx ks p .commit) ks)) (tx ks p .who) c) (y .1)
-            (λ w. rw (y .2 .commit, y .2 .who) (y .3 c (sym (ap (λ (f : ℕ → Bool). f c) (y .2 .wrote)) ∙ w))) (wrote-of ks p c ∙ w) in
-            rw (← (commit-of ks p d), ← (who-is (words ks p) d)) g;
-        notBefore = λ p m d a b c w al.
-            let e = done-of ks p d in
-            let o = not-yet ks p e m a (omega (arith, b, commit-of ks p d)) in
-            let N = match-run φ I₀ (firsts m ks) in
-            let u = N .open′ p (o .live) in
-            let s = tx (firsts m ks) p .who in
-            unheld (inv-run φ I₀ (firsts m ks)) s (ap (λ (t : Txn). t .live) (sym u) ∙ o .live) (ap (λ (t : Txn). t .done) (sym u) ∙ o .not-done)
-            (wrote (transaction p (history φ ks))) (λ c h. sym (wrote-of ks p c) ∙ o .wrote c (ap (λ (t : Txn). t .wrote c) u ∙ h)) c w
-            (λ c h. rw (o .who, who-is (words ks p) d) (al c h));
-        notUncommitted = λ p o d c w al.
-            let live : tx ks p .live ≡ true = words ks p .live ∙ o in
-            let u = M .open′ p live in
-            unheld (inv-run φ I₀ ks) (tx ks p .who) (ap (λ (t : Txn). t .live) (sym u) ∙ live)
-            (ap (λ (t : Txn). t .done) (sym u) ∙ (done-is (words ks p) ∙ d))
-            (wrote (transaction p (history φ ks))) (λ c h. sym (wrote-of ks p c) ∙ (ap (λ (t : Txn). t .wrote c) u ∙ h)) c w
-            (λ c h. rw (who-open (transaction p (history φ ks)) (words ks p) o) (al c h));
+        withThis = λ x d c w.
+            let y = pick x (ledger-of R ks .commits) (M .every x d) (M .recorded) (held ks) in
+            subst (λ (x : Name). wrote (tx ks x) c ≡ true → Holds (run φ (firsts (commit n (tx ks x)) ks)) (x .session) c) (y .1)
+            (λ w. rw (y .2 .commit) (y .3 c (sym (ap (λ (f : ℕ → Bool). f c) (y .2 .wrote)) ∙ w))) w;
+        notBefore = λ x m d a b c w al.
+            let o = not-yet ks x d m a b in
+            let u = match-run R (firsts m ks) .open′ x (o .open′) in
+            unheld (inv-run R (firsts m ks)) (x .session) (ap (λ (t : Txn). t .live) u ∙ o .open′) (ap (λ (t : Txn). t .done) u ∙ o .not-done)
+            (wrote (tx ks x)) (λ c h. o .wrote c (sym (ap (λ (t : Txn). t .wrote c) u) ∙ h)) c w al;
+        notUncommitted = λ x o d c w al.
+            let u = M .open′ x o in
+            unheld (inv-run R ks) (x .session) (ap (λ (t : Txn). t .live) u ∙ o) (ap (λ (t : Txn). t .done) u ∙ d)
+            (wrote (tx ks x)) (λ c h. sym (ap (λ (t : Txn). t .wrote c) u) ∙ h) c w al;
       }
 
-  pub isolation : (ks : List Call) → Isolated (φ .lent .values) (history φ ks)
+  pub isolation : (ks : List Call) → Isolated (φ .lent .values) (history h₀ φ ks)
   isolation ks =
-      let M = match-run φ I₀ ks in
-      isolated (φ .lent .values) (history φ ks) (ledger-of φ I₀ ks .commits) (inv-run φ I₀ ks .lawful)
-      (all-map (λ k r. tells (φ .lent .values) (history φ ks) k (words ks (k .began)) r) (ledger-of φ I₀ ks .commits) (M .recorded))
-      (λ p d. M .every p (done-of ks p d))
+      let M = match-run R ks in
+      isolated (φ .lent .values) (history h₀ φ ks) (ledger-of R ks .commits) (inv-run R ks .lawful) (M .recorded) (M .every) (M .stands)

@@ -1,162 +1,135 @@
--- What a list of calls and their answers tells (document 01, "What demand 3 counts"): one definition for each of its words.
--- A list of calls, of events or of a transaction's calls has the newest first; a place is a call's ordinal in the list, from 1.
+-- What a list of calls tells (document 01, "What demand 3 counts"): one definition for each of its words.
+-- Every list here, of calls, of calls with their answers, of what they tell, has the newest first: its tail is then all that went before, and what
+-- goes before is all that a call's answer and a word about it depend on. A place is a call's ordinal in the list, from 1.
 use Prim.Native.Nat.{ℕ, suc}
 use mathlib.Core.Bool.{Bool, false, cond, not, _&&_, _||_}
 use mathlib.Core.List.{List, [], _∷_}
 use lib.Dec.{ltb, eqb}
 use lib.ListN.{length, getD}
 use Rattle.model.specs.declared.Call.{Call}
-use Rattle.model.specs.declared.Call.the-variants.{Begin, Read, Write, Seal, Advance, Abandon, Peek}
 use Rattle.model.specs.declared.Answer.{Answer}
 use Rattle.model.specs.Buffers.{Store}
 use Rattle.model.specs.Search.{tally}
-use Rattle.model.specs.Step.{number, valueOf, answer, sessionOf, step, reply}
+use Rattle.model.specs.Step.{sessionOf, step, reply}
+use Rattle.model.specs.Told.{Told, tells, begins, writes, seals, moves, ends, valuePut, ReadOf, readUnless}
+
+-- ---- calls, answers, and what they tell
 
 -- a call and its answer
 pub record Event : Type 0 where
   pub call : Call
   pub answer : Answer
 
+abbrev pub event : Call → Answer → Event
+event k a = record { call = k; answer = a }
+
+-- what it tells
+abbrev pub tellsOf : Event → List Told
+tellsOf e = tells (e .call) (e .answer)
+
 -- the store that a list of calls leaves, and the calls with their answers: each call gets what the call before left
 unfoldable pub run : Store → List Call → Store
 run σ [] = σ
 run σ (k ∷ ks) = step k (run σ ks)
 
-unfoldable pub history : Store → List Call → List Event
-history σ [] = []
-history σ (k ∷ ks) = record { call = k; answer = reply k (run σ ks) } ∷ history σ ks
+unfoldable pub events : Store → List Call → List Event
+events σ [] = []
+events σ (k ∷ ks) = event k (reply k (run σ ks)) ∷ events σ ks
 
--- ---- what one call tells
-
--- the call's kind by its field tag (7: peek, which has none), its cell and its written value
-abbrev pub kind : Call → ℕ
-kind (Begin s) = 1
-kind (Read s c) = 2
-kind (Write s c v) = 3
-kind (Seal s) = 4
-kind (Advance s) = 5
-kind (Abandon s) = 6
-kind (Peek s c) = 7
-
-abbrev pub cellOf : Call → ℕ
-cellOf (Begin s) = 0
-cellOf (Read s c) = c
-cellOf (Write s c v) = c
-cellOf (Seal s) = 0
-cellOf (Advance s) = 0
-cellOf (Abandon s) = 0
-cellOf (Peek s c) = c
-
-abbrev pub argument : Call → ℕ
-argument (Begin s) = 0
-argument (Read s c) = 0
-argument (Write s c v) = v
-argument (Seal s) = 0
-argument (Advance s) = 0
-argument (Abandon s) = 0
-argument (Peek s c) = 0
-
--- a call of kind k answered a
-abbrev pub is : ℕ → ℕ → Call → Answer → Bool
-is k a x y = eqb (kind x) k && eqb (number y) a
-
--- a call of a transaction, at its place
-pub record Placed : Type 0 where
+-- something told, at its place and of its session
+pub record Item : Type 0 where
   pub place : ℕ
-  pub call : Call
-  pub answer : Answer
+  pub session : ℕ
+  pub told : Told
 
-abbrev pub placed : ℕ → Event → Placed
-placed q e = record { place = q; call = e .call; answer = e .answer }
+abbrev pub item : ℕ → ℕ → Told → Item
+item q s w = record { place = q; session = s; told = w }
 
--- ---- Transaction: a begin answered 100 and the session's later calls, up to and with an answer 6 or 105 or an abandon answered 100,
--- else to the end of the list
+-- one call more, at place q of session s: what it tells
+abbrev pub add : ℕ → ℕ → List Told → List Item → List Item
+add q s [] h = h
+add q s (w ∷ ws) h = item q s w ∷ add q s ws h
 
-abbrev pub ends : Placed → Bool
-ends x = eqb (number (x .answer)) 6 || eqb (number (x .answer)) 105 || is 6 100 (x .call) (x .answer)
+-- what events tell, after what is told where the list starts, at place 0: nothing, where set-up left no transaction open
+unfoldable pub told : List Item → List Event → List Item
+told start [] = start
+told start (e ∷ h) = add (suc (length h)) (sessionOf (e .call)) (tellsOf e) (told start h)
 
-unfoldable pub opening : ℕ → Event → List Placed
-opening p e = cond (is 1 100 (e .call) (e .answer)) (placed p e ∷ []) []
+abbrev pub history : List Item → Store → List Call → List Item
+history start σ ks = told start (events σ ks)
 
-unfoldable pub continued : ℕ → Event → List Placed → List Placed
-continued q e [] = []
-continued q e (x ∷ t) = cond (not (ends x) && eqb (sessionOf (e .call)) (sessionOf (x .call))) (placed q e ∷ x ∷ t) (x ∷ t)
+-- ---- Transaction: a begin answered 100 and that session's later calls, up to and with an answer 6 or 105 or an abandon answered 100,
+-- else to the end of the list. Its name is the place and the session of its begin.
 
--- the transaction that begins at place p: its calls so far; none where no transaction begins there
-unfoldable pub transaction : ℕ → List Event → List Placed
-transaction p [] = []
-transaction p (e ∷ h) = cond (eqb (suc (length h)) p) (opening p e) (continued (suc (length h)) e (transaction p h))
+pub record Name : Type 0 where
+  pub place : ℕ
+  pub session : ℕ
 
--- it goes on: its newest call has not ended it
-abbrev pub isOpen : List Placed → Bool
+abbrev pub name : ℕ → ℕ → Name
+name p s = record { place = p; session = s }
+
+-- one thing more that its session tells: its begin, at place p, where it has told nothing; later things, unless it has ended
+abbrev pub extend : ℕ → Item → List Item → List Item
+extend p i [] = cond (begins (i .told) && eqb (i .place) p) (i ∷ []) []
+extend p i (j ∷ t) = cond (ends (j .told)) (j ∷ t) (i ∷ j ∷ t)
+
+-- what it tells so far; nothing where no transaction of that name begins
+unfoldable pub transaction : Name → List Item → List Item
+transaction x [] = []
+transaction x (i ∷ h) = cond (eqb (i .session) (x .session)) (extend (x .place) i (transaction x h)) (transaction x h)
+
+-- it goes on: the newest thing told has not ended it
+abbrev pub isOpen : List Item → Bool
 isOpen [] = false
-isOpen (x ∷ t) = not (ends x)
-
-abbrev pub ownerOf : List Placed → ℕ
-ownerOf [] = 0
-ownerOf (x ∷ t) = sessionOf (x .call)
+isOpen (i ∷ t) = not (ends (i .told))
 
 -- ---- Wrote: a cell for which one of its writes answered 100; the last such write gives its value there
 
-abbrev pub writes : Placed → ℕ → Bool
-writes x c = is 3 100 (x .call) (x .answer) && eqb (cellOf (x .call)) c
-
-unfoldable pub wrote : List Placed → ℕ → Bool
+unfoldable pub wrote : List Item → ℕ → Bool
 wrote [] c = false
-wrote (x ∷ t) c = writes x c || wrote t c
+wrote (i ∷ t) c = writes (i .told) c || wrote t c
 
-unfoldable pub valueWritten : List Placed → ℕ → ℕ
+unfoldable pub valueWritten : List Item → ℕ → ℕ
 valueWritten [] c = 0
-valueWritten (x ∷ t) c = cond (writes x c) (argument (x .call)) (valueWritten t c)
+valueWritten (i ∷ t) c = cond (writes (i .told) c) (valuePut (i .told)) (valueWritten t c)
 
 -- the number of cells it wrote, of n
-abbrev pub cellsWritten : ℕ → List Placed → ℕ
+abbrev pub cellsWritten : ℕ → List Item → ℕ
 cellsWritten n t = tally (wrote t) n
 
--- ---- Read before writing: each read answered 101 while no write of its own to that cell had answered 100
+-- ---- Read before writing: each of its reads answered 101 while no write of its own to that cell had answered 100
 
-pub record ReadOf : Type 0 where
-  pub cell : ℕ
-  pub value : ℕ
-
-unfoldable pub readsBeforeWriting : List Placed → List ReadOf
+unfoldable pub readsBeforeWriting : List Item → List ReadOf
 readsBeforeWriting [] = []
-readsBeforeWriting (x ∷ t) =
-    cond (is 2 101 (x .call) (x .answer) && not (wrote t (cellOf (x .call))))
-    (record { cell = cellOf (x .call); value = valueOf (x .answer) } ∷ readsBeforeWriting t) (readsBeforeWriting t)
+readsBeforeWriting (i ∷ t) = readUnless (wrote t) (i .told) (readsBeforeWriting t)
 
 -- ---- Snapshot: the place of its seal answered 102 or 105; 0 where there is none
 
-abbrev pub seals : Placed → Bool
-seals x = is 4 102 (x .call) (x .answer) || is 4 105 (x .call) (x .answer)
-
-unfoldable pub snapshot : List Placed → ℕ
+unfoldable pub snapshot : List Item → ℕ
 snapshot [] = 0
-snapshot (x ∷ t) = cond (seals x) (x .place) (snapshot t)
+snapshot (i ∷ t) = cond (seals (i .told)) (i .place) (snapshot t)
 
 -- ---- Commit: where it wrote no cell, its snapshot; otherwise the place of the advance that brings its answers 103 up to the number of cells
 -- it wrote; 0 where there is none
 
-abbrev pub moves : Placed → Bool
-moves x = is 5 103 (x .call) (x .answer)
-
-unfoldable pub movesIn : List Placed → ℕ
+unfoldable pub movesIn : List Item → ℕ
 movesIn [] = 0
-movesIn (x ∷ t) = cond (moves x) (suc (movesIn t)) (movesIn t)
+movesIn (i ∷ t) = cond (moves (i .told)) (suc (movesIn t)) (movesIn t)
 
-unfoldable pub moveNumber : ℕ → List Placed → ℕ
+-- the place of its m-th answer 103
+unfoldable pub moveNumber : ℕ → List Item → ℕ
 moveNumber m [] = 0
-moveNumber m (x ∷ t) = cond (moves x && eqb (suc (movesIn t)) m) (x .place) (moveNumber m t)
+moveNumber m (i ∷ t) = cond (moves (i .told) && eqb (suc (movesIn t)) m) (i .place) (moveNumber m t)
 
-unfoldable pub commit : ℕ → List Placed → ℕ
+unfoldable pub commit : ℕ → List Item → ℕ
 commit n t = cond (eqb (cellsWritten n t) 0) (snapshot t) (moveNumber (cellsWritten n t) t)
 
 -- ---- Committed: its commit place is in the list
 
-unfoldable pub committed : ℕ → List Placed → Bool
+unfoldable pub committed : ℕ → List Item → Bool
 committed n t = ltb 0 (commit n t)
 
 -- ---- Starting value: the cell's value where the list starts
 
 abbrev pub startingValue : List ℕ → ℕ → ℕ
-startingValue start c = getD start c 0
+startingValue first c = getD first c 0

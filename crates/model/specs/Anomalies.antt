@@ -1,13 +1,8 @@
--- Small histories to judge the claim by: three that must not pass, as a store without the method would tell them, in the order of the calls.
+-- Small histories to judge the claim by: four that must not pass, as a store without the method would tell them, in the order of the calls.
 use mathlib.Core.List.{List, [], _∷_, reverse}
-use Rattle.model.specs.declared.Call.{Call}
 use Rattle.model.specs.declared.Call.the-variants.{Begin, Read, Write, Seal, Advance}
-use Rattle.model.specs.declared.Answer.{Answer}
 use Rattle.model.specs.declared.Answer.the-variants.{Done, Value, Sealed, Moved, Committed}
-use Rattle.model.specs.History.{Event}
-
-abbrev event : Call → Answer → Event
-event k a = record { call = k; answer = a }
+use Rattle.model.specs.History.{Event, event}
 
 -- both transactions read 3 in cell 0, write it and commit: one update is lost
 unfoldable pub lostUpdate : List Event
@@ -27,3 +22,10 @@ brokenSnapshot =
     (event (Begin 0) Done ∷ event (Write 0 0 4) Done ∷ event (Write 0 1 6) Done ∷ event (Seal 0) Sealed ∷ event (Advance 0) Moved ∷ event (Advance 0) Moved
     ∷ event (Begin 1) Done ∷ event (Write 1 0 1) Done ∷ event (Write 1 1 2) Done ∷ event (Seal 1) Sealed ∷ event (Advance 1) Moved ∷ event (Advance 1) Moved
     ∷ event (Begin 2) Done ∷ event (Read 2 0) (Value 4) ∷ event (Read 2 1) (Value 2) ∷ event (Seal 2) Committed ∷ [])
+
+-- session 0 reads 6 in cell 1, which session 1 commits after session 0's snapshot and before its commit
+unfoldable pub readAhead : List Event
+readAhead =
+    reverse
+    (event (Begin 0) Done ∷ event (Read 0 1) (Value 6) ∷ event (Write 0 0 4) Done ∷ event (Begin 1) Done ∷ event (Write 1 1 6) Done ∷ event (Seal 1) Sealed
+    ∷ event (Seal 0) Sealed ∷ event (Advance 1) Moved ∷ event (Advance 0) Moved ∷ [])

@@ -1,0 +1,69 @@
+-- One after the other, beside demand 3: of every list of calls in which a transaction begins only when none is open, equality with a store that runs
+-- one transaction at a time.
+use Prim.Native.Nat.{ℕ}
+use mathlib.Core.Path.{_≡_}
+use mathlib.Core.Bool.{true, false, cond}
+use mathlib.Core.List.{List, [], _∷_}
+use lib.Dec.{eqb}
+use lib.ListN.{getD, set}
+use Rattle.model.specs.declared.Call.{Call}
+use Rattle.model.specs.declared.Answer.{Answer}
+use Rattle.model.specs.Buffers.{Store}
+use Rattle.model.specs.History.{Event, tellsOf, run, events, Item, told, history, Name, transaction, isOpen}
+use Rattle.model.specs.Isolation.{All}
+use Rattle.model.specs.Step.{number}
+use Rattle.model.specs.Told.{Told, began, got, put, sealed, moved, ended, begins, WhereGot}
+
+-- ---- the serial store
+
+-- its values, and the draft that the open transaction works on
+pub record Serial : Type 0 where
+  pub values : List ℕ
+  pub draft : List ℕ
+
+-- a begin makes the draft the values; a write changes the draft
+abbrev pub drafted : Told → Serial → Serial
+drafted began z = record { values = z .values; draft = z .values }
+drafted (got c v) z = z
+drafted (put c v) z = record { values = z .values; draft = set (z .draft) c v }
+drafted sealed z = z
+drafted moved z = z
+drafted ended z = z
+
+abbrev pub draftedBy : List Told → Serial → Serial
+draftedBy [] z = z
+draftedBy (w ∷ ws) z = drafted w (draftedBy ws z)
+
+-- the last answer, 105, makes the values the draft
+unfoldable pub serialStep : Event → Serial → Serial
+serialStep e z = cond (eqb (number (e .answer)) 105) (record { values = z .draft; draft = z .draft }) (draftedBy (tellsOf e) z)
+
+unfoldable pub serial : List ℕ → List Event → Serial
+serial first [] = record { values = first; draft = first }
+serial first (e ∷ h) = serialStep e (serial first h)
+
+-- ---- the claim
+
+-- no transaction is open
+abbrev pub NoneOpen : List Item → Type 0
+NoneOpen h = (x : Name) → isOpen (transaction x h) ≡ false
+
+-- a transaction begins only when none is open
+abbrev pub OneAtATime : List Event → Type 0
+OneAtATime [] = Unit
+OneAtATime (e ∷ h) = OneAtATime h × All (λ (w : Told). begins w ≡ true → NoneOpen (told [] h)) (tellsOf e)
+
+-- a value that was got is the draft's
+abbrev pub ReadsSerially : List ℕ → List Event → Type 0
+ReadsSerially first [] = Unit
+ReadsSerially first (e ∷ h) = ReadsSerially first h × All (WhereGot (λ c v. v ≡ getD (serial first h .draft) c 0)) (tellsOf e)
+
+-- nobody is in the way: no answer is 6 or 104
+abbrev pub Undisturbed : Answer → Type 0
+Undisturbed a = ((number a ≡ 6) → ⊥) × ((number a ≡ 104) → ⊥)
+
+-- of a list of calls, the newest first, from the store σ
+pub record SeriallyEqual (σ : Store) (ks : List Call) : Type 0 where
+  pub reads : ReadsSerially (σ .lent .values) (events σ ks)
+  pub left : NoneOpen (history [] σ ks) → run σ ks .lent .values ≡ serial (σ .lent .values) (events σ ks) .values
+  pub undisturbed : All (λ (e : Event). Undisturbed (e .answer)) (events σ ks)

@@ -1,0 +1,194 @@
+-- The words of demand 3, read off small histories in numerals (document 01, "What demand 3 counts"): proofs/ReadWords.antt proves the tables by
+-- computation. Calls, events and items stand in their order here.
+use Prim.Native.Nat.{ℕ}
+use mathlib.Core.Bool.{Bool, true, false}
+use mathlib.Core.List.{List, [], _∷_, _++_, reverse}
+use lib.ListN.{replicate}
+use Rattle.model.specs.declared.Call.{Call}
+use Rattle.model.specs.declared.Call.the-variants.{Begin, Read, Write, Seal, Advance, Abandon, Peek}
+use Rattle.model.specs.declared.Answer.{Answer}
+use Rattle.model.specs.declared.Answer.the-variants.{Done, Value, Sealed, Moved, Waiting, Committed, Refused}
+use Rattle.model.specs.Buffers.{Store, idle}
+use Rattle.model.specs.History.{Event, event, Item, item, told, Name, name, transaction, isOpen, wrote, valueWritten, readsBeforeWriting, snapshot, commit, committed}
+use Rattle.model.specs.Serial.{Serial, serial}
+use Rattle.model.specs.Told.{Told, began, got, put, sealed, moved, ended, ReadOf}
+
+-- ---- what a call with its answer tells
+
+pub record Telling : Type 0 where
+  pub call : Call
+  pub answer : Answer
+  pub told : List Told
+
+abbrev telling : Call → Answer → List Told → Telling
+telling k a ws = record { call = k; answer = a; told = ws }
+
+unfoldable pub tellings : List Telling
+tellings =
+    telling (Begin 1) Done (began ∷ []) ∷ telling (Begin 1) (Refused 2) [] ∷ telling (Begin 1) (Refused 6) (ended ∷ [])
+    ∷ telling (Read 1 2) (Value 7) (got 2 7 ∷ []) ∷ telling (Read 1 2) (Refused 3) [] ∷ telling (Read 1 2) (Refused 6) (ended ∷ [])
+    ∷ telling (Read 1 2) Done [] ∷ telling (Read 1 2) Committed (ended ∷ [])
+    ∷ telling (Write 1 2 7) Done (put 2 7 ∷ []) ∷ telling (Write 1 2 7) (Refused 4) [] ∷ telling (Write 1 2 7) (Refused 6) (ended ∷ [])
+    -- the newest first: the seal, then the end
+    ∷ telling (Seal 1) Sealed (sealed ∷ []) ∷ telling (Seal 1) Committed (ended ∷ sealed ∷ []) ∷ telling (Seal 1) (Refused 2) []
+    ∷ telling (Seal 1) (Refused 6) (ended ∷ [])
+    ∷ telling (Advance 1) Moved (moved ∷ []) ∷ telling (Advance 1) Waiting [] ∷ telling (Advance 1) Committed (ended ∷ [])
+    ∷ telling (Advance 1) (Refused 6) (ended ∷ []) ∷ telling (Advance 1) (Refused 2) []
+    ∷ telling (Abandon 1) Done (ended ∷ []) ∷ telling (Abandon 1) (Refused 2) [] ∷ telling (Abandon 1) (Refused 6) (ended ∷ [])
+    -- a peek gets nothing as read does
+    ∷ telling (Peek 1 2) Done [] ∷ telling (Peek 1 2) (Refused 14) [] ∷ telling (Peek 1 2) (Refused 6) (ended ∷ [])
+    ∷ []
+
+-- ---- what is read of a transaction
+
+-- of a transaction, and of two cells: it is open; it wrote cells 0 and 1, and the values; reads before writing; snapshot; commit; committed
+pub record Word : Type 0 where
+  pub goesOn : Bool
+  pub wrote0 : Bool
+  pub wrote1 : Bool
+  pub value0 : ℕ
+  pub value1 : ℕ
+  pub reads : List ReadOf
+  pub snapshot : ℕ
+  pub commit : ℕ
+  pub committed : Bool
+
+abbrev word : Bool → Bool → Bool → ℕ → ℕ → List ReadOf → ℕ → ℕ → Bool → Word
+word o a b v w r s c d = record { goesOn = o; wrote0 = a; wrote1 = b; value0 = v; value1 = w; reads = r; snapshot = s; commit = c; committed = d }
+
+-- it tells nothing
+abbrev nothing : Word
+nothing = word false false false 0 0 [] 0 0 false
+
+-- what is told at the start, events, a transaction's name, and what is read of it
+pub record Row : Type 0 where
+  pub start : List Item
+  pub events : List Event
+  pub name : Name
+  pub word : Word
+
+abbrev row : List Event → Name → Word → Row
+row h x w = record { start = []; events = h; name = x; word = w }
+
+abbrev read : ℕ → ℕ → ReadOf
+read c v = record { cell = c; value = v }
+
+unfoldable pub wordOf : Row → Word
+wordOf r =
+    let t = transaction (r .name) (told (reverse (r .start)) (reverse (r .events))) in
+    record { goesOn = isOpen t; wrote0 = wrote t 0; wrote1 = wrote t 1; value0 = valueWritten t 0; value1 = valueWritten t 1; reads = readsBeforeWriting t; snapshot = snapshot t; commit = commit 2 t; committed = committed 2 t }
+
+-- two sessions, of which the second commits; and one session's two transactions
+abbrev both : List Event
+both = event (Begin 0) Done ∷ event (Begin 1) Done ∷ event (Write 1 0 4) Done ∷ event (Seal 1) Sealed ∷ event (Advance 1) Moved ∷ []
+
+abbrev again : List Event
+again = event (Begin 0) Done ∷ event (Write 0 0 4) Done ∷ event (Abandon 0) Done ∷ event (Begin 0) Done ∷ event (Write 0 1 2) Done ∷ []
+
+-- two transactions open where the list starts, and what they do later
+abbrev taken : Name → Word → Row
+taken x w =
+    record {
+      start = item 0 0 began ∷ item 0 0 (put 0 4) ∷ item 0 1 began ∷ item 0 1 (got 1 5) ∷ [];
+      events = event (Seal 1) Committed ∷ event (Seal 0) Sealed ∷ event (Advance 0) Moved ∷ [];
+      name = x;
+      word = w;
+    }
+
+unfoldable pub rows : List Row
+rows =
+    -- an answer 6 ends it: what the session does later is another's
+    row (event (Begin 0) Done ∷ event (Read 0 0) (Refused 6) ∷ event (Write 0 1 4) Done ∷ []) (name 1 0) nothing
+    -- so does an answer 105
+    ∷ row (event (Begin 0) Done ∷ event (Seal 0) Committed ∷ event (Write 0 1 4) Done ∷ []) (name 1 0) (word false false false 0 0 [] 2 2 true)
+    -- an abandon answered 100 ends it; one that is refused does not
+    ∷ row (event (Begin 0) Done ∷ event (Abandon 0) Done ∷ event (Write 0 1 4) Done ∷ []) (name 1 0) nothing
+    ∷ row (event (Begin 0) Done ∷ event (Abandon 0) (Refused 2) ∷ event (Write 0 1 4) Done ∷ []) (name 1 0) (word true false true 0 4 [] 0 0 false)
+    -- the last write answered 100 gives the value, a refused one does not count; a read after an own write is none of the snapshot's
+    ∷ row (event (Begin 0) Done ∷ event (Read 0 0) (Value 3) ∷ event (Write 0 0 4) Done ∷ event (Write 0 0 6) Done ∷ event (Write 0 0 9) (Refused 4)
+    ∷ event (Write 0 1 9) (Refused 4) ∷ event (Read 0 0) (Value 6) ∷ event (Read 0 1) (Refused 3) ∷ []) (name 1 0) (word true true false 6 0 (read 0 3 ∷ []) 0 0 false)
+    -- each read counts, also after a write to another cell; a peek does not
+    ∷ row (event (Begin 0) Done ∷ event (Read 0 1) (Value 5) ∷ event (Write 0 0 4) Done ∷ event (Peek 0 1) Done ∷ event (Read 0 1) (Value 7) ∷ []) (name 1 0)
+    (word true true false 4 0 (read 1 7 ∷ read 1 5 ∷ []) 0 0 false)
+    -- 104 does not count towards the commit, nor does an answer 103 after it change it; another session's calls are not its own
+    ∷ row (event (Begin 0) Done ∷ event (Begin 1) Done ∷ event (Write 0 0 4) Done ∷ event (Write 1 1 2) Done ∷ event (Write 0 1 5) Done ∷ event (Seal 0) Sealed
+    ∷ event (Advance 0) Waiting ∷ event (Advance 0) Moved ∷ event (Advance 1) Moved ∷ event (Advance 0) Moved ∷ event (Advance 0) Moved ∷ []) (name 1 0)
+    (word true true true 4 5 [] 6 10 true)
+    -- cells are counted, not writes
+    ∷ row (event (Begin 0) Done ∷ event (Write 0 0 4) Done ∷ event (Write 0 0 6) Done ∷ event (Seal 0) Sealed ∷ event (Advance 0) Moved ∷ []) (name 1 0)
+    (word true true false 6 0 [] 4 5 true)
+    -- sealed, and not committed
+    ∷ row (event (Begin 0) Done ∷ event (Write 0 1 4) Done ∷ event (Seal 0) (Refused 9) ∷ event (Seal 0) Sealed ∷ event (Advance 0) Waiting ∷ []) (name 1 0)
+    (word true false true 0 4 [] 4 0 false)
+    -- nothing written: the commit is the seal
+    ∷ row (event (Begin 0) Done ∷ event (Read 0 1) (Value 5) ∷ event (Seal 0) Committed ∷ []) (name 1 0) (word false false false 0 0 (read 1 5 ∷ []) 3 3 true)
+    -- a refused begin begins none
+    ∷ row (event (Begin 0) (Refused 2) ∷ event (Write 0 0 4) Done ∷ []) (name 1 0) nothing
+    -- a name is the place of a begin and its session
+    ∷ row both (name 2 1) (word true true false 4 0 [] 4 5 true) ∷ row both (name 1 0) (word true false false 0 0 [] 0 0 false)
+    ∷ row both (name 1 1) nothing ∷ row both (name 2 0) nothing ∷ row both (name 3 1) nothing
+    ∷ row again (name 1 0) (word false true false 4 0 [] 0 0 false) ∷ row again (name 4 0) (word true false true 0 2 [] 0 0 false)
+    -- two of one place, the start's
+    ∷ taken (name 0 0) (word true true false 4 0 [] 2 3 true) ∷ taken (name 0 1) (word false false false 0 0 (read 1 5 ∷ []) 1 1 true) ∷ taken (name 0 2) nothing
+    ∷ []
+
+-- ---- the serial store
+
+-- events, and the serial store after them, from the values 3 and 5
+pub record SerialRow : Type 0 where
+  pub events : List Event
+  pub serial : Serial
+
+abbrev serialRow : List Event → List ℕ → List ℕ → SerialRow
+serialRow h vs ds = record { events = h; serial = record { values = vs; draft = ds } }
+
+unfoldable pub serialOf : SerialRow → Serial
+serialOf r = serial (3 ∷ 5 ∷ []) (reverse (r .events))
+
+unfoldable pub serialRows : List SerialRow
+serialRows =
+    -- a write is in the draft
+    serialRow (event (Begin 0) Done ∷ event (Write 0 1 4) Done ∷ event (Write 0 0 9) (Refused 4) ∷ event (Seal 0) Sealed ∷ event (Advance 0) Moved ∷ [])
+    (3 ∷ 5 ∷ []) (3 ∷ 4 ∷ [])
+    -- and in the values with the answer 105, not with 103
+    ∷ serialRow (event (Begin 0) Done ∷ event (Write 0 1 4) Done ∷ event (Seal 0) Sealed ∷ event (Advance 0) Moved ∷ event (Advance 0) Moved
+    ∷ event (Advance 0) Committed ∷ []) (3 ∷ 4 ∷ []) (3 ∷ 4 ∷ [])
+    -- all its writes are
+    ∷ serialRow (event (Begin 0) Done ∷ event (Write 0 1 4) Done ∷ event (Write 0 0 6) Done ∷ []) (3 ∷ 5 ∷ []) (6 ∷ 4 ∷ [])
+    -- an abandoned draft is gone with the next begin
+    ∷ serialRow (event (Begin 0) Done ∷ event (Write 0 1 4) Done ∷ event (Abandon 0) Done ∷ event (Begin 1) Done ∷ event (Read 1 1) (Value 5)
+    ∷ event (Seal 1) Committed ∷ []) (3 ∷ 5 ∷ []) (3 ∷ 5 ∷ [])
+    ∷ []
+
+-- ---- histories and stores that a claim holds of, or does not
+
+-- session 0 commits 4 to cell 1 at place 4; session 1 then reads it
+unfoldable pub wroteThenRead : List Event
+wroteThenRead =
+    reverse
+    (event (Begin 0) Done ∷ event (Write 0 1 4) Done ∷ event (Seal 0) Sealed ∷ event (Advance 0) Moved ∷ event (Begin 1) Done ∷ event (Read 1 1) (Value 4)
+    ∷ event (Seal 1) Committed ∷ [])
+
+-- the first reader gets the starting value of cell 1
+unfoldable pub firstRead : List Event
+firstRead = reverse (event (Begin 0) Done ∷ event (Read 0 1) (Value 5) ∷ event (Seal 0) Committed ∷ [])
+
+-- two cells, of classes 2 and 1; session 1 is in a phase with its entry of cell 0 written, whose lock has a claimant and a mark
+unfoldable pub midway : ℕ → ℕ → ℕ → ℕ → Store
+midway phase value claimant mark =
+    record {
+      lent = record {
+        values = 3 ∷ 5 ∷ [];
+        classes = 2 ∷ 1 ∷ [];
+        locks = record { readers = 2 ∷ 0 ∷ []; claimants = claimant ∷ 16 ∷ []; exclusives = mark ∷ 0 ∷ [] };
+        logs = replicate 128 0 ++ (0 ∷ 3 ∷ value ∷ 1 ∷ replicate 1916 0);
+      };
+      sessions = record { records = idle ∷ record { phase = phase; count = 1; next = 0 } ∷ replicate 14 idle };
+    }
+
+-- what its transaction has told where it runs and has read a value, and where it is sealed
+unfoldable pub toldRunning : ℕ → List Item
+toldRunning v = reverse (item 0 1 began ∷ item 0 1 (got 0 v) ∷ item 0 1 (put 0 4) ∷ [])
+
+unfoldable pub toldSealed : List Item
+toldSealed = reverse (item 0 1 began ∷ item 0 1 (put 0 4) ∷ item 0 1 sealed ∷ [])
