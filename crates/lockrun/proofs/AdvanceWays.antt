@@ -8,7 +8,7 @@ use borrow.Author.Tests.{ltb-true, ltb-false, lt-ltb, le-ltb}
 use lib.Dec.{ltb}
 use lib.ListN.{length, getD, set, replicate, length-replicate}
 use Rattle.model.specs.Search.{below}
-use Rattle.model.specs.Buffers.{Store, free, idle, sessionAt, cellAt, lockAt, setLock, claim, own, vacate, logIn, lengthsMatch}
+use Rattle.model.specs.Buffers.{Store, free, idle, sessionAt, logIn, cellAt, lockAt, setLock, claim, acquire, vacate, lengthsMatch}
 use Rattle.model.specs.Step.{outcome, effect, planOf}
 use Rattle.model.specs.declared.Session.{Session}
 use Rattle.model.specs.declared.Sessions.{Sessions}
@@ -23,8 +23,8 @@ use Rattle.decide.specs.Pieces.{dueOn, advanceOn, handledOn}
 use Rattle.decide.specs.declared.Due.{Due}
 use Rattle.decide.specs.declared.Due.the-variants.{Refused, Slot}
 use Rattle.decide.specs.declared.Handled.{Handled}
-use Rattle.decide.proofs.Agree.{part-cell, due-known}
-use Rattle.store.specs.Lent.{carried, Sized, Admitted}
+use Rattle.decide.proofs.Agree.{due-known}
+use Rattle.store.specs.Lent.{outcomeOf, LengthsFit, EntriesFit}
 use Rattle.store.proofs.Carry.{carries, carry-roll-back}
 use Rattle.store.proofs.Refusals.{refused-7, refused-1, lengths-of}
 use Rattle.store.proofs.Parts.{cut, cut-is, part-fits, can-decide}
@@ -107,15 +107,15 @@ module _ (vs cs W : List ℕ) (ss : Sessions) (m s : ℕ) where
     pub sizes : AllSized vs cs W ss m s
     sizes = all-sized vs cs W ss m fit refl s (known .0) (let i = known .1 .0 in omega arith)
 
-    admits : (L : List Lock) → length L ≡ m → Admitted (storeOn vs cs L W ss) s × (k < x .count) × (2 ≤ x .phase) × (x .phase ≤ 4)
+    admits : (L : List Lock) → length L ≡ m → EntriesFit (storeOn vs cs L W ss) s × (k < x .count) × (2 ≤ x .phase) × (x .phase ≤ 4)
     unfolding sessionAt
     admits L q = due-admits (storeOn vs cs L W ss) s (sizes L q) k (known .1 .1)
 
     -- what does not depend on the run
-    facts : Admitted (storeOn vs cs (replicate m free) W ss) s × (k < x .count) × (2 ≤ x .phase) × (x .phase ≤ 4)
+    facts : EntriesFit (storeOn vs cs (replicate m free) W ss) s × (k < x .count) × (2 ≤ x .phase) × (x .phase ≤ 4)
     facts = admits (replicate m free) (length-replicate m free)
 
-    sized : Sized (storeOn vs cs (replicate m free) W ss) s
+    sized : LengthsFit (storeOn vs cs (replicate m free) W ss) s
     sized = one-sized vs cs W ss m s sizes
 
     few : x .count ≤ 32
@@ -131,7 +131,7 @@ module _ (vs cs W : List ℕ) (ss : Sessions) (m s : ℕ) where
     pub can-advance : (s < 16) × (4 * k + 3 < length (cut W s))
     can-advance = (sized .session, in-part)
 
-    module _ (c : ℕ) (cell : c ≡ cellAt (cut W s) 0 k) where
+    module _ (c : ℕ) (cell : c ≡ cellAt (cut W s) k) where
       -- with its lock and the plan there, for what does not depend on them
       abbrev free-there : Lock
       free-there = lockAt (apart (replicate m free)) c
@@ -143,16 +143,16 @@ module _ (vs cs W : List ℕ) (ss : Sessions) (m s : ℕ) where
       pub in-values : c < length vs
       in-values = cell-inside some
 
-      pub handles : (length (cut W s) ≡ 128) × (length vs ≤ 1024) × (x .count ≤ 32) × (x .phase ≤ 4) × (c < length vs) × (below (length vs) (cellAt (cut W s) 0) (x .count) ≡ true)
+      pub handles : (length (cut W s) ≡ 128) × (length vs ≤ 1024) × (x .count ≤ 32) × (x .phase ≤ 4) × (c < length vs) × (below (length vs) (cellAt (cut W s)) (x .count) ≡ true)
       handles = can-handle some
 
       -- l is the lock of the cell, and p the plan that the code decides
       module _ (l : Lock) (p : Plan) (e : p ≡ advanceOn (cut W s) x l s k) where
-        same : c ≡ cellAt W s k
-        same = cell ∙ rw cut-is (part-cell W s k (let f = few in let i = facts .1 in omega arith))
+        same : c ≡ cellAt (logIn W s) k
+        same = cell ∙ ap (λ log. cellAt log k) (cut-is W s)
 
         -- of a run with that lock
-        module _ (L : List Lock) (q : length L ≡ m) (g : lockIn L (cellAt W s k) ≡ l) where
+        module _ (L : List Lock) (q : length L ≡ m) (g : lockIn L (cellAt (logIn W s) k) ≡ l) where
           abbrev σ : Store
           σ = storeOn vs cs L W ss
 
@@ -166,7 +166,7 @@ module _ (vs cs W : List ℕ) (ss : Sessions) (m s : ℕ) where
           unfolding sessionAt
           decided = let a = admits L q in record { admitted = a .0; slot = a .1; from = a .2; upto = a .3; cell = cell; lock = lock; plan = e }
 
-          finish : carried s (atEntry σ s k) σ ≡ effect (Advance s) σ
+          finish : outcomeOf s (atEntry σ s k) σ ≡ effect (Advance s) σ
           finish = due-carried σ s (sizes L q) k (known .1 .1)
 
           planned : p ≡ planOf (Advance s) σ
@@ -188,7 +188,7 @@ module _ (vs cs W : List ℕ) (ss : Sessions) (m s : ℕ) where
           module _ (h : Handled) (d : h ≡ handledOn (cut W s) x c) where
             owned : (i : ℕ) → p ≡ plans.Acquire i → outcome (h .answer) (storeOn vs cs (sweptBy W (Acquire s c) L) W (record { records = set (ss .records) s (h .session) })) ≡ effect (Advance s) σ
             unfolding turnsOf swept cellOf changeOf sessionAt
-            owned i f = leaves-owned decided h d i f (own s l) (apart (sweptBy W (Acquire s c) L)) refl (put (own s)) ∙ finish
+            owned i f = leaves-owned decided h d i f (acquire s l) (apart (sweptBy W (Acquire s c) L)) refl (put (acquire s)) ∙ finish
 
             published : (i v : ℕ) → p ≡ Publish i v → outcome (h .answer) (storeOn (set vs c v) cs (sweptBy W Keep L) W (record { records = set (ss .records) s (h .session) })) ≡ effect (Advance s) σ
             unfolding turnsOf swept sessionAt
@@ -201,7 +201,7 @@ module _ (vs cs W : List ℕ) (ss : Sessions) (m s : ℕ) where
                 leaves-released decided h d a b f i (vacate s l) (apart (sweptBy W (Vacate s c) L)) refl (put (vacate s)) ∙ finish
 
         abbrev Left : List ℕ → Turn → Type 0
-        Left vs′ t = Turned (Advance s) vs cs m (cellAt W s k) l W ss vs′ W t
+        Left vs′ t = Turned (Advance s) vs cs m (cellAt (logIn W s) k) l W ss vs′ W t
 
         pub advance-waits : {i : ℕ} → p ≡ Wait i → Left vs (record { reply = record { answer = the-variants.Waiting; sessions = ss }; change = Claim s c })
         advance-waits {i} h = (sized .session, λ L q g. waited L q g i h)

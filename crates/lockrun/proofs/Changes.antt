@@ -6,10 +6,11 @@ use Prim.Native.Nat.{ℕ, zero, suc, _<_, _≤_}
 use native.Mathlib.Nat.{not-suc-le-zero, le-of-suc-le-suc}
 use native.Mathlib.Omega.{arith}
 use lib.ListN.{length, getD, set, drop, length-set, replicate, drop-of-length-le}
-use Rattle.model.specs.Buffers.{free, cellAt, publishesIn, lockAt, setLock, lockOn, sweep, join, leave, vacate, withdraw, claim, own}
+use Rattle.model.specs.Buffers.{free, logIn, cellAt, publishesIn, lockAt, setLock, lockOn, sweep, join, leave, withdraw}
+use Rattle.model.specs.Step.{rolledBack, readsDropped}
 use Rattle.model.specs.declared.Lock.{Lock}
 use Rattle.model.proofs.Tools.{test}
-use Rattle.lockrun.specs.declared.Change.the-variants.{Keep, Join, Claim, Acquire, Vacate, Withdraw, Leave, Clear}
+use Rattle.lockrun.specs.declared.Change.the-variants.{Join, Withdraw, Leave, Clear}
 use Rattle.lockrun.specs.Run.{each, apart, lockIn, turnsOf, cellOf, changeOf, swept, sweptBy}
 use Rattle.lockrun.proofs.Row.{set-past}
 
@@ -50,34 +51,17 @@ apart-on f L c = apart-set L c (f (lockIn L c)) ∙ ap (λ (l : Lock). setLock c
 
 -- ---- all of a change
 
-pub keeps-all : (W : List ℕ) (L : List Lock) → sweptBy W Keep L ≡ L
-unfolding turnsOf swept
-keeps-all W L = refl
-
-module _ (W : List ℕ) (s c : ℕ) (L : List Lock) where
-  pub joins : apart (sweptBy W (Join s c) L) ≡ lockOn c (join s) (apart L)
-  unfolding turnsOf swept cellOf changeOf
-  joins = apart-on (join s) L c
-
-  pub claims : apart (sweptBy W (Claim s c) L) ≡ lockOn c (claim s) (apart L)
-  unfolding turnsOf swept cellOf changeOf
-  claims = apart-on (claim s) L c
-
-  pub owns : apart (sweptBy W (Acquire s c) L) ≡ lockOn c (own s) (apart L)
-  unfolding turnsOf swept cellOf changeOf
-  owns = apart-on (own s) L c
-
-  pub vacates : apart (sweptBy W (Vacate s c) L) ≡ lockOn c (vacate s) (apart L)
-  unfolding turnsOf swept cellOf changeOf
-  vacates = apart-on (vacate s) L c
+pub joins : (W : List ℕ) (s c : ℕ) (L : List Lock) → apart (sweptBy W (Join s c) L) ≡ lockOn c (join s) (apart L)
+unfolding turnsOf swept cellOf changeOf
+joins W s c L = apart-on (join s) L c
 
 module _ (W : List ℕ) (s m : ℕ) (L : List Lock) where
-  withdraws-to : (k : ℕ) → apart (swept W (Withdraw s m) k L) ≡ sweep (λ c. true) (withdraw s) (cellAt W s) k (apart L)
-  unfolding swept sweep cellOf changeOf
+  withdraws-to : (k : ℕ) → apart (swept W (Withdraw s m) k L) ≡ rolledBack (logIn W s) k s (apart L)
+  unfolding rolledBack swept sweep cellOf changeOf
   withdraws-to zero = refl
-  withdraws-to (suc k) = apart-on (withdraw s) (swept W (Withdraw s m) k L) (cellAt W s k) ∙ ap (lockOn (cellAt W s k) (withdraw s)) (withdraws-to k)
+  withdraws-to (suc k) = apart-on (withdraw s) (swept W (Withdraw s m) k L) (cellAt (logIn W s) k) ∙ ap (lockOn (cellAt (logIn W s) k) (withdraw s)) (withdraws-to k)
 
-  pub withdraws : apart (sweptBy W (Withdraw s m) L) ≡ sweep (λ c. true) (withdraw s) (cellAt W s) m (apart L)
+  pub withdraws : apart (sweptBy W (Withdraw s m) L) ≡ rolledBack (logIn W s) m s (apart L)
   unfolding turnsOf
   withdraws = withdraws-to m
 
@@ -88,16 +72,16 @@ module _ (W : List ℕ) (s m : ℕ) (L : List Lock) where
     still zero = refl
     still (suc k) = length-set (swept W (Leave s m) k L) _ _ ∙ still k
 
-    leaves-to : (k : ℕ) → apart (swept W (Leave s m) k L) ≡ sweep (λ c. not (publishesIn W s m c)) (leave s) (cellAt W s) k (apart L)
+    leaves-to : (k : ℕ) → apart (swept W (Leave s m) k L) ≡ sweep (λ c. not (publishesIn (logIn W s) m c)) (leave s) (cellAt (logIn W s)) k (apart L)
     unfolding swept sweep cellOf changeOf
     leaves-to zero = refl
     leaves-to (suc k) =
-        test (publishesIn W s m (cellAt W s k))
+        test (publishesIn (logIn W s) m (cellAt (logIn W s) k))
         (λ e. let l = still k in rw e (ap apart (set-past (swept W (Leave s m) k L) 1024 _ (omega arith)) ∙ leaves-to k))
-        (λ e. rw e (apart-on (leave s) (swept W (Leave s m) k L) (cellAt W s k) ∙ ap (lockOn (cellAt W s k) (leave s)) (leaves-to k)))
+        (λ e. rw e (apart-on (leave s) (swept W (Leave s m) k L) (cellAt (logIn W s) k) ∙ ap (lockOn (cellAt (logIn W s) k) (leave s)) (leaves-to k)))
 
-    pub leaves : apart (sweptBy W (Leave s m) L) ≡ sweep (λ c. not (publishesIn W s m c)) (leave s) (cellAt W s) m (apart L)
-    unfolding turnsOf
+    pub leaves : apart (sweptBy W (Leave s m) L) ≡ readsDropped (logIn W s) m s (apart L)
+    unfolding readsDropped turnsOf
     leaves = leaves-to m
 
 -- ---- all locks empty

@@ -11,7 +11,7 @@ use base.Fml.{GName}
 use denote.Ref.{RefT}
 use lib.Dec.{eqb}
 use lib.ListN.{length, getD, set, replicate, length-replicate, length-set}
-use Rattle.model.specs.Buffers.{Store, free, idle, running, size, sessionAt, withEntry, moveTo, entryAt, appended, updated, lengthsMatch}
+use Rattle.model.specs.Buffers.{Store, free, idle, running, size, sessionAt, withEntry, moveTo, logIn, onLog, entryAt, appended, updated, lengthsMatch}
 use Rattle.model.specs.Step.{effect, planOf, sessionOf, recordOf, rolledBack, readsDropped, recordFits, readPlan, writePlan, sealPlan, peekPlan}
 use Rattle.model.specs.declared.Session.{Session}
 use Rattle.model.specs.declared.Sessions.{Sessions}
@@ -25,10 +25,10 @@ use Rattle.model.specs.declared.Plan.the-variants.{Refuse, Tell, Enter, Update,
 use Rattle.decide.specs.Pieces.{tested}
 use Rattle.decide.proofs.Ways.{Entries}
 use Rattle.decide.proofs.Agree.{abandon-passes}
-use Rattle.store.specs.Lent.{Sized}
+use Rattle.store.specs.Lent.{LengthsFit}
 use Rattle.store.proofs.Carry.{carries, carry-refuse, carry-roll-back, carry-cancel, carry-commit-reads, carry-begin-promotion}
 use Rattle.store.proofs.Refusals.{refused-7, refused-1, fit-is, plan-7, plan-1, sized, lengths-of}
-use Rattle.store.proofs.Parts.{cut, cut-is, puts, part-long, part-fits, can-decide, put-appended, put-updated}
+use Rattle.store.proofs.Parts.{cut, cut-is, puts, part-long, part-fits, can-decide}
 use Rattle.store.proofs.Peeks.{peek-planned, peek-inside, peek-logged, peek-refused, peek-done, hands-store, hands-log, hands-nothing}
 use Rattle.store.proofs.Tags.{Passed}
 use Rattle.store.proofs.Choices.{Choice, read-choice, write-choice, when-new, when-left, when-known}
@@ -46,7 +46,7 @@ use Rattle.lockrun.proofs.Changes.{each-length, apart-at, joins, withdr
 
 -- every run of m locks makes a store whose lengths fit
 abbrev pub AllSized : List ℕ → List ℕ → List ℕ → Sessions → ℕ → ℕ → Type 0
-AllSized vs cs W ss m s = (L : List Lock) → length L ≡ m → Sized (storeOn vs cs L W ss) s
+AllSized vs cs W ss m s = (L : List Lock) → length L ≡ m → LengthsFit (storeOn vs cs L W ss) s
 
 -- the test's answer b is that of a store with a run of m locks
 module _ (n k m w : ℕ) (b : Bool) (e : b ≡ lengthsMatch n k m m m w) (L : List Lock) (q : length L ≡ m) where
@@ -70,7 +70,7 @@ module _ (vs cs W : List ℕ) (ss : Sessions) (m : ℕ) (b : Bool) (e : b ≡ le
 
 module _ (vs cs W : List ℕ) (ss : Sessions) (m s : ℕ) (z : AllSized vs cs W ss m s) where
   -- one such run, for what does not depend on the run
-  pub one-sized : Sized (storeOn vs cs (replicate m free) W ss) s
+  pub one-sized : LengthsFit (storeOn vs cs (replicate m free) W ss) s
   one-sized = z (replicate m free) (length-replicate m free)
 
   pub words : length W ≡ 2048
@@ -89,12 +89,12 @@ module _ (vs cs W : List ℕ) (ss : Sessions) (m s : ℕ) (z : AllSized vs cs W 
   ends a y d = record { reply = record { answer = a; sessions = record { records = set (ss .records) s y } }; change = d }
 
   -- a store's locks after rolling back and after sealing
-  pub back : (L : List Lock) → apart (sweptBy W (Withdraw s (x .count)) L) ≡ rolledBack (storeOn vs cs L W ss .lent) s (recordOf (storeOn vs cs L W ss) s)
-  unfolding rolledBack sessionAt
+  pub back : (L : List Lock) → apart (sweptBy W (Withdraw s (x .count)) L) ≡ rolledBack (logIn W s) (recordOf (storeOn vs cs L W ss) s .count) s (apart L)
+  unfolding sessionAt
   back L = withdraws W s (x .count) L
 
-  dropped : (L : List Lock) → length L ≡ m → apart (sweptBy W (Leave s (x .count)) L) ≡ readsDropped (storeOn vs cs L W ss .lent) s (recordOf (storeOn vs cs L W ss) s)
-  unfolding readsDropped sessionAt
+  dropped : (L : List Lock) → length L ≡ m → apart (sweptBy W (Leave s (x .count)) L) ≡ readsDropped (logIn W s) (recordOf (storeOn vs cs L W ss) s .count) s (apart L)
+  unfolding sessionAt
   dropped L q = leaves W s (x .count) L (run-few L q)
 
   module _ (c : ℕ) (l : Lock) (p : Plan) where
@@ -103,7 +103,7 @@ module _ (vs cs W : List ℕ) (ss : Sessions) (m s : ℕ) (z : AllSized vs cs W 
       pub read-known : (L : List Lock) → length L ≡ m → lockIn L c ≡ l → OfRead Decided (storeOn vs cs L W ss) s c l p
       read-known L q g = read-decided (storeOn vs cs L W ss) s c (z L q) l (sym (apart-at L c ∙ g)) p e
 
-      chosen : Choice (length vs) (cut W s) x c (λ j. Tell (entryAt (cut W s) 0 j .current)) (Enter c) p
+      chosen : Choice (length vs) (cut W s) x c (λ j. Tell (entryAt (cut W s) j .current)) (Enter c) p
       chosen = rw e (read-choice (length vs) (cut W s) x l c)
 
       pub read-tells : (v : ℕ) → p ≡ Tell v → (t : Turn) → t ≡ keeps ss (Value v) → Turned (Read s c) vs cs m c l W ss vs W t
@@ -116,7 +116,7 @@ module _ (vs cs W : List ℕ) (ss : Sessions) (m s : ℕ) (z : AllSized vs cs W 
       pub read-room : (i : ℕ) → p ≡ Enter i → 4 * x .count + 3 < length (cut W s)
       read-room i h = let w = part-long W s words (one-sized .session) in let r = read-new i h .1 in omega arith
 
-      pub read-enters : (i : ℕ) → p ≡ Enter i → (P : List ℕ) (y : Session) → P ≡ appended (cut W s) 0 (x .count) c (getD vs c 0) → y ≡ withEntry x
+      pub read-enters : (i : ℕ) → p ≡ Enter i → (P : List ℕ) (y : Session) → P ≡ appended (cut W s) (x .count) c (getD vs c 0) → y ≡ withEntry x
           → Turned (Read s c) vs cs m c l W ss vs (puts W s P) (ends (Value (getD vs c 0)) y (Join s c))
       read-enters i h P y a f =
           let n = read-new i h in (
@@ -140,7 +140,7 @@ module _ (vs cs W : List ℕ) (ss : Sessions) (m s : ℕ) (z : AllSized vs cs W 
       pub write-room : (j u : ℕ) → p ≡ Update j u → 4 * j + 3 < length (cut W s)
       write-room j u h = let w = part-long W s words (one-sized .session) in let i = when-known choice j u h in omega arith
 
-      pub write-updates : (j u : ℕ) → p ≡ Update j u → (P : List ℕ) → P ≡ updated (cut W s) 0 j u → (t : Turn) → t ≡ keeps ss Done → Turned (Write s c v) vs cs m c l W ss vs (puts W s P) t
+      pub write-updates : (j u : ℕ) → p ≡ Update j u → (P : List ℕ) → P ≡ updated (cut W s) j u → (t : Turn) → t ≡ keeps ss Done → Turned (Write s c v) vs cs m c l W ss vs (puts W s P) t
       unfolding turnsOf swept
       write-updates j u h P a t f = rw f (tt, λ L q g. write-updated (write-known L q g) j u h P a)
 
@@ -151,7 +151,7 @@ module _ (vs cs W : List ℕ) (ss : Sessions) (m s : ℕ) (z : AllSized vs cs W 
       write-room-there i u h = let w = part-long W s words (one-sized .session) in let r = write-new i u h .1 in omega arith
 
       -- the entry is appended, and then updated
-      module _ (i u : ℕ) (h : p ≡ EnterUpdate i u) (P : List ℕ) (a : P ≡ appended (cut W s) 0 (x .count) c (getD vs c 0)) where
+      module _ (i u : ℕ) (h : p ≡ EnterUpdate i u) (P : List ℕ) (a : P ≡ appended (cut W s) (x .count) c (getD vs c 0)) where
         long : length (puts W s P) ≡ 2048
         unfolding appended
         long =
@@ -164,12 +164,12 @@ module _ (vs cs W : List ℕ) (ss : Sessions) (m s : ℕ) (z : AllSized vs cs W 
         pub write-room-new : 4 * x .count + 3 < length (cut (puts W s P) s)
         write-room-new = let w = part-long (puts W s P) s long (one-sized .session) in let r = write-new i u h .1 in omega arith
 
-        pub write-still : (Q : List ℕ) → Q ≡ updated (cut (puts W s P) s) 0 (x .count) u → length (puts (puts W s P) s Q) ≡ length W
+        pub write-still : (Q : List ℕ) → Q ≡ updated (cut (puts W s P) s) (x .count) u → length (puts (puts W s P) s Q) ≡ length W
         unfolding updated
         write-still Q b =
             ap length (put-updated (puts W s P) s long (one-sized .session) Q (x .count) u (write-new i u h .1) b) ∙ simp length-set (long ∙ sym words)
 
-        pub write-enters : (Q : List ℕ) (y : Session) → Q ≡ updated (cut (puts W s P) s) 0 (x .count) u → y ≡ withEntry x
+        pub write-enters : (Q : List ℕ) (y : Session) → Q ≡ updated (cut (puts W s P) s) (x .count) u → y ≡ withEntry x
             → Turned (Write s c v) vs cs m c l W ss vs (puts (puts W s P) s Q) (ends Done y (Join s c))
         write-enters Q y b f =
             let n = write-new i u h in (
@@ -252,14 +252,14 @@ module _ (n k m : ℕ) (W : List ℕ) (ss : Sessions) (b : Bool) (e : b ≡ leng
   pub answered-1 : (c : Call) → b ≡ true → 15 < sessionOf c → Answered c n k m W ss (record { answer = Refused 1; sessions = ss })
   answered-1 c h l vs cs L i j q = refused-1 (storeOn vs cs L W ss) b (fits vs cs L i j q) c h l
 
-  pub any-sized : (s : ℕ) → b ≡ true → s ≤ 15 → (vs cs : List ℕ) (L : List Lock) → length vs ≡ n → length cs ≡ k → length L ≡ m → Sized (storeOn vs cs L W ss) s
+  pub any-sized : (s : ℕ) → b ≡ true → s ≤ 15 → (vs cs : List ℕ) (L : List Lock) → length vs ≡ n → length cs ≡ k → length L ≡ m → LengthsFit (storeOn vs cs L W ss) s
   any-sized s h l vs cs L i j q = sized (storeOn vs cs L W ss) b (fits vs cs L i j q) s h l
 
   -- one such store, for what depends on the lengths alone
   abbrev pub plainly : Store
   plainly = storeOn (replicate n 0) (replicate k 0) (replicate m free) W ss
 
-  pub plain-sized : (s : ℕ) → b ≡ true → s ≤ 15 → Sized plainly s
+  pub plain-sized : (s : ℕ) → b ≡ true → s ≤ 15 → LengthsFit plainly s
   plain-sized s h l = any-sized s h l (replicate n 0) (replicate k 0) (replicate m free) (length-replicate n 0) (length-replicate k 0) (length-replicate m free)
 
   pub plain-part : (s : ℕ) → b ≡ true → s ≤ 15 → 128 * s + 128 ≤ length W

@@ -4,7 +4,7 @@ use Prim.Native.Nat.{ℕ, zero, suc, _≤_, _<_}
 use mathlib.Core.Bool.{cond}
 use mathlib.Core.List.{List, [], _∷_}
 use lib.ListN.{length, getD, set}
-use Rattle.model.specs.Buffers.{Locks, Store, free, cellAt, publishesIn, join, leave, vacate, withdraw, claim, own}
+use Rattle.model.specs.Buffers.{Locks, Store, free, logIn, cellAt, publishesIn, join, leave, vacate, withdraw, claim, acquire}
 use Rattle.model.specs.declared.Lock.{Lock}
 use Rattle.model.specs.declared.Sessions.{Sessions}
 use Rattle.lockrun.specs.declared.Change.{Change}
@@ -49,8 +49,8 @@ cellOf logs (Join s c) i = c
 cellOf logs (Claim s c) i = c
 cellOf logs (Acquire s c) i = c
 cellOf logs (Vacate s c) i = c
-cellOf logs (Withdraw s m) i = cellAt logs s i
-cellOf logs (Leave s m) i = cond (publishesIn logs s m (cellAt logs s i)) 1024 (cellAt logs s i)
+cellOf logs (Withdraw s m) i = cellAt (logIn logs s) i
+cellOf logs (Leave s m) i = let c = cellAt (logIn logs s) i in cond (publishesIn (logIn logs s) m c) 1024 c
 cellOf logs (Clear n) i = i
 
 -- what becomes of a lock
@@ -58,7 +58,7 @@ unfoldable pub changeOf : Change → Lock → Lock
 changeOf Keep l = l
 changeOf (Join s c) l = join s l
 changeOf (Claim s c) l = claim s l
-changeOf (Acquire s c) l = own s l
+changeOf (Acquire s c) l = acquire s l
 changeOf (Vacate s c) l = vacate s l
 changeOf (Withdraw s m) l = withdraw s l
 changeOf (Leave s m) l = leave s l

@@ -5,9 +5,10 @@ use mathlib.Core.Bool.{cond}
 use mathlib.Core.List.{List}
 use lib.Dec.{ltb}
 use lib.ListN.{length}
-use denote.Ref.{RefT}
-use Rattle.model.specs.Buffers.{sessionAt, cellAt, logIn, lengthsMatch}
-use Rattle.model.specs.Step.{outcome, effect, setUpEffect, planOf, shown}
+use denote.Ref.{RefT, now}
+use denote.Triple.Both.{Both}
+use Rattle.model.specs.Buffers.{Store, sessionAt, cellAt, logIn, lengthsMatch}
+use Rattle.model.specs.Step.{outcome, effect, setUpEffect, planOf, peekShows}
 use Rattle.model.specs.declared.Lock.{Lock}
 use Rattle.model.specs.declared.Sessions.{Sessions}
 use Rattle.model.specs.declared.Reply.{Reply}
@@ -18,7 +19,7 @@ use Rattle.model.specs.declared.Call.the-variants.{Begin, Read, Write, Seal, Ad
 use Rattle.decide.specs.declared.Due.{Due}
 use Rattle.decide.specs.declared.Due.the-variants.{Refused, Slot}
 use Rattle.decide.specs.Pieces.{dueOn}
-use Rattle.store.specs.Lent.{Handed}
+use Rattle.store.specs.Lent.{Slice, IsPart}
 use Rattle.lockrun.specs.declared.Change.the-variants.{Keep}
 use Rattle.lockrun.specs.declared.Look.{Look}
 use Rattle.lockrun.specs.declared.Turn.{Turn}
@@ -29,12 +30,12 @@ use Rattle.lockrun.specs.Run.{storeOn, lockIn, sweptBy, Fits}
 -- the entry that an advance of session s handles, or its refusal: n values, k classes, m locks
 unfoldable pub dueIn : Sessions → ℕ → ℕ → ℕ → List ℕ → ℕ → Due
 dueIn ss n k m logs s =
-    cond (lengthsMatch n k m m m (length logs)) (cond (ltb s 16) (dueOn n (part logs s) (sessionAt ss s)) (Refused 1)) (Refused 7)
+    cond (lengthsMatch n k m m m (length logs)) (cond (ltb s 16) (dueOn n (logIn logs s) (sessionAt ss s)) (Refused 1)) (Refused 7)
 
 -- the cell of that entry
 unfoldable pub cellDue : List ℕ → ℕ → Due → ℕ
 cellDue logs s (Refused k) = 0
-cellDue logs s (Slot k) = cellAt logs s k
+cellDue logs s (Slot k) = cellAt (logIn logs s) k
 
 -- an entry that was found is one of 32, of one of sixteen sessions, in logs of 2,048 words
 abbrev pub Found : List ℕ → ℕ → Due → Type 0
@@ -93,4 +94,37 @@ Peeks n k m logs sessions s c p =
 abbrev pub HandsBack : RefT (List ℕ) → ℕ → ℕ → RefT (List ℕ) → Sessions → ℕ → ℕ → RefT (List ℕ) → Type 0
 HandsBack values k m logs sessions s c r =
     (classes : List ℕ) (L : List Lock) → length classes ≡ k → length L ≡ m
-    → Handed values logs (shown s (planOf (Peek s c) (storeOn (values .now) classes L (logs .now) sessions))) r
+    → IsPart values logs (peekShows s c (storeOn (values .now) classes L (logs .now) sessions)) r
+
+-- ---- contracts, over the parameters whole
+
+-- a lent run, as it is passed and as it is left
+abbrev pub LockSlice : Type 0
+LockSlice = Both (RefT (List Lock)) (RefT (List Lock))
+
+-- the store that a call is given, and the store that it leaves
+abbrev pub given : Slice → Slice → LockSlice → Slice → Sessions → Store
+given values classes locks logs sessions =
+    storeOn (now (values .entry)) (now (classes .entry)) (now (locks .entry)) (now (logs .entry)) sessions
+
+abbrev pub left : Slice → Slice → LockSlice → Slice → Sessions → Store
+left values classes locks logs sessions =
+    storeOn (now (values .exit)) (now (classes .exit)) (now (locks .exit)) (now (logs .exit)) sessions
+
+-- call k answers and leaves what the model says; and so does set-up
+abbrev pub Takes : Call → Slice → Slice → LockSlice → Slice → Sessions → Reply → Type 0
+Takes k values classes locks logs sessions r =
+    outcome (r .answer) (left values classes locks logs (r .sessions)) ≡ effect k (given values classes locks logs sessions)
+
+abbrev pub SetsUp : Slice → Slice → LockSlice → Slice → Sessions → Reply → Type 0
+SetsUp values classes locks logs sessions r =
+    outcome (r .answer) (left values classes locks logs (r .sessions)) ≡ setUpEffect (given values classes locks logs sessions)
+
+-- the same of the covered part of a call, which sees m locks and that of cell c; and of set-up's
+abbrev pub TakesTurn : Call → Slice → Slice → ℕ → ℕ → Lock → Slice → Sessions → Turn → Type 0
+TakesTurn k values classes m c l logs sessions r =
+    Turned k (now (values .entry)) (now (classes .entry)) m c l (now (logs .entry)) sessions (now (values .exit)) (now (logs .exit)) r
+
+abbrev pub TakesSetUpTurn : Slice → Slice → ℕ → Slice → Sessions → Turn → Type 0
+TakesSetUpTurn values classes m logs sessions r =
+    SetUp (now (values .entry)) (now (classes .entry)) m (now (logs .entry)) sessions (now (logs .exit)) r

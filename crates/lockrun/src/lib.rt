@@ -3,14 +3,14 @@
 ghost use mathlib.Core.Path.{_≡_};
 ghost use Prim.Native.Nat.{_+_, _*_, _<_, _≤_};
 ghost use lib.ListN.{length};
-ghost use Rattle.model.specs.Buffers.{cellAt};
-ghost use Rattle.model.specs.Step.{outcome, effect, setUpEffect, planOf, shown};
+ghost use Rattle.model.specs.Buffers.{logIn, cellAt};
+ghost use Rattle.model.specs.Step.{peekShows};
 ghost use Rattle.model.specs.declared.Call.the-variants.{Begin, Read, Write, Seal, Advance, Abandon, Peek};
 ghost use Rattle.decide.specs.declared.Due.the-variants.{Slot};
 ghost use Rattle.lockrun.specs.declared.Change.the-variants.{Leave};
-ghost use Rattle.store.specs.Lent.{Handed};
-ghost use Rattle.lockrun.specs.Run.{storeOn, lockIn, turnsOf, cellOf, changeOf, changedAt, sweptBy, Known, Fits};
-ghost use Rattle.lockrun.specs.Turns.{keeps, tells, dueIn, cellDue, Found, lookAt, lookOf, Turned, Answered, SetUp, Peeks, HandsBack};
+ghost use Rattle.store.specs.Lent.{IsPart};
+ghost use Rattle.lockrun.specs.Run.{lockIn, turnsOf, cellOf, changeOf, changedAt, sweptBy, Known, Fits};
+ghost use Rattle.lockrun.specs.Turns.{keeps, tells, dueIn, cellDue, Found, lookAt, lookOf, Answered, Peeks, HandsBack, given, Takes, SetsUp, TakesTurn, TakesSetUpTurn};
 use decide::Due;
 use model::Answer;
 use model::Call;
@@ -52,7 +52,7 @@ fn turns(change: Change) -> usize
 // The cell of entry i of a session.
 fn entry_cell(logs: &[u32], session: u8, i: usize) -> usize
     requires { ⌜ (session < 16) × (i < 32) × (length (now logs) ≡ 2048) ⌝ }
-    ensures { λ r. ⌜ r ≡ cellAt (now (logs .entry)) session i ⌝ }
+    ensures { λ r. ⌜ r ≡ cellAt (logIn (now (logs .entry)) session) i ⌝ }
 {
     let a = 128 * (session as usize);
     let e = a + 128;
@@ -199,7 +199,7 @@ fn set_up_turn(
     locks: usize,
     logs: &mut [u32],
 ) -> Turn
-    ensures { λ r. ⌜ SetUp (now (values .entry)) (now (classes .entry)) locks (now (logs .entry)) sessions (now (logs .exit)) r ⌝ }
+    ensures { λ r. ⌜ TakesSetUpTurn values classes locks logs sessions r ⌝ }
 {
     let n = values.len();
     if !decide::lengths_fit(n, classes.len(), locks, locks, locks, logs.len()) {
@@ -275,7 +275,7 @@ fn read_turn(
     session: u8,
     cell: u32,
 ) -> Turn
-    ensures { λ r. ⌜ Turned (Read session cell) (now (values .entry)) (now (classes .entry)) locks cell l (now (logs .entry)) sessions (now (values .entry)) (now (logs .exit)) r ⌝ }
+    ensures { λ r. ⌜ TakesTurn (Read session cell) values classes locks cell l logs sessions r ⌝ }
 {
     let n = values.len();
     if !decide::lengths_fit(n, classes.len(), locks, locks, locks, logs.len()) {
@@ -332,7 +332,7 @@ fn write_turn(
     cell: u32,
     value: u32,
 ) -> Turn
-    ensures { λ r. ⌜ Turned (Write session cell value) (now (values .entry)) (now (classes .entry)) locks cell l (now (logs .entry)) sessions (now (values .entry)) (now (logs .exit)) r ⌝ }
+    ensures { λ r. ⌜ TakesTurn (Write session cell value) values classes locks cell l logs sessions r ⌝ }
 {
     if !decide::lengths_fit(values.len(), classes.len(), locks, locks, locks, logs.len()) {
         return kept(sessions, Answer::Refused(7));
@@ -388,7 +388,7 @@ fn seal_turn(
     logs: &[u32],
     session: u8,
 ) -> Turn
-    ensures { λ r. ⌜ Turned (Seal session) (now (values .entry)) (now (classes .entry)) locks 0 l (now (logs .entry)) sessions (now (values .entry)) (now (logs .entry)) r ⌝ }
+    ensures { λ r. ⌜ TakesTurn (Seal session) values classes locks 0 l logs sessions r ⌝ }
 {
     let n = values.len();
     if !decide::lengths_fit(n, classes.len(), locks, locks, locks, logs.len()) {
@@ -464,7 +464,7 @@ fn advance_at(
     k: u32,
 ) -> Turn
     requires { ⌜ Slot k ≡ dueIn sessions (length (now values)) (length (now classes)) locks (now logs) session ⌝ }
-    ensures { λ r. ⌜ Turned (Advance session) (now (values .entry)) (now (classes .entry)) locks (cellAt (now (logs .entry)) session k) l (now (logs .entry)) sessions (now (values .exit)) (now (logs .entry)) r ⌝ }
+    ensures { λ r. ⌜ TakesTurn (Advance session) values classes locks (cellAt (logIn (now (logs .entry)) session) k) l logs sessions r ⌝ }
 {
     let i = session as usize;
     let a = 128 * i;
@@ -531,7 +531,7 @@ fn advance_turn(
     entry: Due,
 ) -> Turn
     requires { ⌜ entry ≡ dueIn sessions (length (now values)) (length (now classes)) locks (now logs) session ⌝ }
-    ensures { λ r. ⌜ Turned (Advance session) (now (values .entry)) (now (classes .entry)) locks (cellDue (now (logs .entry)) session entry) l (now (logs .entry)) sessions (now (values .exit)) (now (logs .entry)) r ⌝ }
+    ensures { λ r. ⌜ TakesTurn (Advance session) values classes locks (cellDue (now (logs .entry)) session entry) l logs sessions r ⌝ }
 {
     match entry {
         Due::Refused(number) => kept(sessions, Answer::Refused(number)),
@@ -549,7 +549,7 @@ fn abandon_turn(
     logs: &[u32],
     session: u8,
 ) -> Turn
-    ensures { λ r. ⌜ Turned (Abandon session) (now (values .entry)) (now (classes .entry)) locks 0 l (now (logs .entry)) sessions (now (values .entry)) (now (logs .entry)) r ⌝ }
+    ensures { λ r. ⌜ TakesTurn (Abandon session) values classes locks 0 l logs sessions r ⌝ }
 {
     let n = values.len();
     if !decide::lengths_fit(n, classes.len(), locks, locks, locks, logs.len()) {
@@ -726,7 +726,7 @@ fn take_turn(
     logs: &mut [u32],
 ) -> Turn
     requires { ⌜ look ≡ lookOf call sessions (length (now values)) (length (now classes)) locks (now logs) ⌝ }
-    ensures { λ r. ⌜ Turned call (now (values .entry)) (now (classes .entry)) locks (look .cell) l (now (logs .entry)) sessions (now (values .exit)) (now (logs .exit)) r ⌝ }
+    ensures { λ r. ⌜ TakesTurn call values classes locks (look .cell) l logs sessions r ⌝ }
 {
     let entry = look.due;
     match call {
@@ -765,7 +765,7 @@ pub fn set_up(
     locks: &mut [Lock],
     logs: &mut [u32],
 ) -> Reply
-    ensures { λ r. ⌜ outcome (r .answer) (storeOn (now (values .entry)) (now (classes .entry)) (now (locks .exit)) (now (logs .exit)) (r .sessions)) ≡ setUpEffect (storeOn (now (values .entry)) (now (classes .entry)) (now (locks .entry)) (now (logs .entry)) sessions) ⌝ }
+    ensures { λ r. ⌜ SetsUp values classes locks logs sessions r ⌝ }
 {
     let t = set_up_turn(sessions, values, classes, locks.len(), logs);
     sweep(locks, logs, t.change);
@@ -781,7 +781,7 @@ pub fn step(
     locks: &mut [Lock],
     logs: &mut [u32],
 ) -> Reply
-    ensures { λ r. ⌜ outcome (r .answer) (storeOn (now (values .exit)) (now (classes .entry)) (now (locks .exit)) (now (logs .exit)) (r .sessions)) ≡ effect call (storeOn (now (values .entry)) (now (classes .entry)) (now (locks .entry)) (now (logs .entry)) sessions) ⌝ }
+    ensures { λ r. ⌜ Takes call values classes locks logs sessions r ⌝ }
 {
     let at = look_up(
         call,
@@ -806,7 +806,7 @@ pub fn begin(
     logs: &[u32],
     session: u8,
 ) -> Reply
-    ensures { λ r. ⌜ outcome (r .answer) (storeOn (now (values .entry)) (now (classes .entry)) (now (locks .entry)) (now (logs .entry)) (r .sessions)) ≡ effect (Begin session) (storeOn (now (values .entry)) (now (classes .entry)) (now (locks .entry)) (now (logs .entry)) sessions) ⌝ }
+    ensures { λ r. ⌜ Takes (Begin session) values classes locks logs sessions r ⌝ }
 {
     begin_turn(
         sessions,
@@ -828,7 +828,7 @@ pub fn read(
     session: u8,
     cell: u32,
 ) -> Reply
-    ensures { λ r. ⌜ outcome (r .answer) (storeOn (now (values .exit)) (now (classes .entry)) (now (locks .exit)) (now (logs .exit)) (r .sessions)) ≡ effect (Read session cell) (storeOn (now (values .entry)) (now (classes .entry)) (now (locks .entry)) (now (logs .entry)) sessions) ⌝ }
+    ensures { λ r. ⌜ Takes (Read session cell) values classes locks logs sessions r ⌝ }
 {
     step(
         Call::Read(session, cell),
@@ -851,7 +851,7 @@ pub fn write(
     cell: u32,
     value: u32,
 ) -> Reply
-    ensures { λ r. ⌜ outcome (r .answer) (storeOn (now (values .exit)) (now (classes .entry)) (now (locks .exit)) (now (logs .exit)) (r .sessions)) ≡ effect (Write session cell value) (storeOn (now (values .entry)) (now (classes .entry)) (now (locks .entry)) (now (logs .entry)) sessions) ⌝ }
+    ensures { λ r. ⌜ Takes (Write session cell value) values classes locks logs sessions r ⌝ }
 {
     step(
         Call::Write(session, cell, value),
@@ -872,7 +872,7 @@ pub fn seal(
     logs: &mut [u32],
     session: u8,
 ) -> Reply
-    ensures { λ r. ⌜ outcome (r .answer) (storeOn (now (values .exit)) (now (classes .entry)) (now (locks .exit)) (now (logs .exit)) (r .sessions)) ≡ effect (Seal session) (storeOn (now (values .entry)) (now (classes .entry)) (now (locks .entry)) (now (logs .entry)) sessions) ⌝ }
+    ensures { λ r. ⌜ Takes (Seal session) values classes locks logs sessions r ⌝ }
 {
     step(Call::Seal(session), sessions, values, classes, locks, logs)
 }
@@ -886,7 +886,7 @@ pub fn advance(
     logs: &mut [u32],
     session: u8,
 ) -> Reply
-    ensures { λ r. ⌜ outcome (r .answer) (storeOn (now (values .exit)) (now (classes .entry)) (now (locks .exit)) (now (logs .exit)) (r .sessions)) ≡ effect (Advance session) (storeOn (now (values .entry)) (now (classes .entry)) (now (locks .entry)) (now (logs .entry)) sessions) ⌝ }
+    ensures { λ r. ⌜ Takes (Advance session) values classes locks logs sessions r ⌝ }
 {
     step(
         Call::Advance(session),
@@ -907,7 +907,7 @@ pub fn abandon(
     logs: &mut [u32],
     session: u8,
 ) -> Reply
-    ensures { λ r. ⌜ outcome (r .answer) (storeOn (now (values .exit)) (now (classes .entry)) (now (locks .exit)) (now (logs .exit)) (r .sessions)) ≡ effect (Abandon session) (storeOn (now (values .entry)) (now (classes .entry)) (now (locks .entry)) (now (logs .entry)) sessions) ⌝ }
+    ensures { λ r. ⌜ Takes (Abandon session) values classes locks logs sessions r ⌝ }
 {
     step(
         Call::Abandon(session),
@@ -929,7 +929,7 @@ pub fn peek<'a>(
     session: u8,
     cell: u32,
 ) -> &'a [u32]
-    ensures { λ r. ⌜ Handed (values .entry) (logs .entry) (shown session (planOf (Peek session cell) (storeOn (now (values .entry)) (now (classes .entry)) (now (locks .entry)) (now (logs .entry)) sessions))) r ⌝ }
+    ensures { λ r. ⌜ IsPart (values .entry) (logs .entry) (peekShows session cell (given values classes locks logs sessions)) r ⌝ }
 {
     peek_part(
         sessions,
@@ -952,7 +952,7 @@ pub fn peek_number(
     session: u8,
     cell: u32,
 ) -> Reply
-    ensures { λ r. ⌜ outcome (r .answer) (storeOn (now (values .entry)) (now (classes .entry)) (now (locks .entry)) (now (logs .entry)) (r .sessions)) ≡ effect (Peek session cell) (storeOn (now (values .entry)) (now (classes .entry)) (now (locks .entry)) (now (logs .entry)) sessions) ⌝ }
+    ensures { λ r. ⌜ Takes (Peek session cell) values classes locks logs sessions r ⌝ }
 {
     peek_turn(
         sessions,
