@@ -24,12 +24,12 @@ use Rattle.decide.specs.declared.Due.{Due}
 use Rattle.decide.specs.declared.Due.the-variants.{Refused, Slot}
 use Rattle.decide.specs.declared.Handled.{Handled}
 use Rattle.decide.proofs.Agree.{due-known}
-use Rattle.store.specs.Lent.{outcomeOf, LengthsFit, EntriesFit}
+use Rattle.store.specs.Lent.{outcomeOf, atEntry, LengthsFit, EntriesFit}
 use Rattle.store.proofs.Carry.{carries, carry-roll-back}
 use Rattle.store.proofs.Refusals.{refused-7, refused-1, lengths-of}
 use Rattle.store.proofs.Parts.{cut, cut-is, part-fits, can-decide}
 use Rattle.store.proofs.Tags.{Passed}
-use Rattle.store.proofs.Advances.{atEntry, due-refused, due-planned, due-carried, due-admits, Decided, cell-inside, can-handle, leaves-waiting, leaves-owned, leaves-published, leaves-released}
+use Rattle.store.proofs.Advances.{due-refused, due-planned, due-carried, due-admits, Decided, cell-inside, can-handle, leaves-waiting, leaves-acquired, leaves-published, leaves-released}
 use Rattle.lockrun.specs.declared.Change.the-variants.{Keep, Claim, Acquire, Vacate, Withdraw}
 use Rattle.lockrun.specs.declared.Turn.{Turn}
 use Rattle.lockrun.specs.Run.{apart, storeOn, lockIn, turnsOf, cellOf, changeOf, swept, sweptBy}
@@ -188,7 +188,7 @@ module _ (vs cs W : List ℕ) (ss : Sessions) (m s : ℕ) where
           module _ (h : Handled) (d : h ≡ handledOn (cut W s) x c) where
             owned : (i : ℕ) → p ≡ plans.Acquire i → outcome (h .answer) (storeOn vs cs (sweptBy W (Acquire s c) L) W (record { records = set (ss .records) s (h .session) })) ≡ effect (Advance s) σ
             unfolding turnsOf swept cellOf changeOf sessionAt
-            owned i f = leaves-owned decided h d i f (acquire s l) (apart (sweptBy W (Acquire s c) L)) refl (put (acquire s)) ∙ finish
+            owned i f = leaves-acquired decided h d i f (acquire s l) (apart (sweptBy W (Acquire s c) L)) refl (put (acquire s)) ∙ finish
 
             published : (i v : ℕ) → p ≡ Publish i v → outcome (h .answer) (storeOn (set vs c v) cs (sweptBy W Keep L) W (record { records = set (ss .records) s (h .session) })) ≡ effect (Advance s) σ
             unfolding turnsOf swept sessionAt

@@ -11,7 +11,7 @@ use base.Fml.{GName}
 use denote.Ref.{RefT}
 use lib.Dec.{eqb}
 use lib.ListN.{length, getD, set, replicate, length-replicate, length-set}
-use Rattle.model.specs.Buffers.{Store, free, idle, running, size, sessionAt, withEntry, moveTo, logIn, onLog, entryAt, appended, updated, lengthsMatch}
+use Rattle.model.specs.Buffers.{Store, free, idle, running, size, sessionAt, withEntry, moveTo, logIn, entryAt, appended, updated, lengthsMatch}
 use Rattle.model.specs.Step.{effect, planOf, sessionOf, recordOf, rolledBack, readsDropped, recordFits, readPlan, writePlan, sealPlan, peekPlan}
 use Rattle.model.specs.declared.Session.{Session}
 use Rattle.model.specs.declared.Sessions.{Sessions}
@@ -22,25 +22,30 @@ use Rattle.model.specs.declared.Answer.{Answer}
 use Rattle.model.specs.declared.Answer.the-variants.{Done, Value, Sealed, Committed, Refused}
 use Rattle.model.specs.declared.Plan.{Plan}
 use Rattle.model.specs.declared.Plan.the-variants.{Refuse, Tell, Enter, Update, EnterUpdate, RollBack, Cancel, CommitReads, BeginPromotion, ShowStore, ShowLog}
+use Rattle.model.proofs.Laws.{log-length, length-on}
 use Rattle.decide.specs.Pieces.{tested}
 use Rattle.decide.proofs.Ways.{Entries}
-use Rattle.decide.proofs.Agree.{abandon-passes}
 use Rattle.store.specs.Lent.{LengthsFit}
-use Rattle.store.proofs.Carry.{carries, carry-refuse, carry-roll-back, carry-cancel, carry-commit-reads, carry-begin-promotion}
+use Rattle.store.proofs.Carry.{carries, carry-refuse, carry-roll-back, carry-commit-reads, carry-begin-promotion}
 use Rattle.store.proofs.Refusals.{refused-7, refused-1, fit-is, plan-7, plan-1, sized, lengths-of}
-use Rattle.store.proofs.Parts.{cut, cut-is, puts, part-long, part-fits, can-decide}
+use Rattle.store.proofs.Parts.{cut, cut-is, puts, put-is, part-long, part-fits, can-decide}
 use Rattle.store.proofs.Peeks.{peek-planned, peek-inside, peek-logged, peek-refused, peek-done, hands-store, hands-log, hands-nothing}
 use Rattle.store.proofs.Tags.{Passed}
 use Rattle.store.proofs.Choices.{Choice, read-choice, write-choice, when-new, when-left, when-known}
 use Rattle.store.proofs.Entering.{Decided, OfRead, OfWrite, read-decided, write-decided, refused, read-told, read-entered, write-updated, write-entered}
 use Rattle.store.proofs.Seals.{seal-planned, seal-entries, seal-begins}
-use Rattle.store.proofs.Tested.{begin-refused, begin-starts, abandon-refused, abandon-entries}
+use Rattle.store.proofs.Tested.{begin-refused, begin-starts, abandon-refused, abandon-entries, abandon-cancels}
 use Rattle.lockrun.specs.declared.Change.{Change}
 use Rattle.lockrun.specs.declared.Change.the-variants.{Join, Withdraw, Leave}
 use Rattle.lockrun.specs.declared.Turn.{Turn}
 use Rattle.lockrun.specs.Run.{apart, storeOn, lockIn, turnsOf, swept, sweptBy}
 use Rattle.lockrun.specs.Turns.{keeps, Turned, Answered, Peeks, HandsBack}
 use Rattle.lockrun.proofs.Changes.{each-length, apart-at, joins, withdraws, leaves}
+
+-- the logs stay as long where the log that is put back is 128 words
+still : (W : List ℕ) (s : ℕ) → length W ≡ 2048 → s < 16 → (f : List ℕ → List ℕ) (P : List ℕ) → P ≡ f (cut W s) → length (f (logIn W s)) ≡ 128
+    → length (puts W s P) ≡ length W
+still W s long low f P e k = ap length (put-is W s f P e) ∙ length-on s W low long f k
 
 -- ---- refusals 7 and 1, and what is known past them
 
@@ -155,8 +160,8 @@ module _ (vs cs W : List ℕ) (ss : Sessions) (m s : ℕ) (z : AllSized vs cs W 
         long : length (puts W s P) ≡ 2048
         unfolding appended
         long =
-            let n = write-new i u h in
-            ap length (put-appended W s words (one-sized .session) P (x .count) c (getD vs c 0) (n .1) a) ∙ simp length-set words
+            let low = one-sized .session in
+            still W s words low (λ log. appended log (x .count) c (getD vs c 0)) P a (simp length-set (log-length W s low words)) ∙ words
 
         pub write-part : 128 * s + 128 ≤ length (puts W s P)
         write-part = let w = long in let y = one-sized .session in omega arith
@@ -167,7 +172,8 @@ module _ (vs cs W : List ℕ) (ss : Sessions) (m s : ℕ) (z : AllSized vs cs W 
         pub write-still : (Q : List ℕ) → Q ≡ updated (cut (puts W s P) s) (x .count) u → length (puts (puts W s P) s Q) ≡ length W
         unfolding updated
         write-still Q b =
-            ap length (put-updated (puts W s P) s long (one-sized .session) Q (x .count) u (write-new i u h .1) b) ∙ simp length-set (long ∙ sym words)
+            let low = one-sized .session in
+            still (puts W s P) s long low (λ log. updated log (x .count) u) Q b (simp length-set (log-length (puts W s P) s low long)) ∙ long ∙ sym words
 
         pub write-enters : (Q : List ℕ) (y : Session) → Q ≡ updated (cut (puts W s P) s) (x .count) u → y ≡ withEntry x
             → Turned (Write s c v) vs cs m c l W ss vs (puts (puts W s P) s Q) (ends Done y (Join s c))
@@ -215,12 +221,10 @@ module _ (vs cs W : List ℕ) (ss : Sessions) (m s : ℕ) (z : AllSized vs cs W 
     abandon-turned h t f = rw f (tt, λ L q g. abandon-refused (storeOn vs cs L W ss) s (z L q) r e h)
 
     pub abandons : r ≡ 0 → (y : Session) → y ≡ idle → Turned (Abandon s) vs cs m 0 l W ss vs W (ends Done y (Withdraw s (x .count)))
-    unfolding planOf size sessionAt
     abandons o y f =
         let few = abandon-entries (storeOn vs cs (replicate m free) W ss) s one-sized r e o .count in (
           (one-sized .session, few, words),
-          λ L q g. carry-cancel s (storeOn vs cs L W ss) (apart (sweptBy W (Withdraw s (x .count)) L)) y (back L) f
-              ∙ carries (Abandon s) (storeOn vs cs L W ss) Cancel (abandon-passes (storeOn vs cs L W ss .lent) s x (z L q .lengths) (z L q .session) (sym (rw cut-is at e) ∙ o)),
+          λ L q g. abandon-cancels (storeOn vs cs L W ss) s (z L q) r e o (apart (sweptBy W (Withdraw s (x .count)) L)) y (withdraws W s (x .count) L ∙ rw cut-is) f,
         )
 
 -- ---- read and write that are turned down or rolled back: the plan p of call k, decided of every run
