@@ -1,4 +1,4 @@
--- The cell of a turn, as the code finds it in the session's part of the logs.
+-- The cell whose lock is changed i-th, as the code finds it in the session's log.
 use mathlib.Core.Path.{_≡_, sym, ap, _∙_}
 use mathlib.Core.Bool.{Bool, true, false}
 use mathlib.Core.Option.{some}
@@ -14,18 +14,18 @@ use Rattle.log.proofs.Targets.{slot-some, slot-none}
 use Rattle.store.proofs.Parts.{cut, cut-is, part-long}
 use Rattle.lockrun.specs.declared.Change.{Change}
 use Rattle.lockrun.specs.declared.Change.the-variants.{Withdraw, Leave}
-use Rattle.lockrun.specs.Run.{Fits, turnsOf, cellOf}
+use Rattle.lockrun.specs.Run.{ChangeFits, countOf, cellOf}
 
--- what a change through entries says of its turn i
-pub withdraw-fits : (W : List ℕ) (d : Change) (s m i : ℕ) → d ≡ Withdraw s m → Fits W d → i < turnsOf d → (s < 16) × (i < 32) × (length W ≡ 2048)
-unfolding turnsOf
+-- what a change through entries says of its i-th lock
+pub withdraw-fits : (W : List ℕ) (d : Change) (s m i : ℕ) → d ≡ Withdraw s m → ChangeFits W d → i < countOf d → (s < 16) × (i < 32) × (length W ≡ 2048)
+unfolding countOf
 withdraw-fits W d s m i e f l = let g = rw e at f in let h = rw e at l in let k = g .1 in (g .0, omega arith, g .2)
 
-pub leave-fits : (W : List ℕ) (d : Change) (s m i : ℕ) → d ≡ Leave s m → Fits W d → i < turnsOf d → (s < 16) × (m ≤ 32) × (i < m) × (length W ≡ 2048)
-unfolding turnsOf
+pub leave-fits : (W : List ℕ) (d : Change) (s m i : ℕ) → d ≡ Leave s m → ChangeFits W d → i < countOf d → (s < 16) × (m ≤ 32) × (i < m) × (length W ≡ 2048)
+unfolding countOf
 leave-fits W d s m i e f l = let g = rw e at f in let h = rw e at l in (g .0, g .1, h, g .2)
 
--- entry i of session s, of m: its cell c as the part has it, and the place k of the cell's first entry there
+-- entry i of session s, of m: its cell c as the code reads it, and the place k of the cell's first entry there
 module _ (W : List ℕ) (s m i : ℕ) (long : length W ≡ 2048) (low : s < 16) (few : m ≤ 32) (mine : i < m) (c : ℕ) (cell : c ≡ cellAt (cut W s) i) (k : ℕ) (first : found m k ≡ slotIn (cut W s) m c) where
   -- the cell is found: its own entry is one of m
   there : slotIn (cut W s) m c ≡ some k

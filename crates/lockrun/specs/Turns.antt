@@ -1,4 +1,4 @@
--- What the covered part of a call sees of the run is its length and one lock. So what it ensures, it ensures of every run of that length with that lock.
+-- What the covered code of a call sees of the run is its length and one lock. So what it ensures, it ensures of every run of that length with that lock.
 use mathlib.Core.Path.{_≡_}
 use Prim.Native.Nat.{ℕ, _<_}
 use mathlib.Core.Bool.{cond}
@@ -6,8 +6,7 @@ use mathlib.Core.List.{List}
 use lib.Dec.{ltb}
 use lib.ListN.{length}
 use denote.Ref.{RefT, now}
-use denote.Triple.Both.{Both}
-use Rattle.model.specs.Buffers.{Store, sessionAt, cellAt, logIn, lengthsMatch}
+use Rattle.model.specs.Buffers.{sessionAt, cellAt, logIn, lengthsMatch}
 use Rattle.model.specs.Step.{outcome, effect, setUpEffect, planOf, peekShows}
 use Rattle.model.specs.declared.Lock.{Lock}
 use Rattle.model.specs.declared.Sessions.{Sessions}
@@ -23,7 +22,7 @@ use Rattle.store.specs.Lent.{Slice, IsPart}
 use Rattle.lockrun.specs.declared.Change.the-variants.{Keep}
 use Rattle.lockrun.specs.declared.Look.{Look}
 use Rattle.lockrun.specs.declared.Turn.{Turn}
-use Rattle.lockrun.specs.Run.{storeOn, lockIn, sweptBy, Fits}
+use Rattle.lockrun.specs.Run.{storeOn, lockIn, sweptBy, ChangeFits}
 
 -- ---- what is looked at
 
@@ -38,10 +37,11 @@ cellDue logs s (Refused k) = 0
 cellDue logs s (Slot k) = cellAt (logIn logs s) k
 
 -- an entry that was found is one of 32, of one of sixteen sessions, in logs of 2,048 words
-abbrev pub Found : List ℕ → ℕ → Due → Type 0
-Found logs s (Refused k) = Unit
-Found logs s (Slot k) = (s < 16) × (k < 32) × (length logs ≡ 2048)
+abbrev pub DueFits : List ℕ → ℕ → Due → Type 0
+DueFits logs s (Refused k) = Unit
+DueFits logs s (Slot k) = (s < 16) × (k < 32) × (length logs ≡ 2048)
 
+-- what an advance looks at, by the entry; and what any call looks at
 unfoldable pub lookAt : List ℕ → ℕ → Due → Look
 lookAt logs s d = record { cell = cellDue logs s d; due = d }
 
@@ -56,75 +56,51 @@ lookOf (Peek s c) ss n k m logs = record { cell = 0; due = Refused 0 }
 
 -- ---- what is done
 
--- an answer, and a reply, with the run as it was
-abbrev pub tells : Reply → Turn
-tells r = record { reply = r; change = Keep }
+-- a reply, and an answer with the records as they were: the run stays
+abbrev pub onlyReply : Reply → Turn
+onlyReply r = record { reply = r; change = Keep }
 
-abbrev pub keeps : Sessions → Answer → Turn
-keeps ss a = tells (record { answer = a; sessions = ss })
+abbrev pub onlyAnswer : Sessions → Answer → Turn
+onlyAnswer ss a = onlyReply (record { answer = a; sessions = ss })
 
--- the lock of cell c is l, in a run of m; r is what the call has done to all but the run, and what it does to the run
-abbrev pub Turned : Call → List ℕ → List ℕ → ℕ → ℕ → Lock → List ℕ → Sessions → List ℕ → List ℕ → Turn → Type 0
-Turned call values classes m c l logs sessions values′ logs′ r =
-    (Fits logs′ (r .change))
+-- r has the call's reply and what it does to the run: of every run of m locks with lock l of cell c, that change with values′ and logs′ is what the model leaves
+abbrev pub IsTurn : Call → List ℕ → List ℕ → ℕ → ℕ → Lock → List ℕ → Sessions → List ℕ → List ℕ → Turn → Type 0
+IsTurn call values classes m c l logs sessions values′ logs′ r =
+    (ChangeFits logs′ (r .change))
     × ((L : List Lock) → length L ≡ m → lockIn L c ≡ l
     → outcome (r .reply .answer) (storeOn values′ classes (sweptBy logs′ (r .change) L) logs′ (r .reply .sessions))
     ≡ effect call (storeOn values classes L logs sessions))
 
--- a call that leaves the run, the values and the logs as they are
-abbrev pub Answered : Call → ℕ → ℕ → ℕ → List ℕ → Sessions → Reply → Type 0
-Answered call n k m logs sessions r =
+-- r is the reply of a call that leaves the run, the values and the logs as they are: n values, k classes, m locks
+abbrev pub IsReply : Call → ℕ → ℕ → ℕ → List ℕ → Sessions → Reply → Type 0
+IsReply call n k m logs sessions r =
     (values classes : List ℕ) (L : List Lock) → length values ≡ n → length classes ≡ k → length L ≡ m
     → outcome (r .answer) (storeOn values classes L logs (r .sessions)) ≡ effect call (storeOn values classes L logs sessions)
 
 -- set-up
-abbrev pub SetUp : List ℕ → List ℕ → ℕ → List ℕ → Sessions → List ℕ → Turn → Type 0
-SetUp values classes m logs sessions logs′ r =
-    (Fits logs′ (r .change))
+abbrev pub IsSetUpTurn : List ℕ → List ℕ → ℕ → List ℕ → Sessions → List ℕ → Turn → Type 0
+IsSetUpTurn values classes m logs sessions logs′ r =
+    (ChangeFits logs′ (r .change))
     × ((L : List Lock) → length L ≡ m
     → outcome (r .reply .answer) (storeOn values classes (sweptBy logs′ (r .change) L) logs′ (r .reply .sessions))
     ≡ setUpEffect (storeOn values classes L logs sessions))
 
 -- a peek's plan, and its part
-abbrev pub Peeks : ℕ → ℕ → ℕ → List ℕ → Sessions → ℕ → ℕ → Plan → Type 0
-Peeks n k m logs sessions s c p =
+abbrev pub IsPeekPlan : ℕ → ℕ → ℕ → List ℕ → Sessions → ℕ → ℕ → Plan → Type 0
+IsPeekPlan n k m logs sessions s c p =
     (values classes : List ℕ) (L : List Lock) → length values ≡ n → length classes ≡ k → length L ≡ m
     → p ≡ planOf (Peek s c) (storeOn values classes L logs sessions)
 
-abbrev pub HandsBack : RefT (List ℕ) → ℕ → ℕ → RefT (List ℕ) → Sessions → ℕ → ℕ → RefT (List ℕ) → Type 0
-HandsBack values k m logs sessions s c r =
+abbrev pub IsPeekPart : RefT (List ℕ) → ℕ → ℕ → RefT (List ℕ) → Sessions → ℕ → ℕ → RefT (List ℕ) → Type 0
+IsPeekPart values k m logs sessions s c r =
     (classes : List ℕ) (L : List Lock) → length classes ≡ k → length L ≡ m
     → IsPart values logs (peekShows s c (storeOn (values .now) classes L (logs .now) sessions)) r
 
--- ---- contracts, over the parameters whole
-
--- a lent run, as it is passed and as it is left
-abbrev pub LockSlice : Type 0
-LockSlice = Both (RefT (List Lock)) (RefT (List Lock))
-
--- the store that a call is given, and the store that it leaves
-abbrev pub given : Slice → Slice → LockSlice → Slice → Sessions → Store
-given values classes locks logs sessions =
-    storeOn (now (values .entry)) (now (classes .entry)) (now (locks .entry)) (now (logs .entry)) sessions
-
-abbrev pub left : Slice → Slice → LockSlice → Slice → Sessions → Store
-left values classes locks logs sessions =
-    storeOn (now (values .exit)) (now (classes .exit)) (now (locks .exit)) (now (logs .exit)) sessions
-
--- call k answers and leaves what the model says; and so does set-up
-abbrev pub Takes : Call → Slice → Slice → LockSlice → Slice → Sessions → Reply → Type 0
-Takes k values classes locks logs sessions r =
-    outcome (r .answer) (left values classes locks logs (r .sessions)) ≡ effect k (given values classes locks logs sessions)
-
-abbrev pub SetsUp : Slice → Slice → LockSlice → Slice → Sessions → Reply → Type 0
-SetsUp values classes locks logs sessions r =
-    outcome (r .answer) (left values classes locks logs (r .sessions)) ≡ setUpEffect (given values classes locks logs sessions)
-
--- the same of the covered part of a call, which sees m locks and that of cell c; and of set-up's
+-- the same over whole parameters: of a call and of set-up
 abbrev pub TakesTurn : Call → Slice → Slice → ℕ → ℕ → Lock → Slice → Sessions → Turn → Type 0
 TakesTurn k values classes m c l logs sessions r =
-    Turned k (now (values .entry)) (now (classes .entry)) m c l (now (logs .entry)) sessions (now (values .exit)) (now (logs .exit)) r
+    IsTurn k (now (values .entry)) (now (classes .entry)) m c l (now (logs .entry)) sessions (now (values .exit)) (now (logs .exit)) r
 
-abbrev pub TakesSetUpTurn : Slice → Slice → ℕ → Slice → Sessions → Turn → Type 0
-TakesSetUpTurn values classes m logs sessions r =
-    SetUp (now (values .entry)) (now (classes .entry)) m (now (logs .entry)) sessions (now (logs .exit)) r
+abbrev pub SetsUpTurn : Slice → Slice → ℕ → Slice → Sessions → Turn → Type 0
+SetsUpTurn values classes m logs sessions r =
+    IsSetUpTurn (now (values .entry)) (now (classes .entry)) m (now (logs .entry)) sessions (now (logs .exit)) r

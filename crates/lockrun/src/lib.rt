@@ -4,13 +4,12 @@ ghost use mathlib.Core.Path.{_≡_};
 ghost use Prim.Native.Nat.{_+_, _*_, _<_, _≤_};
 ghost use lib.ListN.{length};
 ghost use Rattle.model.specs.Buffers.{logIn, cellAt};
-ghost use Rattle.model.specs.Step.{peekShows};
 ghost use Rattle.model.specs.declared.Call.the-variants.{Begin, Read, Write, Seal, Advance, Abandon, Peek};
 ghost use Rattle.decide.specs.declared.Due.the-variants.{Slot};
 ghost use Rattle.lockrun.specs.declared.Change.the-variants.{Leave};
-ghost use Rattle.store.specs.Lent.{IsPart};
-ghost use Rattle.lockrun.specs.Run.{lockIn, turnsOf, cellOf, changeOf, changedAt, sweptBy, Known, Fits};
-ghost use Rattle.lockrun.specs.Turns.{keeps, tells, dueIn, cellDue, Found, lookAt, lookOf, Answered, Peeks, HandsBack, given, Takes, SetsUp, TakesTurn, TakesSetUpTurn};
+ghost use Rattle.lockrun.specs.Run.{lockIn, countOf, cellOf, changeOf, changedAt, sweptBy, SessionFits, ChangeFits};
+ghost use Rattle.lockrun.specs.Turns.{onlyAnswer, onlyReply, dueIn, cellDue, DueFits, lookAt, lookOf, IsReply, IsPeekPlan, IsPeekPart, TakesTurn, SetsUpTurn};
+ghost use Rattle.lockrun.specs.Lent.{Takes, SetsUp, HandsBack};
 use decide::Due;
 use model::Answer;
 use model::Call;
@@ -33,9 +32,9 @@ pub enum Change {
     Clear(u32),
 }
 
-// How many locks are changed in turn.
-fn turns(change: Change) -> usize
-    ensures { λ r. ⌜ r ≡ turnsOf change ⌝ }
+// How many locks are changed, one after the other.
+fn count_of(change: Change) -> usize
+    ensures { λ r. ⌜ r ≡ countOf change ⌝ }
 {
     match change {
         Change::Keep => 0,
@@ -75,9 +74,9 @@ fn unwritten_cell(logs: &[u32], session: u8, m: u8, i: usize) -> usize
     cell as usize
 }
 
-// The cell of turn i.
+// The cell whose lock is changed i-th, from 0.
 fn cell_of(logs: &[u32], change: Change, i: usize) -> usize
-    requires { ⌜ (Fits (now logs) change) × (i < turnsOf change) ⌝ }
+    requires { ⌜ (ChangeFits (now logs) change) × (i < countOf change) ⌝ }
     ensures { λ r. ⌜ r ≡ cellOf (now (logs .entry)) change i ⌝ }
 {
     match change {
@@ -94,7 +93,7 @@ fn cell_of(logs: &[u32], change: Change, i: usize) -> usize
 
 // What becomes of a lock.
 fn changed(l: Lock, change: Change) -> Lock
-    requires { ⌜ Known change ⌝ }
+    requires { ⌜ SessionFits change ⌝ }
     ensures { λ r. ⌜ r ≡ changeOf change l ⌝ }
 {
     match change {
@@ -132,7 +131,7 @@ fn lock_at(locks: &[Lock], cell: usize) -> Lock
 
 // One lock changed; past the last cell nothing is.
 fn change_at(locks: &mut [Lock], cell: usize, change: Change)
-    requires { ⌜ Known change ⌝ }
+    requires { ⌜ SessionFits change ⌝ }
     ensures { λ _. ⌜ now (locks .exit) ≡ changedAt change cell (now (locks .entry)) ⌝ }
 {
     if cell < locks.len() {
@@ -142,10 +141,10 @@ fn change_at(locks: &mut [Lock], cell: usize, change: Change)
 
 // The change carried out, lock by lock.
 fn sweep<'a>(locks: &'a mut [Lock], logs: &'a [u32], change: Change)
-    requires { ⌜ Fits (now logs) change ⌝ }
+    requires { ⌜ ChangeFits (now logs) change ⌝ }
     ensures { λ _. ⌜ now (locks .exit) ≡ sweptBy (now (logs .entry)) change (now (locks .entry)) ⌝ }
 {
-    let n = turns(change);
+    let n = count_of(change);
     let mut i = 0;
     while i < n {
         let cell = cell_of(logs, change, i);
@@ -154,7 +153,7 @@ fn sweep<'a>(locks: &'a mut [Lock], logs: &'a [u32], change: Change)
     }
 }
 
-// ---- what the covered part of a call hands over
+// ---- what the covered code of a call hands over
 
 // What a call has answered and changed besides the run, and what it does to the run.
 pub struct Turn {
@@ -169,8 +168,8 @@ pub struct Look {
 }
 
 // An answer with the records and the run as they were.
-fn kept(sessions: Sessions, answer: Answer) -> Turn
-    ensures { λ r. ⌜ r ≡ keeps sessions answer ⌝ }
+fn only_answer(sessions: Sessions, answer: Answer) -> Turn
+    ensures { λ r. ⌜ r ≡ onlyAnswer sessions answer ⌝ }
 {
     let reply = Reply { answer, sessions };
     Turn {
@@ -180,8 +179,8 @@ fn kept(sessions: Sessions, answer: Answer) -> Turn
 }
 
 // A reply with the run as it was.
-fn told(reply: Reply) -> Turn
-    ensures { λ r. ⌜ r ≡ tells reply ⌝ }
+fn only_reply(reply: Reply) -> Turn
+    ensures { λ r. ⌜ r ≡ onlyReply reply ⌝ }
 {
     Turn {
         reply,
@@ -199,14 +198,14 @@ fn set_up_turn(
     locks: usize,
     logs: &mut [u32],
 ) -> Turn
-    ensures { λ r. ⌜ TakesSetUpTurn values classes locks logs sessions r ⌝ }
+    ensures { λ r. ⌜ SetsUpTurn values classes locks logs sessions r ⌝ }
 {
     let n = values.len();
     if !decide::lengths_fit(n, classes.len(), locks, locks, locks, logs.len()) {
-        return kept(sessions, Answer::Refused(7));
+        return only_answer(sessions, Answer::Refused(7));
     }
     if !decide::all_fit(values, classes) {
-        return kept(sessions, Answer::Refused(8));
+        return only_answer(sessions, Answer::Refused(8));
     }
     log::clear_words(logs);
     let idle = model::all_idle();
@@ -231,7 +230,7 @@ fn begin_turn(
     logs: &[u32],
     session: u8,
 ) -> Reply
-    ensures { λ r. ⌜ Answered (Begin session) n classes locks (now (logs .entry)) sessions r ⌝ }
+    ensures { λ r. ⌜ IsReply (Begin session) n classes locks (now (logs .entry)) sessions r ⌝ }
 {
     if !decide::lengths_fit(n, classes, locks, locks, locks, logs.len()) {
         return Reply {
@@ -250,10 +249,10 @@ fn begin_turn(
     let e = a + 128;
     let x = sessions.records[i];
     let phase = x.phase;
-    let turned = decide::tests(&logs[a..e], n, x, phase == 0);
-    if turned != 0 {
+    let refusal = decide::tests(&logs[a..e], n, x, phase == 0);
+    if refusal != 0 {
         return Reply {
-            answer: Answer::Refused(turned),
+            answer: Answer::Refused(refusal),
             sessions,
         };
     }
@@ -279,10 +278,10 @@ fn read_turn(
 {
     let n = values.len();
     if !decide::lengths_fit(n, classes.len(), locks, locks, locks, logs.len()) {
-        return kept(sessions, Answer::Refused(7));
+        return only_answer(sessions, Answer::Refused(7));
     }
     if 15 < session {
-        return kept(sessions, Answer::Refused(1));
+        return only_answer(sessions, Answer::Refused(1));
     }
     let i = session as usize;
     let a = 128 * i;
@@ -290,10 +289,10 @@ fn read_turn(
     let x = sessions.records[i];
     let p = decide::read(&logs[a..e], n, x, l, cell);
     if let Plan::Tell(value) = p {
-        return kept(sessions, Answer::Value(value));
+        return only_answer(sessions, Answer::Value(value));
     }
     if let Plan::Refuse(number) = p {
-        return kept(sessions, Answer::Refused(number));
+        return only_answer(sessions, Answer::Refused(number));
     }
     let count = x.count;
     if let Plan::Enter(_) = p {
@@ -335,10 +334,10 @@ fn write_turn(
     ensures { λ r. ⌜ TakesTurn (Write session cell value) values classes locks cell l logs sessions r ⌝ }
 {
     if !decide::lengths_fit(values.len(), classes.len(), locks, locks, locks, logs.len()) {
-        return kept(sessions, Answer::Refused(7));
+        return only_answer(sessions, Answer::Refused(7));
     }
     if 15 < session {
-        return kept(sessions, Answer::Refused(1));
+        return only_answer(sessions, Answer::Refused(1));
     }
     let i = session as usize;
     let a = 128 * i;
@@ -347,10 +346,10 @@ fn write_turn(
     let p = decide::write(&logs[a..e], classes, x, l, cell, value);
     if let Plan::Update(k, v) = p {
         log::update(&mut logs[a..e], k as usize, v);
-        return kept(sessions, Answer::Done);
+        return only_answer(sessions, Answer::Done);
     }
     if let Plan::Refuse(number) = p {
-        return kept(sessions, Answer::Refused(number));
+        return only_answer(sessions, Answer::Refused(number));
     }
     let count = x.count;
     if let Plan::EnterUpdate(_, v) = p {
@@ -392,10 +391,10 @@ fn seal_turn(
 {
     let n = values.len();
     if !decide::lengths_fit(n, classes.len(), locks, locks, locks, logs.len()) {
-        return kept(sessions, Answer::Refused(7));
+        return only_answer(sessions, Answer::Refused(7));
     }
     if 15 < session {
-        return kept(sessions, Answer::Refused(1));
+        return only_answer(sessions, Answer::Refused(1));
     }
     let i = session as usize;
     let a = 128 * i;
@@ -403,7 +402,7 @@ fn seal_turn(
     let x = sessions.records[i];
     let p = decide::seal(&logs[a..e], n, x);
     if let Plan::Refuse(number) = p {
-        return kept(sessions, Answer::Refused(number));
+        return only_answer(sessions, Answer::Refused(number));
     }
     let count = x.count;
     if let Plan::CommitReads = p {
@@ -534,7 +533,7 @@ fn advance_turn(
     ensures { λ r. ⌜ TakesTurn (Advance session) values classes locks (cellDue (now (logs .entry)) session entry) l logs sessions r ⌝ }
 {
     match entry {
-        Due::Refused(number) => kept(sessions, Answer::Refused(number)),
+        Due::Refused(number) => only_answer(sessions, Answer::Refused(number)),
         Due::Slot(k) => advance_at(sessions, values, classes, locks, l, logs, session, k),
     }
 }
@@ -553,19 +552,19 @@ fn abandon_turn(
 {
     let n = values.len();
     if !decide::lengths_fit(n, classes.len(), locks, locks, locks, logs.len()) {
-        return kept(sessions, Answer::Refused(7));
+        return only_answer(sessions, Answer::Refused(7));
     }
     if 15 < session {
-        return kept(sessions, Answer::Refused(1));
+        return only_answer(sessions, Answer::Refused(1));
     }
     let i = session as usize;
     let a = 128 * i;
     let e = a + 128;
     let x = sessions.records[i];
     let phase = x.phase;
-    let turned = decide::tests(&logs[a..e], n, x, (phase == 1) | (phase == 2));
-    if turned != 0 {
-        return kept(sessions, Answer::Refused(turned));
+    let refusal = decide::tests(&logs[a..e], n, x, (phase == 1) | (phase == 2));
+    if refusal != 0 {
+        return only_answer(sessions, Answer::Refused(refusal));
     }
     let count = x.count;
     sessions.records[i] = x.idled();
@@ -589,7 +588,7 @@ fn peek_plan(
     session: u8,
     cell: u32,
 ) -> Plan
-    ensures { λ r. ⌜ Peeks n classes locks (now (logs .entry)) sessions session cell r ⌝ }
+    ensures { λ r. ⌜ IsPeekPlan n classes locks (now (logs .entry)) sessions session cell r ⌝ }
 {
     if !decide::lengths_fit(n, classes, locks, locks, locks, logs.len()) {
         return Plan::Refuse(7);
@@ -614,7 +613,7 @@ fn peek_turn(
     session: u8,
     cell: u32,
 ) -> Reply
-    ensures { λ r. ⌜ Answered (Peek session cell) n classes locks (now (logs .entry)) sessions r ⌝ }
+    ensures { λ r. ⌜ IsReply (Peek session cell) n classes locks (now (logs .entry)) sessions r ⌝ }
 {
     let p = peek_plan(sessions, n, classes, locks, logs, session, cell);
     if let Plan::Refuse(number) = p {
@@ -639,7 +638,7 @@ fn peek_part<'a>(
     session: u8,
     cell: u32,
 ) -> &'a [u32]
-    ensures { λ r. ⌜ HandsBack (values .entry) classes locks (logs .entry) sessions session cell r ⌝ }
+    ensures { λ r. ⌜ IsPeekPart (values .entry) classes locks (logs .entry) sessions session cell r ⌝ }
 {
     let p = peek_plan(sessions, values.len(), classes, locks, logs, session, cell);
     if let Plan::ShowStore(_) = p {
@@ -659,7 +658,7 @@ fn peek_part<'a>(
 
 // What an advance looks at.
 fn look_due(logs: &[u32], session: u8, entry: Due) -> Look
-    requires { ⌜ Found (now logs) session entry ⌝ }
+    requires { ⌜ DueFits (now logs) session entry ⌝ }
     ensures { λ r. ⌜ r ≡ lookAt (now (logs .entry)) session entry ⌝ }
 {
     match entry {
@@ -730,7 +729,7 @@ fn take_turn(
 {
     let entry = look.due;
     match call {
-        Call::Begin(s) => told(begin_turn(
+        Call::Begin(s) => only_reply(begin_turn(
             sessions,
             values.len(),
             classes.len(),
@@ -743,7 +742,7 @@ fn take_turn(
         Call::Seal(s) => seal_turn(sessions, &values[..], classes, locks, l, &logs[..], s),
         Call::Advance(s) => advance_turn(sessions, values, classes, locks, l, &logs[..], s, entry),
         Call::Abandon(s) => abandon_turn(sessions, &values[..], classes, locks, l, &logs[..], s),
-        Call::Peek(s, c) => told(peek_turn(
+        Call::Peek(s, c) => only_reply(peek_turn(
             sessions,
             values.len(),
             classes.len(),
@@ -929,7 +928,7 @@ pub fn peek<'a>(
     session: u8,
     cell: u32,
 ) -> &'a [u32]
-    ensures { λ r. ⌜ IsPart (values .entry) (logs .entry) (peekShows session cell (given values classes locks logs sessions)) r ⌝ }
+    ensures { λ r. ⌜ HandsBack session cell values classes (now (locks .entry)) logs sessions r ⌝ }
 {
     peek_part(
         sessions,

@@ -36,11 +36,11 @@ use denote.Triple.Statement.{Contract, Triple}
 use denote.Triple.Table.{entered, cited}
 use denote.Triple.Walked.{says, Stays, stay-none, stay-none-slice, walkOf, goes-none, goes-none-slice, Walks, ends-at, walked, walk-meets}
 use denote.Exit.{yes}
-use Rattle.model.specs.Step.{planOf, shown}
+use Rattle.model.specs.Step.{peekShows}
 use Rattle.model.specs.declared.Lock.{Lock}
 use Rattle.model.specs.declared.Sessions.{Sessions}
 use Rattle.model.specs.declared.Call.the-variants.{Peek}
-use Rattle.store.specs.Lent.{Handed}
+use Rattle.store.specs.Lent.{IsPart}
 use Rattle.lockrun.specs.Run.{storeOn}
 use Rattle.lockrun.proofs.Row.{R, vals, tells, RS, low-s, tells-s, makes-s, typed-s}
 use Rattle.lockrun.proofs.Leave.{full, leave}
@@ -96,7 +96,7 @@ module _ {M : Type 1} (𝓤 : URA M) (H : Heap 𝓤) (A : Atoms 𝓤) (W : Given
   Part r v = ShrSlice (named 0) κ₀ u32 .own r (v ∷ [])
 
   abbrev Says : RefT (List ℕ) → Type 0
-  Says r = Handed x₀ x₂ (shown s (planOf (Peek s c) (storeOn (now x₀) (now x₁) ys (now x₂) ss))) r
+  Says r = IsPart x₀ x₂ (peekShows s c (storeOn (now x₀) (now x₁) ys (now x₂) ss)) r
 
   abbrev gives : Val → Item 𝓤
   gives v = some (λ (r : RefT (List ℕ)). given (Says r) (‵ (Part r v) ⊛ (‵ (flft κ₀ q₀) ⊛ ‵ (flft κ₁ q₁))))
