@@ -5,16 +5,16 @@ use Prim.Native.Nat.{ℕ, _+_, _*_, _≤_, _<_}
 use mathlib.Core.List.{List, []}
 use lib.ListN.{length, take, drop}
 use denote.Ref.{RefT, now}
-use denote.Triple.Both.{Both}
 use Rattle.model.specs.Search.{below}
-use Rattle.model.specs.Buffers.{Store, size, withSession, cellAt, lockAt, lengthsFit}
+use Rattle.model.specs.Slices.{Slice}
+use Rattle.model.specs.Buffers.{Store, size, withSession, cellAt, appended, lockAt, lockOn, join, lengthsFit}
 use Rattle.model.specs.Step.{Outcome, outcome, answer, after, recordOf, logOf, planOf, effect, setUpEffect, peekShows, Part, storeWord, logWord, noWord}
 use Rattle.model.specs.declared.Call.{Call}
 use Rattle.model.specs.declared.Call.the-variants.{Peek}
 use Rattle.model.specs.declared.Sessions.{Sessions}
 use Rattle.model.specs.declared.Reply.{Reply}
 use Rattle.model.specs.declared.Plan.{Plan}
-use Rattle.locks.specs.Sweeps.{locksOf}
+use Rattle.locks.specs.Sweeps.{locksOf, locksBefore, locksAfter}
 use Rattle.decide.specs.Pieces.{advanceOn}
 use Rattle.store.specs.declared.SessionReply.{SessionReply}
 
@@ -26,10 +26,6 @@ storeOf values classes readers claimants exclusives logs sessions =
     }
 
 -- ---- what a call is given and leaves
-
--- a lent slice, as it is passed and as it is left
-abbrev pub Slice : Type 0
-Slice = Both (RefT (List ℕ)) (RefT (List ℕ))
 
 -- the store that the slices are before the call, and after it, with these records
 abbrev pub before : Slice → Slice → Slice → Slice → Slice → Slice → Sessions → Store
@@ -57,6 +53,12 @@ abbrev pub SetsUp : Slice → Slice → Slice → Slice → Slice → Slice → 
 SetsUp values classes readers claimants exclusives logs ss r =
     outcome (r .answer) (afterwards values classes readers claimants exclusives logs (r .sessions))
     ≡ setUpEffect (before values classes readers claimants exclusives logs ss)
+
+-- a new cell's lock and entry k, which holds the value v
+abbrev pub Enters : Slice → Slice → Slice → Slice → ℕ → ℕ → ℕ → ℕ → Type 0
+Enters readers claimants exclusives log k s c v =
+    (locksAfter readers claimants exclusives ≡ lockOn c (join s) (locksBefore readers claimants exclusives))
+    × (now (log .exit) ≡ appended (now (log .entry)) k c v)
 
 -- ---- an advance at entry k
 

@@ -3,10 +3,10 @@
 ghost use mathlib.Core.Path.{_≡_};
 ghost use Prim.Native.Nat.{_+_, _*_, _%_, _<_, _≤_};
 ghost use lib.ListN.{length, replicate};
-ghost use Rattle.model.specs.Buffers.{sessionAt, lockAt, lockOn, join, appended};
+ghost use Rattle.model.specs.Buffers.{sessionAt, lockAt};
 ghost use Rattle.model.specs.declared.Call.the-variants.{Begin, Read, Write, Seal, Advance, Abandon, Peek};
 ghost use Rattle.locks.specs.Sweeps.{locksOf};
-ghost use Rattle.store.specs.Lent.{storeOf, Takes, TakesOne, SetsUp, AdvancesAt, LengthsFit, EntriesFit, Plans, HandsBack};
+ghost use Rattle.store.specs.Lent.{storeOf, Enters, Takes, TakesOne, SetsUp, AdvancesAt, LengthsFit, EntriesFit, Plans, HandsBack};
 use decide::Due;
 use model::Answer;
 use model::Call;
@@ -189,7 +189,7 @@ fn enter(
     value: u32,
 )
     requires { ⌜ (session < 16) × (cell < length (now readers)) × (length (now claimants) ≡ length (now readers)) × (length (now exclusives) ≡ length (now readers)) × (4 * count + 3 < length (now log)) × (l ≡ lockAt (locksOf (now readers) (now claimants) (now exclusives)) cell) ⌝ }
-    ensures { λ _. ⌜ (locksOf (now (readers .exit)) (now (claimants .exit)) (now (exclusives .exit)) ≡ lockOn cell (join session) (locksOf (now (readers .entry)) (now (claimants .entry)) (now (exclusives .entry)))) × (now (log .exit) ≡ appended (now (log .entry)) count cell value) ⌝ }
+    ensures { λ _. ⌜ Enters readers claimants exclusives log count session cell value ⌝ }
 {
     locks::put(
         readers,
@@ -644,7 +644,7 @@ fn advance_at(
             claimants,
             exclusives,
             cell,
-            locks::owned(l, session),
+            locks::acquired(l, session),
         );
         return SessionReply { answer, session: y };
     }

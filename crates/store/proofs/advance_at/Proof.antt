@@ -66,7 +66,7 @@ put-requires-2 c κs = can-put (decided (c .before .before .before .before .befo
 returns-3 : tie.Need-returns-3
 unfolding withSession
 returns-3 c = let q = c .before .before .before .before .before .before in let h = q .before .before .before .before .before in let d = h .before .before .before .before .before .before in
-    leaves-acquired (decided d) _ (handled-at _ _ (mine d) _ _ (h .before .before .before .handle .ensures)) _ (h .enum-told3 .given .1) _ _ (q .before .owned .ensures) (q .put2 .ensures)
+    leaves-acquired (decided d) _ (handled-at _ _ (mine d) _ _ (h .before .before .before .handle .ensures)) _ (h .enum-told3 .given .1) _ _ (q .before .acquired .ensures) (q .put2 .ensures)
 
 slice-write-values : tie.Need-slice-write-values
 slice-write-values c = cell-inside (decided (c .before .before .before .before .before .before .before .before))
