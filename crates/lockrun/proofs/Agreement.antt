@@ -9,7 +9,6 @@ use Rattle.model.specs.Step.{Outcome, outcome, effect, setUpEffect, planOf}
 use Rattle.model.specs.declared.Lock.{Lock}
 use Rattle.model.specs.declared.Sessions.{Sessions}
 use Rattle.model.specs.declared.Call.{Call}
-use Rattle.model.specs.declared.Answer.{Answer}
 use Rattle.store.specs.Lent.{storeOf}
 use Rattle.lockrun.specs.Run.{unzipped, storeOn}
 use Rattle.lockrun.specs.Forms.{zipped, OutcomeIn}

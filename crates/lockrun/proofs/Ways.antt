@@ -11,8 +11,8 @@ use base.Fml.{GName}
 use denote.Ref.{RefT}
 use lib.Dec.{eqb}
 use lib.ListN.{length, getD, set, replicate, length-replicate, length-set}
-use Rattle.model.specs.Buffers.{Store, free, idle, running, size, sessionAt, withEntry, moveTo, logIn, entryAt, appended, updated, lengthsMatch}
-use Rattle.model.specs.Step.{effect, planOf, sessionOf, recordOf, rolledBack, readsDropped, recordFits, readPlan, writePlan, sealPlan, peekPlan}
+use Rattle.model.specs.Buffers.{Store, free, idle, running, sessionAt, withEntry, moveTo, logIn, entryAt, appended, updated, lengthsMatch}
+use Rattle.model.specs.Step.{planOf, sessionOf, recordOf, rolledBack, readsDropped, recordFits, readPlan, writePlan, sealPlan, peekPlan}
 use Rattle.model.specs.declared.Session.{Session}
 use Rattle.model.specs.declared.Sessions.{Sessions}
 use Rattle.model.specs.declared.Lock.{Lock}
@@ -21,7 +21,7 @@ use Rattle.model.specs.declared.Call.the-variants.{Begin, Read, Write, Seal, Ab
 use Rattle.model.specs.declared.Answer.{Answer}
 use Rattle.model.specs.declared.Answer.the-variants.{Done, Value, Sealed, Committed, Refused}
 use Rattle.model.specs.declared.Plan.{Plan}
-use Rattle.model.specs.declared.Plan.the-variants.{Refuse, Tell, Enter, Update, EnterUpdate, RollBack, Cancel, CommitReads, BeginPromotion, ShowStore, ShowLog}
+use Rattle.model.specs.declared.Plan.the-variants.{Refuse, Tell, Enter, Update, EnterUpdate, RollBack, CommitReads, BeginPromotion, ShowStore, ShowLog}
 use Rattle.model.proofs.Laws.{log-length, length-on}
 use Rattle.decide.specs.Pieces.{tested}
 use Rattle.decide.proofs.Ways.{Entries}

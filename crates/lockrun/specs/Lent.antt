@@ -10,7 +10,8 @@ use Rattle.model.specs.declared.Lock.{Lock}
 use Rattle.model.specs.declared.Sessions.{Sessions}
 use Rattle.model.specs.declared.Reply.{Reply}
 use Rattle.model.specs.declared.Call.{Call}
-use Rattle.store.specs.Lent.{Slice, IsPart}
+use Rattle.model.specs.Slices.{Slice}
+use Rattle.store.specs.Lent.{IsPart}
 use Rattle.lockrun.specs.Run.{storeOn}
 
 -- a lent run, as it is passed and as it is left

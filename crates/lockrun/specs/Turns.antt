@@ -18,7 +18,8 @@ use Rattle.model.specs.declared.Call.the-variants.{Begin, Read, Write, Seal, Ad
 use Rattle.decide.specs.declared.Due.{Due}
 use Rattle.decide.specs.declared.Due.the-variants.{Refused, Slot}
 use Rattle.decide.specs.Pieces.{dueOn}
-use Rattle.store.specs.Lent.{Slice, IsPart}
+use Rattle.model.specs.Slices.{Slice}
+use Rattle.store.specs.Lent.{IsPart}
 use Rattle.lockrun.specs.declared.Change.the-variants.{Keep}
 use Rattle.lockrun.specs.declared.Look.{Look}
 use Rattle.lockrun.specs.declared.Turn.{Turn}
@@ -63,7 +64,7 @@ onlyReply r = record { reply = r; change = Keep }
 abbrev pub onlyAnswer : Sessions → Answer → Turn
 onlyAnswer ss a = onlyReply (record { answer = a; sessions = ss })
 
--- r has the call's reply and what it does to the run: of every run of m locks with lock l of cell c, that change with values′ and logs′ is what the model leaves
+-- r is the call's reply, and a change that makes of every run of m locks, with lock l at cell c, what the model leaves
 abbrev pub IsTurn : Call → List ℕ → List ℕ → ℕ → ℕ → Lock → List ℕ → Sessions → List ℕ → List ℕ → Turn → Type 0
 IsTurn call values classes m c l logs sessions values′ logs′ r =
     (ChangeFits logs′ (r .change))

@@ -100,7 +100,7 @@ fn changed(l: Lock, change: Change) -> Lock
         Change::Keep => l,
         Change::Join(s, _) => locks::joined(l, s),
         Change::Claim(s, _) => locks::claimed(l, s),
-        Change::Acquire(s, _) => locks::owned(l, s),
+        Change::Acquire(s, _) => locks::acquired(l, s),
         Change::Vacate(s, _) => locks::vacated(l, s),
         Change::Withdraw(s, _) => locks::withdrawn(l, s),
         Change::Leave(s, _) => locks::left(l, s),

@@ -39,7 +39,6 @@ use denote.Exit.{yes}
 use Rattle.model.specs.Step.{peekShows}
 use Rattle.model.specs.declared.Lock.{Lock}
 use Rattle.model.specs.declared.Sessions.{Sessions}
-use Rattle.model.specs.declared.Call.the-variants.{Peek}
 use Rattle.store.specs.Lent.{IsPart}
 use Rattle.lockrun.specs.Run.{storeOn}
 use Rattle.lockrun.proofs.Row.{R, vals, tells, RS, low-s, tells-s, makes-s, typed-s}
