@@ -50,20 +50,20 @@ stopLine place (next.Refused number) = fieldLine place number
 -- ---- one call
 
 -- the output and the store after a call
-pub record Turned : Type 0 where
+pub record CallPrinted : Type 0 where
   pub out : Out
   pub store : Store
 
-abbrev pub turned : Out → Store → Turned
-turned o σ = record { out = o; store = σ }
+abbrev pub callPrinted : Out → Store → CallPrinted
+callPrinted o σ = record { out = o; store = σ }
 
 -- a call's line is put, and the call is made
-unfoldable pub turn : Call → ℕ → List ℕ → ℕ → Store → Turned
-turn k ordinal output at σ = turned (put output at (answerLine ordinal (reply k σ))) (step k σ)
+unfoldable pub turn : Call → ℕ → List ℕ → ℕ → Store → CallPrinted
+turn k ordinal output at σ = callPrinted (put output at (answerLine ordinal (reply k σ))) (step k σ)
 
 abbrev pub TakesTurn : Call → ℕ → Slice → ℕ → Slice → Slice → Slice → Slice → Slice → Slice → Sessions → Turn → Type 0
 TakesTurn k ordinal output at values classes readers claimants exclusives logs ss r =
-    (turned (out (r .at) (now (output .exit))) (afterwards values classes readers claimants exclusives logs (r .sessions))
+    (callPrinted (out (r .at) (now (output .exit))) (afterwards values classes readers claimants exclusives logs (r .sessions))
     ≡ turn k ordinal (now (output .entry)) at (before values classes readers claimants exclusives logs ss))
     × (r .at ≤ at + 21)
 
