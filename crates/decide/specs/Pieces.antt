@@ -6,7 +6,7 @@ use mathlib.Core.Option.{Option, none, some}
 use mathlib.Core.List.{List}
 use lib.Dec.{leb, eqb}
 use Rattle.model.specs.Buffers.{cellAt, entryAt}
-use Rattle.model.specs.Step.{entriesFit, promotePlan, handled, releasing}
+use Rattle.model.specs.Step.{require, entriesFit, promotePlan, handled, releasing}
 use Rattle.model.specs.declared.Session.{Session}
 use Rattle.model.specs.declared.Lock.{Lock}
 use Rattle.model.specs.declared.Answer.the-variants.{Moved}
@@ -17,9 +17,9 @@ use Rattle.decide.specs.declared.Due.{Due}
 use Rattle.decide.specs.declared.Due.the-variants.{Refused, Slot}
 use Rattle.decide.specs.declared.Handled.{Handled}
 
--- 9, 2 or 0
+-- 9, 2, or 0 where both tests pass
 unfoldable pub tested : Bool → Bool → ℕ
-tested whole fit = cond whole (cond fit 0 2) 9
+tested whole fit = require whole 9 (require fit 2 0)
 
 -- the entry that an advance handles, or 9 or 2
 unfoldable pub dueAt : Option ℕ → Due
@@ -27,7 +27,8 @@ dueAt none = Refused 9
 dueAt (some k) = Slot k
 
 unfoldable pub dueOn : ℕ → List ℕ → Session → Due
-dueOn n log x = cond (entriesFit n log x) (cond (leb 2 (x .phase)) (dueAt (targetSlot log (x .count) (x .next))) (Refused 2)) (Refused 9)
+dueOn n log x =
+    require (entriesFit n log x) (Refused 9) (require (leb 2 (x .phase)) (Refused 2) (dueAt (targetSlot log (x .count) (x .next))))
 
 -- advance at entry k, with the lock of its cell
 unfoldable pub advanceOn : List ℕ → Session → Lock → ℕ → ℕ → Plan

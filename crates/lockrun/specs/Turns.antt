@@ -1,13 +1,12 @@
 -- What the covered code of a call sees of the run is its length and one lock. So what it ensures, it ensures of every run of that length with that lock.
 use mathlib.Core.Path.{_≡_}
 use Prim.Native.Nat.{ℕ, _<_}
-use mathlib.Core.Bool.{cond}
 use mathlib.Core.List.{List}
 use lib.Dec.{ltb}
 use lib.ListN.{length}
 use denote.Ref.{RefT, now}
 use Rattle.model.specs.Buffers.{sessionAt, cellAt, logIn, lengthsMatch}
-use Rattle.model.specs.Step.{outcome, effect, setUpEffect, planOf, peekShows}
+use Rattle.model.specs.Step.{require, outcome, effect, setUpEffect, planOf, peekShows}
 use Rattle.model.specs.declared.Lock.{Lock}
 use Rattle.model.specs.declared.Sessions.{Sessions}
 use Rattle.model.specs.declared.Reply.{Reply}
@@ -30,7 +29,7 @@ use Rattle.lockrun.specs.Run.{storeOn, lockIn, sweptBy, ChangeFits}
 -- the entry that an advance of session s handles, or its refusal: n values, k classes, m locks
 unfoldable pub dueIn : Sessions → ℕ → ℕ → ℕ → List ℕ → ℕ → Due
 dueIn ss n k m logs s =
-    cond (lengthsMatch n k m m m (length logs)) (cond (ltb s 16) (dueOn n (logIn logs s) (sessionAt ss s)) (Refused 1)) (Refused 7)
+    require (lengthsMatch n k m m m (length logs)) (Refused 7) (require (ltb s 16) (Refused 1) (dueOn n (logIn logs s) (sessionAt ss s)))
 
 -- the cell of that entry
 unfoldable pub cellDue : List ℕ → ℕ → Due → ℕ
