@@ -50,7 +50,7 @@ module _ (n : ℕ) (log : List ℕ) (x : Session) (fit : Bool) (p : Plan) where
 -- ---- advance: the entry that is due, with the lock of its cell
 
 module _ (n s : ℕ) (ks log : List ℕ) (x : Session) (lock : ℕ → Lock) where
-  abbrev duePlan : Due → Plan
+  abbrev pub duePlan : Due → Plan
   duePlan (Refused r) = Refuse r
   duePlan (Slot k) = advanceOn log x (lock (cellAt log k)) s k
 

@@ -6,22 +6,22 @@ use Rattle.model.specs.Buffers.{Store}
 use Rattle.model.specs.Step.{Outcome, outcome, number, valueOf, shown}
 use Rattle.model.specs.declared.Plan.{Plan}
 use Rattle.model.specs.declared.Plan.the-variants.{Refuse, ShowStore, ShowLog}
-use Rattle.exports.specs.Said.{said, inNumbers, at, placeOf}
+use Rattle.exports.specs.InNumbers.{replied, inNumbers, at, placeOf}
 
-pub in-numbers : (a : Answer) (σ : Store) (o : Outcome) (n v : ℕ) → outcome a σ ≡ o → n ≡ number a → v ≡ valueOf a → said n v σ ≡ inNumbers o
+pub in-numbers : (a : Answer) (σ : Store) (o : Outcome) (n v : ℕ) → outcome a σ ≡ o → n ≡ number a → v ≡ valueOf a → replied n v σ ≡ inNumbers o
 in-numbers a σ o n v e p q = rw (p, q) (ap inNumbers e)
 
 -- ---- the three plans of a peek
 
-module _ (s j : ℕ) {p q : Plan} (e : p ≡ q) where
-  pub place-store : {c : ℕ} → p ≡ ShowStore c → at 1 c ≡ placeOf (shown s q) j
+module _ (s j : ℕ) (σ : Store) {p q : Plan} (e : p ≡ q) where
+  pub place-store : {c : ℕ} → p ≡ ShowStore c → at 1 c ≡ placeOf (shown s q σ) j
   unfolding shown
   place-store f = rw (sym e ∙ f)
 
-  pub place-log : {k : ℕ} → p ≡ ShowLog k → at 2 (128 * s + (4 * k + 2)) ≡ placeOf (shown s q) j
+  pub place-log : {k : ℕ} → p ≡ ShowLog k → at 2 (128 * s + (4 * k + 2)) ≡ placeOf (shown s q σ) j
   unfolding shown
   place-log f = rw (sym e ∙ f)
 
-  pub place-none : {r : ℕ} → p ≡ Refuse r → at 0 j ≡ placeOf (shown s q) j
+  pub place-none : {r : ℕ} → p ≡ Refuse r → at 0 j ≡ placeOf (shown s q σ) j
   unfolding shown
   place-none f = rw (sym e ∙ f)

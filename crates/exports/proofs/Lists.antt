@@ -11,11 +11,11 @@ use Rattle.model.specs.Isolation.{Ran}
 use Rattle.model.specs.Isolation as list
 use Rattle.model.specs.Step.{Outcome, outcome, number, valueOf, effect, setUpEffect}
 use Rattle.model.proofs.Demand3.{demand3-of-code}
-use Rattle.exports.specs.Said.{Said, said, inNumbers, Heard, heard, Called, none, then, Demand3InNumbers}
+use Rattle.exports.specs.InNumbers.{NumberReply, replied, inNumbers, Heard, heard, Called, none, then, Demand3InNumbers}
 
 -- the store that a call for C leaves, with the model's own answer, is the call's outcome
-answered : (n v : ℕ) (y : Store) (o : Outcome) → said n v y ≡ inNumbers o → outcome (o .answer) y ≡ o
-answered n v y o e = rw (ap (λ (s : Said). s .store) e)
+answered : (n v : ℕ) (y : Store) (o : Outcome) → replied n v y ≡ inNumbers o → outcome (o .answer) y ≡ o
+answered n v y o e = rw (ap (λ (s : NumberReply). s .store) e)
 
 -- calls for C, with the answers that they told in numbers
 pub record Answered (σ : Store) (ks : List Call) (h : List Heard) (τ : Store) : Type 0 where
@@ -27,8 +27,8 @@ pub called : (σ : Store) {ks : List Call} {h : List Heard} {τ : Store} → Cal
 called σ none = record { events = []; told = refl; ran = list.none }
 called σ (then {x = x} r k n v y e) =
     let i = called σ r in
-    let n′ : n ≡ number (effect k x .answer) = ap (λ (s : Said). s .number) e in
-    let v′ : v ≡ valueOf (effect k x .answer) = ap (λ (s : Said). s .value) e in
+    let n′ : n ≡ number (effect k x .answer) = ap (λ (s : NumberReply). s .number) e in
+    let v′ : v ≡ valueOf (effect k x .answer) = ap (λ (s : NumberReply). s .value) e in
     let t = i .told in
     record {
       events = record { call = k; answer = effect k x .answer } ∷ i .events;
@@ -37,12 +37,12 @@ called σ (then {x = x} r k n v y e) =
     }
 
 -- demand 3 of the calls for C: a set-up that told 100 left σ, and the calls kept their contracts
-pub demand3-in-numbers : (φ σ : Store) (v : ℕ) → said 100 v σ ≡ inNumbers (setUpEffect φ)
+pub demand3-in-numbers : (φ σ : Store) (v : ℕ) → replied 100 v σ ≡ inNumbers (setUpEffect φ)
     → (calls : List Call) (h : List Heard) (τ : Store) → Called σ (reverse calls) h τ → Demand3InNumbers σ calls h τ
 demand3-in-numbers φ σ v e calls h τ r =
     let i = called σ r in
     record {
       events = i .events;
       told = i .told;
-      meets = demand3-of-code φ σ (setUpEffect φ .answer) (answered 100 v σ (setUpEffect φ) e) (sym (ap (λ (s : Said). s .number) e)) calls (i .events) τ (i .ran);
+      meets = demand3-of-code φ σ (setUpEffect φ .answer) (answered 100 v σ (setUpEffect φ) e) (sym (ap (λ (s : NumberReply). s .number) e)) calls (i .events) τ (i .ran);
     }

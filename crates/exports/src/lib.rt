@@ -1,55 +1,18 @@
 // The calls for C: each is the store's own call, with the session records passed in and handed back by value and the answer as two numbers.
 ghost use mathlib.Core.Path.{_≡_};
-ghost use Rattle.model.specs.Step.{number, valueOf, effect, setUpEffect, planOf, shown};
+ghost use Rattle.model.specs.Step.{number, valueOf};
 ghost use Rattle.model.specs.declared.Call.the-variants.{Begin, Read, Write, Seal, Advance, Abandon, Peek};
-ghost use Rattle.store.specs.Lent.{storeOf};
-ghost use Rattle.exports.specs.Said.{said, inNumbers, at, placeOf};
+ghost use Rattle.exports.specs.InNumbers.{SetsUpInNumbers, TakesInNumbers, TellsPlace};
 use model::Answer;
 use model::Plan;
 use model::Sessions;
-
-fn wide(x: u8) -> u32
-    ensures { λ r. ⌜ r ≡ x ⌝ }
-{
-    x as u32
-}
-
-// Document 01's number of an answer.
-fn number_of(a: Answer) -> u32
-    ensures { λ r. ⌜ r ≡ number a ⌝ }
-{
-    match a {
-        Answer::Done => 100,
-        Answer::Value(_) => 101,
-        Answer::Sealed => 102,
-        Answer::Moved => 103,
-        Answer::Waiting => 104,
-        Answer::Committed => 105,
-        Answer::Refused(k) => wide(k),
-    }
-}
-
-// The value of an answer: 0 except with 101.
-fn value_of(a: Answer) -> u32
-    ensures { λ r. ⌜ r ≡ valueOf a ⌝ }
-{
-    match a {
-        Answer::Done => 0,
-        Answer::Value(v) => v,
-        Answer::Sealed => 0,
-        Answer::Moved => 0,
-        Answer::Waiting => 0,
-        Answer::Committed => 0,
-        Answer::Refused(_) => 0,
-    }
-}
 
 // The caller is told an answer: its number in n, its value in v.
 fn tell(a: Answer, n: &mut u32, v: &mut u32)
     ensures { λ _. ⌜ (now (n .exit) ≡ number a) × (now (v .exit) ≡ valueOf a) ⌝ }
 {
-    *n = number_of(a);
-    *v = value_of(a);
+    *n = a.number() as u32;
+    *v = a.value();
 }
 
 // Set-up: 100, 7 or 8.
@@ -65,7 +28,7 @@ pub extern "C" fn rukkanei_set_up(
     number: &mut u32,
     value: &mut u32,
 ) -> Sessions
-    ensures { λ r. ⌜ said (now (number .exit)) (now (value .exit)) (storeOf (now (values .entry)) (now (classes .entry)) (now (readers .exit)) (now (claimants .exit)) (now (exclusives .exit)) (now (logs .exit)) r) ≡ inNumbers (setUpEffect (storeOf (now (values .entry)) (now (classes .entry)) (now (readers .entry)) (now (claimants .entry)) (now (exclusives .entry)) (now (logs .entry)) sessions)) ⌝ }
+    ensures { λ r. ⌜ SetsUpInNumbers values classes readers claimants exclusives logs sessions number value r ⌝ }
 {
     let reply = store::set_up(
         sessions,
@@ -95,7 +58,7 @@ pub extern "C" fn rukkanei_begin(
     number: &mut u32,
     value: &mut u32,
 ) -> Sessions
-    ensures { λ r. ⌜ said (now (number .exit)) (now (value .exit)) (storeOf (now (values .entry)) (now (classes .entry)) (now (readers .entry)) (now (claimants .entry)) (now (exclusives .entry)) (now (logs .entry)) r) ≡ inNumbers (effect (Begin session) (storeOf (now (values .entry)) (now (classes .entry)) (now (readers .entry)) (now (claimants .entry)) (now (exclusives .entry)) (now (logs .entry)) sessions)) ⌝ }
+    ensures { λ r. ⌜ TakesInNumbers (Begin session) values classes readers claimants exclusives logs sessions number value r ⌝ }
 {
     let reply = store::begin(
         sessions,
@@ -127,7 +90,7 @@ pub extern "C" fn rukkanei_read(
     number: &mut u32,
     value: &mut u32,
 ) -> Sessions
-    ensures { λ r. ⌜ said (now (number .exit)) (now (value .exit)) (storeOf (now (values .entry)) (now (classes .entry)) (now (readers .exit)) (now (claimants .exit)) (now (exclusives .exit)) (now (logs .exit)) r) ≡ inNumbers (effect (Read session cell) (storeOf (now (values .entry)) (now (classes .entry)) (now (readers .entry)) (now (claimants .entry)) (now (exclusives .entry)) (now (logs .entry)) sessions)) ⌝ }
+    ensures { λ r. ⌜ TakesInNumbers (Read session cell) values classes readers claimants exclusives logs sessions number value r ⌝ }
 {
     let reply = store::read(
         sessions,
@@ -161,7 +124,7 @@ pub extern "C" fn rukkanei_write(
     number: &mut u32,
     value: &mut u32,
 ) -> Sessions
-    ensures { λ r. ⌜ said (now (number .exit)) (now (value .exit)) (storeOf (now (values .entry)) (now (classes .entry)) (now (readers .exit)) (now (claimants .exit)) (now (exclusives .exit)) (now (logs .exit)) r) ≡ inNumbers (effect (Write session cell written) (storeOf (now (values .entry)) (now (classes .entry)) (now (readers .entry)) (now (claimants .entry)) (now (exclusives .entry)) (now (logs .entry)) sessions)) ⌝ }
+    ensures { λ r. ⌜ TakesInNumbers (Write session cell written) values classes readers claimants exclusives logs sessions number value r ⌝ }
 {
     let reply = store::write(
         sessions,
@@ -194,7 +157,7 @@ pub extern "C" fn rukkanei_seal(
     number: &mut u32,
     value: &mut u32,
 ) -> Sessions
-    ensures { λ r. ⌜ said (now (number .exit)) (now (value .exit)) (storeOf (now (values .entry)) (now (classes .entry)) (now (readers .exit)) (now (claimants .entry)) (now (exclusives .entry)) (now (logs .entry)) r) ≡ inNumbers (effect (Seal session) (storeOf (now (values .entry)) (now (classes .entry)) (now (readers .entry)) (now (claimants .entry)) (now (exclusives .entry)) (now (logs .entry)) sessions)) ⌝ }
+    ensures { λ r. ⌜ TakesInNumbers (Seal session) values classes readers claimants exclusives logs sessions number value r ⌝ }
 {
     let reply = store::seal(
         sessions,
@@ -225,7 +188,7 @@ pub extern "C" fn rukkanei_advance(
     number: &mut u32,
     value: &mut u32,
 ) -> Sessions
-    ensures { λ r. ⌜ said (now (number .exit)) (now (value .exit)) (storeOf (now (values .exit)) (now (classes .entry)) (now (readers .exit)) (now (claimants .exit)) (now (exclusives .exit)) (now (logs .entry)) r) ≡ inNumbers (effect (Advance session) (storeOf (now (values .entry)) (now (classes .entry)) (now (readers .entry)) (now (claimants .entry)) (now (exclusives .entry)) (now (logs .entry)) sessions)) ⌝ }
+    ensures { λ r. ⌜ TakesInNumbers (Advance session) values classes readers claimants exclusives logs sessions number value r ⌝ }
 {
     let reply = store::advance(
         sessions,
@@ -256,7 +219,7 @@ pub extern "C" fn rukkanei_abandon(
     number: &mut u32,
     value: &mut u32,
 ) -> Sessions
-    ensures { λ r. ⌜ said (now (number .exit)) (now (value .exit)) (storeOf (now (values .entry)) (now (classes .entry)) (now (readers .exit)) (now (claimants .exit)) (now (exclusives .exit)) (now (logs .entry)) r) ≡ inNumbers (effect (Abandon session) (storeOf (now (values .entry)) (now (classes .entry)) (now (readers .entry)) (now (claimants .entry)) (now (exclusives .entry)) (now (logs .entry)) sessions)) ⌝ }
+    ensures { λ r. ⌜ TakesInNumbers (Abandon session) values classes readers claimants exclusives logs sessions number value r ⌝ }
 {
     let reply = store::abandon(
         sessions,
@@ -288,7 +251,7 @@ pub extern "C" fn rukkanei_peek_number(
     number: &mut u32,
     value: &mut u32,
 ) -> Sessions
-    ensures { λ r. ⌜ said (now (number .exit)) (now (value .exit)) (storeOf (now (values .entry)) (now (classes .entry)) (now (readers .entry)) (now (claimants .entry)) (now (exclusives .entry)) (now (logs .entry)) r) ≡ inNumbers (effect (Peek session cell) (storeOf (now (values .entry)) (now (classes .entry)) (now (readers .entry)) (now (claimants .entry)) (now (exclusives .entry)) (now (logs .entry)) sessions)) ⌝ }
+    ensures { λ r. ⌜ TakesInNumbers (Peek session cell) values classes readers claimants exclusives logs sessions number value r ⌝ }
 {
     let reply = store::peek_number(
         sessions,
@@ -320,7 +283,7 @@ pub extern "C" fn rukkanei_peek_place(
     cell: u32,
     index: &mut usize,
 ) -> u8
-    ensures { λ r. ⌜ at r (now (index .exit)) ≡ placeOf (shown session (planOf (Peek session cell) (storeOf (now (values .entry)) (now (classes .entry)) (now (readers .entry)) (now (claimants .entry)) (now (exclusives .entry)) (now (logs .entry)) sessions))) (now (index .entry)) ⌝ }
+    ensures { λ r. ⌜ TellsPlace session cell values classes readers claimants exclusives logs sessions index r ⌝ }
 {
     let p = store::peek_plan(
         sessions,

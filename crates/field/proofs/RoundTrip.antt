@@ -19,7 +19,7 @@ use Rattle.field.specs.declared.Reading.the-variants.{Field, End, Refuse
 use Rattle.field.specs.LittleEndian.{number, numberAt, bytesOf}
 use Rattle.field.specs.Table.{Whole, Proper, layoutOf}
 use Rattle.field.specs.Answer.{done, cutShort, unknownTag, wrongLength, shortTarget}
-use Rattle.field.specs.Field.{callAt, readingOf, readingAt, bodyOf, fieldOf, Wrote, wrote, writing}
+use Rattle.field.specs.Field.{callAt, readingOf, readingAt, bodyOf, fieldOf, WriteReply, writeReply, writing}
 use Rattle.field.specs.RoundTrip.{Bytes, Fitting, kept, carried}
 use Rattle.field.proofs.Rows.{proper}
 use Rattle.field.proofs.Readings.{accepted}
@@ -103,7 +103,7 @@ pub reads-back : (target : List ℕ) (c : Call) (l : Layout) → Fitting c → l
     → readingAt (writing target c .target) 0 ≡ Field (l .kind) (carried l c) (writing target c .length)
 reads-back target c l fits known h =
     test (ltb (length target) (3 + l .length))
-    (λ over. absurd (let e : shortTarget ≡ done = ap (λ (w : Wrote). w .number) (short target c l known (ltb-true _ _ over)) ∙ h in omega arith))
+    (λ over. absurd (let e : shortTarget ≡ done = ap (λ (w : WriteReply). w .number) (short target c l known (ltb-true _ _ over)) ∙ h in omega arith))
     (λ room. rw (← written target c l known (ltb-false _ _ room)) (read-anywhere c l [] (drop (3 + l .length) target) fits known))
 
 -- ---- what was read is written again
@@ -197,7 +197,7 @@ same-bytes bytes place l ok p own inside =
 -- Every field that is read is byte for byte what the writer gives for the call that was read: in any target that is long enough it writes
 -- the bytes from the place on, as many as the reader said.
 pub written-again : (bytes : List ℕ) (place : ℕ) (k : Kind) (c : Call) (n : ℕ) → Bytes bytes → readingAt bytes place ≡ Field k c n
-    → (target : List ℕ) → n ≤ length target → writing target c ≡ wrote done n (take n (drop place bytes) ++ drop n target)
+    → (target : List ℕ) → n ≤ length target → writing target c ≡ writeReply done n (take n (drop place bytes) ++ drop n target)
 unfolding callAt
 written-again bytes place k c n ok h target room =
     let f = found bytes place k c n h in
@@ -207,5 +207,5 @@ written-again bytes place k c n ok h target room =
     let again = written target (callAt bytes (place + 3) t l) l (f .known) (omega (arith, f .long)) in
     ap (writing target) (f .read)
     ∙ sym again
-    ∙ ap (λ (b : List ℕ). wrote done (3 + l .length) (b ++ drop (3 + l .length) target)) (same-bytes bytes place l ok p (f .own) (f .inside))
-    ∙ ap (λ (m : ℕ). wrote done m (take m (drop place bytes) ++ drop m target)) (sym (f .long))
+    ∙ ap (λ (b : List ℕ). writeReply done (3 + l .length) (b ++ drop (3 + l .length) target)) (same-bytes bytes place l ok p (f .own) (f .inside))
+    ∙ ap (λ (m : ℕ). writeReply done m (take m (drop place bytes) ++ drop m target)) (sym (f .long))

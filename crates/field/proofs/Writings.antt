@@ -15,7 +15,7 @@ use Rattle.field.specs.declared.Call.{Call}
 use Rattle.field.specs.LittleEndian.{bytesOf}
 use Rattle.field.specs.Table.{Whole, Proper, layoutOf}
 use Rattle.field.specs.Answer.{done, unknownTag, shortTarget}
-use Rattle.field.specs.Field.{bodyOf, fieldOf, wrote, writingOf, writing}
+use Rattle.field.specs.Field.{bodyOf, fieldOf, writeReply, writingOf, writing}
 
 -- ---- lengths
 
@@ -75,16 +75,16 @@ body-stores l c t t₁ t₂ t₃ t₄ e₁ e₂ e₃ e₄ =
 -- ---- the writer's answers
 
 module _ (target : List ℕ) (c : Call) where
-  pub unknown : layoutOf (c .tag) ≡ Unknown → wrote unknownTag 0 target ≡ writing target c
+  pub unknown : layoutOf (c .tag) ≡ Unknown → writeReply unknownTag 0 target ≡ writing target c
   unfolding writing writingOf
   unknown e = rw e
 
   module _ (l : Layout) (known : layoutOf (c .tag) ≡ Known l) where
-    pub short : length target < 3 + l .length → wrote shortTarget 0 target ≡ writing target c
+    pub short : length target < 3 + l .length → writeReply shortTarget 0 target ≡ writing target c
     unfolding writing writingOf
     short h = simp (known, lt-ltb _ _ h)
 
-    pub written : 3 + l .length ≤ length target → wrote done (3 + l .length) (fieldOf l c ++ drop (3 + l .length) target) ≡ writing target c
+    pub written : 3 + l .length ≤ length target → writeReply done (3 + l .length) (fieldOf l c ++ drop (3 + l .length) target) ≡ writing target c
     unfolding writing writingOf
     written h = simp (known, le-ltb _ _ h)
 
@@ -92,11 +92,11 @@ module _ (target : List ℕ) (c : Call) where
     pub field-stores : (t₁ t₂ : List ℕ) → Proper l → 3 + l .length ≤ length target
         → t₁ ≡ sets (set target 0 (c .tag)) 1 (bytesOf 2 (l .length))
         → t₂ ≡ sets t₁ 3 (bodyOf l c)
-        → wrote done (3 + l .length) t₂ ≡ writing target c
+        → writeReply done (3 + l .length) t₂ ≡ writing target c
     unfolding fieldOf
     field-stores t₁ t₂ p h e₁ e₂ =
         let n = length-field l c p in
         let run : t₂ ≡ sets target 0 (fieldOf l c) = e₂ ∙ ap (λ (t : List ℕ). sets t 3 (bodyOf l c)) e₁ ∙ next-run (set target 0 (c .tag)) 1 3 (bytesOf 2 (l .length)) (bodyOf l c) (simp length-bytesOf) in
         let split = sets-eq (fieldOf l c) target 0 (omega arith) in
         let at : 0 + length (fieldOf l c) ≡ 3 + l .length = omega arith in
-        ap (wrote done (3 + l .length)) (run ∙ split ∙ ap (λ (k : ℕ). fieldOf l c ++ drop k target) at) ∙ written h
+        ap (writeReply done (3 + l .length)) (run ∙ split ∙ ap (λ (k : ℕ). fieldOf l c ++ drop k target) at) ∙ written h

@@ -17,15 +17,15 @@ pub record Lent : Type 0 where
 abbrev pub lent : ℕ → ℕ → ℕ → ℕ → ℕ → ℕ → Lent
 lent t s c e v n = record { tag = t; session = s; class = c; cell = e; value = v; length = n }
 
-pub record Handed : Type 0 where
+pub record ReadReply : Type 0 where
   pub number : ℕ
   pub left : Lent
 
-abbrev pub handed : ℕ → Lent → Handed
-handed n o = record { number = n; left = o }
+abbrev pub readReply : ℕ → Lent → ReadReply
+readReply n o = record { number = n; left = o }
 
 -- A field puts its numbers and its length into the lent numbers. The end and a refusal leave them as before.
-unfoldable pub handing : Reading → Lent → Handed
-handing (Field k c n) o = handed done (lent (c .tag) (c .session) (c .class) (c .cell) (c .value) n)
-handing End o = handed endOfFields o
-handing (Refused number place) o = handed number o
+unfoldable pub handing : Reading → Lent → ReadReply
+handing (Field k c n) o = readReply done (lent (c .tag) (c .session) (c .class) (c .cell) (c .value) n)
+handing End o = readReply endOfFields o
+handing (Refused number place) o = readReply number o

@@ -53,21 +53,21 @@ unfoldable pub fieldOf : Layout → Call → List ℕ
 fieldOf l c = c .tag ∷ bytesOf 2 (l .length) ++ bodyOf l c
 
 -- What writing answers, and what the target holds afterwards.
-pub record Wrote : Type 0 where
+pub record WriteReply : Type 0 where
   pub number : ℕ
   pub length : ℕ
   pub target : List ℕ
 
-abbrev pub wrote : ℕ → ℕ → List ℕ → Wrote
-wrote n k t = record { number = n; length = k; target = t }
+abbrev pub writeReply : ℕ → ℕ → List ℕ → WriteReply
+writeReply n k t = record { number = n; length = k; target = t }
 
 -- An unknown tag is refused before a target that is too short; both come with 0 in place of the length and leave the target. Otherwise the
 -- field stands at the front of the target, and the bytes after it are as before.
-unfoldable pub writingOf : TagLayout → List ℕ → Call → Wrote
-writingOf Unknown target c = wrote unknownTag 0 target
+unfoldable pub writingOf : TagLayout → List ℕ → Call → WriteReply
+writingOf Unknown target c = writeReply unknownTag 0 target
 writingOf (Known l) target c =
-    cond (ltb (length target) (3 + l .length)) (wrote shortTarget 0 target)
-    (wrote done (3 + l .length) (fieldOf l c ++ drop (3 + l .length) target))
+    cond (ltb (length target) (3 + l .length)) (writeReply shortTarget 0 target)
+    (writeReply done (3 + l .length) (fieldOf l c ++ drop (3 + l .length) target))
 
-unfoldable pub writing : List ℕ → Call → Wrote
+unfoldable pub writing : List ℕ → Call → WriteReply
 writing target c = writingOf (layoutOf (c .tag)) target c

@@ -9,8 +9,8 @@ use Rattle.field.specs.declared.Kind.the-variants.{Begin, Read, Write, S
 use Rattle.field.specs.declared.Call.{Call}
 use Rattle.field.specs.declared.Reading.{Reading}
 use Rattle.field.specs.declared.Reading.the-variants.{Field, End, Refused}
-use Rattle.field.specs.Field.{call, readingAt, Wrote, wrote, writing}
-use Rattle.field.specs.Exported.{Lent, lent, Handed, handed, handing}
+use Rattle.field.specs.Field.{call, readingAt, WriteReply, writeReply, writing}
+use Rattle.field.specs.Exported.{Lent, lent, ReadReply, readReply, handing}
 
 -- The numbers that are lent to the exported reader, as they are before the call.
 abbrev pub before : Lent
@@ -23,8 +23,8 @@ pub record FieldRow : Type 0 where
   pub bytes : List ℕ
   pub given : Call
   pub reading : Reading
-  pub handed : Handed
-  pub wrote : Wrote
+  pub readReply : ReadReply
+  pub writeReply : WriteReply
 
 -- A row from kind, bytes, the call that is read from them and the field's length. The writer is given all numbers: those that the tag does
 -- not carry are ignored, and read back as 0. Session, class and cell are larger than any that the store takes: none is judged.
@@ -34,15 +34,15 @@ fieldRow k b c n =
       bytes = b;
       given = call (c .tag) 0xb2 0xa1 0x4321 0x89abcdef;
       reading = Field k c n;
-      handed = handed 100 (lent (c .tag) (c .session) (c .class) (c .cell) (c .value) n);
-      wrote = wrote 100 n (b ++ replicate (12 - n) 0xee);
+      readReply = readReply 100 (lent (c .tag) (c .session) (c .class) (c .cell) (c .value) n);
+      writeReply = writeReply 100 n (b ++ replicate (12 - n) 0xee);
     }
 
 -- The row with what the definitions give.
 unfoldable pub bothWays : FieldRow → FieldRow
 bothWays r =
     let found = readingAt (r .bytes) 0 in
-    record { bytes = r .bytes; given = r .given; reading = found; handed = handing found before; wrote = writing (replicate 12 0xee) (r .given) }
+    record { bytes = r .bytes; given = r .given; reading = found; readReply = handing found before; writeReply = writing (replicate 12 0xee) (r .given) }
 
 unfoldable pub fields : List FieldRow
 fields =
@@ -64,11 +64,11 @@ fields =
 
 -- Bytes, a place, what is read there, and what the exported reader answers and leaves.
 pub data ReadRow : Type 0 where
-  readRow : List ℕ → ℕ → Reading → Handed → ReadRow
+  readRow : List ℕ → ℕ → Reading → ReadReply → ReadRow
 
 -- A refusal's row, from bytes, place and number: the place is the field's first byte, and all is as before.
 abbrev pub refusedRow : List ℕ → ℕ → ℕ → ReadRow
-refusedRow b p n = readRow b p (Refused n p) (handed n before)
+refusedRow b p n = readRow b p (Refused n p) (readReply n before)
 
 -- The row with what the definitions give.
 unfoldable pub readThere : ReadRow → ReadRow
@@ -77,9 +77,9 @@ readThere (readRow b p r h) = readRow b p (readingAt b p) (handing (readingAt b 
 unfoldable pub readings : List ReadRow
 readings =
     -- no bytes left is 106: none at all, at the end, past it
-    readRow [] 0 End (handed 106 before)
-    ∷ readRow (0x01 ∷ 0x01 ∷ 0x00 ∷ 0x02 ∷ []) 4 End (handed 106 before)
-    ∷ readRow (0x01 ∷ 0x01 ∷ 0x00 ∷ 0x02 ∷ []) 5 End (handed 106 before)
+    readRow [] 0 End (readReply 106 before)
+    ∷ readRow (0x01 ∷ 0x01 ∷ 0x00 ∷ 0x02 ∷ []) 4 End (readReply 106 before)
+    ∷ readRow (0x01 ∷ 0x01 ∷ 0x00 ∷ 0x02 ∷ []) 5 End (readReply 106 before)
     -- fewer than three bytes left is 10, also where the tag is unknown
     ∷ refusedRow (0x01 ∷ []) 0 10
     ∷ refusedRow (0x01 ∷ 0x07 ∷ 0x00 ∷ []) 1 10
@@ -101,14 +101,14 @@ readings =
     ∷ refusedRow (0xff ∷ 0xff ∷ 0x01 ∷ 0x01 ∷ 0x00 ∷ []) 2 10
     -- else 100, with bytes before and after the field
     ∷ readRow (0xff ∷ 0x03 ∷ 0x07 ∷ 0x00 ∷ 0x02 ∷ 0x05 ∷ 0x00 ∷ 0x2a ∷ 0x00 ∷ 0x00 ∷ 0x00 ∷ 0xff ∷ []) 1 (Field Write (call 3 2 0 5 42) 10)
-    (handed 100 (lent 3 2 0 5 42 10))
+    (readReply 100 (lent 3 2 0 5 42 10))
     ∷ []
 
 -- ---- the writer's answers, in order (the same section)
 
 -- A target, a call, and what is answered and left.
 pub data WriteRow : Type 0 where
-  writeRow : List ℕ → Call → Wrote → WriteRow
+  writeRow : List ℕ → Call → WriteReply → WriteRow
 
 -- The row with what the definition gives.
 unfoldable pub writtenThere : WriteRow → WriteRow
@@ -117,16 +117,16 @@ writtenThere (writeRow t c w) = writeRow t c (writing t c)
 unfoldable pub writings : List WriteRow
 writings =
     -- an unknown tag is 11, with 0 in place of the length and the target as before
-    writeRow (replicate 12 0xee) (call 0 2 0 0 0) (wrote 11 0 (replicate 12 0xee))
-    ∷ writeRow (replicate 12 0xee) (call 7 2 0 0 0) (wrote 11 0 (replicate 12 0xee))
-    ∷ writeRow (replicate 12 0xee) (call 9 2 0 0 0) (wrote 11 0 (replicate 12 0xee))
+    writeRow (replicate 12 0xee) (call 0 2 0 0 0) (writeReply 11 0 (replicate 12 0xee))
+    ∷ writeRow (replicate 12 0xee) (call 7 2 0 0 0) (writeReply 11 0 (replicate 12 0xee))
+    ∷ writeRow (replicate 12 0xee) (call 9 2 0 0 0) (writeReply 11 0 (replicate 12 0xee))
     -- tested before 13
-    ∷ writeRow [] (call 7 2 0 0 0) (wrote 11 0 [])
-    ∷ writeRow (replicate 2 0xee) (call 7 2 0 0 0) (wrote 11 0 (replicate 2 0xee))
+    ∷ writeRow [] (call 7 2 0 0 0) (writeReply 11 0 [])
+    ∷ writeRow (replicate 2 0xee) (call 7 2 0 0 0) (writeReply 11 0 (replicate 2 0xee))
     -- a target shorter than the field is 13, with 0 in place of the length and the target as before
-    ∷ writeRow [] (call 1 2 0 0 0) (wrote 13 0 [])
-    ∷ writeRow (replicate 3 0xee) (call 1 2 0 0 0) (wrote 13 0 (replicate 3 0xee))
-    ∷ writeRow (replicate 9 0xee) (call 3 2 0 5 42) (wrote 13 0 (replicate 9 0xee))
+    ∷ writeRow [] (call 1 2 0 0 0) (writeReply 13 0 [])
+    ∷ writeRow (replicate 3 0xee) (call 1 2 0 0 0) (writeReply 13 0 (replicate 3 0xee))
+    ∷ writeRow (replicate 9 0xee) (call 3 2 0 5 42) (writeReply 13 0 (replicate 9 0xee))
     -- else 100 with the field's length, here in a target of just that length
-    ∷ writeRow (replicate 10 0xee) (call 3 2 0 5 42) (wrote 100 10 (0x03 ∷ 0x07 ∷ 0x00 ∷ 0x02 ∷ 0x05 ∷ 0x00 ∷ 0x2a ∷ 0x00 ∷ 0x00 ∷ 0x00 ∷ []))
+    ∷ writeRow (replicate 10 0xee) (call 3 2 0 5 42) (writeReply 100 10 (0x03 ∷ 0x07 ∷ 0x00 ∷ 0x02 ∷ 0x05 ∷ 0x00 ∷ 0x2a ∷ 0x00 ∷ 0x00 ∷ 0x00 ∷ []))
     ∷ []

@@ -4,8 +4,8 @@ use crate::Reading;
 use crate::read_field;
 use crate::write_field;
 ghost use mathlib.Core.Path.{_≡_};
-ghost use Rattle.field.specs.Field.{call, readingAt, wrote, writing};
-ghost use Rattle.field.specs.Exported.{lent, handed, handing};
+ghost use Rattle.field.specs.Field.{call, readingAt, writeReply, writing};
+ghost use Rattle.field.specs.Exported.{lent, readReply, handing};
 
 // Reads the field at `place`. With 100 the lent numbers are the call's, and `length` is the field's. With 106, 10, 11 and 12 they are as
 // before; the place of the refused field's first byte is `place`.
@@ -20,7 +20,7 @@ pub extern "C" fn rukkanei_field_read(
     value: &mut u32,
     length: &mut usize,
 ) -> u8
-    ensures { λ r. ⌜ handed r
+    ensures { λ r. ⌜ readReply r
         (lent (now (tag .exit)) (now (session .exit)) (now (class .exit)) (now (cell .exit)) (now (value .exit)) (now (length .exit)))
         ≡ handing (readingAt (now (bytes .entry)) place)
         (lent (now (tag .entry)) (now (session .entry)) (now (class .entry)) (now (cell .entry)) (now (value .entry)) (now (length .entry))) ⌝ }
@@ -56,7 +56,7 @@ pub extern "C" fn rukkanei_field_write(
     value: u32,
     length: &mut usize,
 ) -> u8
-    ensures { λ r. ⌜ wrote r (now (length .exit)) (now (target .exit))
+    ensures { λ r. ⌜ writeReply r (now (length .exit)) (now (target .exit))
         ≡ writing (now (target .entry)) (call tag session class cell value) ⌝ }
 {
     let written = write_field(

@@ -9,7 +9,7 @@ ghost use Prim.Native.Nat.{_+_, _≤_};
 ghost use lib.ListN.{length};
 ghost use lib.Seq.{sets};
 ghost use Rattle.field.specs.Table.{Proper};
-ghost use Rattle.field.specs.Field.{callAt, readingAt, bodyOf, wrote, writing};
+ghost use Rattle.field.specs.Field.{callAt, readingAt, bodyOf, writeReply, writing};
 
 // What a field is.
 pub enum Kind {
@@ -143,7 +143,7 @@ fn write_body(target: &mut [u8], own: Layout, call: Call)
 
 // Puts the field of `call` at the front of `target`.
 pub fn write_field(target: &mut [u8], call: Call) -> Written
-    ensures { λ r. ⌜ wrote (r .number) (r .length) (now (target .exit)) ≡ writing (now (target .entry)) call ⌝ }
+    ensures { λ r. ⌜ writeReply (r .number) (r .length) (now (target .exit)) ≡ writing (now (target .entry)) call ⌝ }
 {
     let tag = call.tag;
     let TagLayout::Known(own) = tags::layout_of(tag) else {

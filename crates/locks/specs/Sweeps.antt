@@ -1,17 +1,26 @@
--- The locks as three lent lists, and what rolling back and sealing leave of them, seen from the session's own part of the log.
+-- The locks as three lent lists, and what rolling back and sealing leave of them, by the session's log.
 use mathlib.Core.Path.{_≡_}
 use Prim.Native.Nat.{ℕ, _*_, _/_, _%_, _≤_, _<_}
 use mathlib.Core.Bool.{Bool, true, cond, not}
 use mathlib.Core.List.{List}
 use lib.ListN.{length, getD, set}
+use denote.Ref.{now}
 use Rattle.model.specs.Search.{below}
 use Rattle.model.specs.Readers.{member, withReader, withoutReader}
+use Rattle.model.specs.Slices.{Slice}
 use Rattle.model.specs.Buffers.{Locks, cellAt, entryAt, publishes, publishesIn, sweep, leave, withdraw}
 
 abbrev pub locksOf : List ℕ → List ℕ → List ℕ → Locks
 locksOf readers claimants exclusives = record { readers = readers; claimants = claimants; exclusives = exclusives }
 
--- what a sweep of m entries asks: the session is one of sixteen, the entries lie in the part, each cell has a lock
+-- the locks that three slices are before a call, and after it
+abbrev pub locksBefore : Slice → Slice → Slice → Locks
+locksBefore readers claimants exclusives = locksOf (now (readers .entry)) (now (claimants .entry)) (now (exclusives .entry))
+
+abbrev pub locksAfter : Slice → Slice → Slice → Locks
+locksAfter readers claimants exclusives = locksOf (now (readers .exit)) (now (claimants .exit)) (now (exclusives .exit))
+
+-- what a sweep of m entries asks: the session is one of sixteen, the entries lie in the log, each cell has a lock
 pub record Swept (s : ℕ) (log : List ℕ) (m : ℕ) (n : ℕ) : Type 0 where
   pub session : s < 16
   pub count : 4 * m ≤ length log
@@ -41,3 +50,9 @@ unfoldable pub droppedAt : List ℕ → ℕ → ℕ → List ℕ → List ℕ �
 droppedAt log k s seen R =
     cond (marked seen (cellAt log k)) R
     (cond (publishes (entryAt log k)) R (set R (cellAt log k) (withoutReader s (getD R (cellAt log k) 0))))
+
+-- what one entry leaves of the cells seen and of the reader sets
+abbrev pub DropsAt : Slice → ℕ → ℕ → Slice → Slice → Type 0
+DropsAt log k s seen readers =
+    (now (seen .exit) ≡ droppedSeen (now (log .entry)) k (now (seen .entry)))
+    × (now (readers .exit) ≡ droppedAt (now (log .entry)) k s (now (seen .entry)) (now (readers .entry)))

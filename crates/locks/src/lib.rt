@@ -7,7 +7,7 @@ ghost use lib.ListN.{length, getD, set};
 ghost use Rattle.model.specs.Readers.{withReader, withoutReader, otherReaders};
 ghost use Rattle.model.specs.Buffers.{cellAt, publishes, lockAt, setLock, lockOn, join, leave, vacate, withdraw, claim, acquire};
 ghost use Rattle.model.specs.Step.{rolledBack};
-ghost use Rattle.locks.specs.Sweeps.{locksOf, Swept, DropsReads, marked, mark, droppedSeen, droppedAt};
+ghost use Rattle.locks.specs.Sweeps.{Swept, DropsReads, marked, mark, locksBefore, locksAfter, DropsAt};
 use model::Lock;
 
 // ---- reader sets
@@ -99,7 +99,7 @@ pub fn claimed(l: Lock, session: u8) -> Lock
 }
 
 // The session is claimant, with the mark.
-pub fn owned(l: Lock, session: u8) -> Lock
+pub fn acquired(l: Lock, session: u8) -> Lock
     ensures { λ r. ⌜ r ≡ acquire session l ⌝ }
 {
     Lock {
@@ -114,7 +114,7 @@ pub fn owned(l: Lock, session: u8) -> Lock
 // The lock of a cell; an empty one past the last cell.
 pub fn at(readers: &[u16], claimants: &[u8], exclusives: &[u8], cell: u32) -> Lock
     requires { ⌜ (length (now claimants) ≡ length (now readers)) × (length (now exclusives) ≡ length (now readers)) ⌝ }
-    ensures { λ r. ⌜ r ≡ lockAt (locksOf (now (readers .entry)) (now (claimants .entry)) (now (exclusives .entry))) cell ⌝ }
+    ensures { λ r. ⌜ r ≡ lockAt (locksBefore readers claimants exclusives) cell ⌝ }
 {
     let c = cell as usize;
     if readers.len() <= c {
@@ -134,7 +134,7 @@ pub fn at(readers: &[u16], claimants: &[u8], exclusives: &[u8], cell: u32) -> Lo
 // A cell's lock anew.
 pub fn put(readers: &mut [u16], claimants: &mut [u8], exclusives: &mut [u8], cell: u32, l: Lock)
     requires { ⌜ (cell < length (now readers)) × (cell < length (now claimants)) × (cell < length (now exclusives)) ⌝ }
-    ensures { λ _. ⌜ locksOf (now (readers .exit)) (now (claimants .exit)) (now (exclusives .exit)) ≡ setLock cell l (locksOf (now (readers .entry)) (now (claimants .entry)) (now (exclusives .entry))) ⌝ }
+    ensures { λ _. ⌜ locksAfter readers claimants exclusives ≡ setLock cell l (locksBefore readers claimants exclusives) ⌝ }
 {
     let c = cell as usize;
     readers[c] = l.readers;
@@ -151,7 +151,7 @@ fn withdraw_at(
     session: u8,
 )
     requires { ⌜ (session < 16) × (cell < length (now readers)) × (length (now claimants) ≡ length (now readers)) × (length (now exclusives) ≡ length (now readers)) ⌝ }
-    ensures { λ _. ⌜ locksOf (now (readers .exit)) (now (claimants .exit)) (now (exclusives .exit)) ≡ lockOn cell (withdraw session) (locksOf (now (readers .entry)) (now (claimants .entry)) (now (exclusives .entry))) ⌝ }
+    ensures { λ _. ⌜ locksAfter readers claimants exclusives ≡ lockOn cell (withdraw session) (locksBefore readers claimants exclusives) ⌝ }
 {
     leave_at(readers, cell, session);
     let c = cell as usize;
@@ -171,7 +171,7 @@ pub fn roll_back(
     session: u8,
 )
     requires { ⌜ (Swept session (now log) count (length (now readers))) × (length (now claimants) ≡ length (now readers)) × (length (now exclusives) ≡ length (now readers)) ⌝ }
-    ensures { λ _. ⌜ locksOf (now (readers .exit)) (now (claimants .exit)) (now (exclusives .exit)) ≡ rolledBack (now (log .entry)) count session (locksOf (now (readers .entry)) (now (claimants .entry)) (now (exclusives .entry))) ⌝ }
+    ensures { λ _. ⌜ locksAfter readers claimants exclusives ≡ rolledBack (now (log .entry)) count session (locksBefore readers claimants exclusives) ⌝ }
 {
     let mut i = 0;
     while i < count {
@@ -216,7 +216,7 @@ fn leave_at(readers: &mut [u16], cell: u32, session: u8)
 // The session leaves the readers of entry k's cell where the entry is the first of its cell and does not publish.
 fn drop_at(log: &[u32], k: usize, readers: &mut [u16], seen: &mut [u64; 16], session: u8)
     requires { ⌜ (session < 16) × (4 * k + 3 < length (now log)) × (cellAt (now log) k < 1024) × (cellAt (now log) k < length (now readers)) ⌝ }
-    ensures { λ _. ⌜ (now (seen .exit) ≡ droppedSeen (now (log .entry)) k (now (seen .entry))) × (now (readers .exit) ≡ droppedAt (now (log .entry)) k session (now (seen .entry)) (now (readers .entry))) ⌝ }
+    ensures { λ _. ⌜ DropsAt log k session seen readers ⌝ }
 {
     let cell = log::cell_at(log, k);
     if is_marked(&*seen, cell) {
@@ -232,7 +232,7 @@ fn drop_at(log: &[u32], k: usize, readers: &mut [u16], seen: &mut [u64; 16], ses
 // Sealing: the session leaves the readers of each cell entered but not written.
 pub fn drop_reads(log: &[u32], count: usize, readers: &mut [u16], session: u8)
     requires { ⌜ (Swept session (now log) count (length (now readers))) × (length (now readers) ≤ 1024) ⌝ }
-    ensures { λ _. ⌜ (DropsReads (now (log .entry)) count session (now (readers .entry)) (now (readers .exit))) ⌝ }
+    ensures { λ _. ⌜ DropsReads (now (log .entry)) count session (now (readers .entry)) (now (readers .exit)) ⌝ }
 {
     let mut seen = [0u64; 16];
     let mut i = 0;

@@ -2,6 +2,7 @@ pub mod Search
 pub mod Readers
 pub mod Buffers
 pub mod Step
+pub mod Slices
 pub mod Told
 pub mod History
 pub mod Computing

@@ -1,34 +1,8 @@
 // Runs document 01's listing on two cells and writes what the replay prints.
 use libc::STDOUT_FILENO;
-use model::Answer;
 use model::Call;
 use model::Session;
 use model::Sessions;
-
-// The number of an answer.
-fn number(a: Answer) -> u32 {
-    match a {
-        Answer::Done => 100,
-        Answer::Value(_) => 101,
-        Answer::Sealed => 102,
-        Answer::Moved => 103,
-        Answer::Waiting => 104,
-        Answer::Committed => 105,
-        Answer::Refused(n) => wide(n),
-    }
-}
-
-fn wide(n: u8) -> u32 {
-    n as u32
-}
-
-// The value of an answer, 0 except with 101.
-fn value(a: Answer) -> u32 {
-    match a {
-        Answer::Value(v) => v,
-        _ => 0,
-    }
-}
 
 // A number below 1,000 in decimal, and a byte after it.
 fn print(x: u32, after: u8) {
@@ -101,11 +75,12 @@ fn main() {
         sessions = r.sessions;
         let answer = r.answer;
         print(i as u32 + 1, b' ');
-        if number(answer) == 101 {
+        let number = answer.number();
+        if number == 101 {
             print(101, b' ');
-            print(value(answer), b'\n');
+            print(answer.value(), b'\n');
         } else {
-            print(number(answer), b'\n');
+            print(number as u32, b'\n');
         }
         i += 1;
     }

@@ -9,16 +9,16 @@ use borrow.Author.Tests.{ltb-true, eqb-true}
 use lib.ListN.{getD}
 use lib.Dec.{T, leb, ltb, eqb}
 use Rattle.model.specs.Buffers.{entryAt, slotIn, cap}
-use Rattle.model.specs.Step.{newCell, claimed, recordFits, readSlot, readPlan, writeSlot, writeCapped, writePlan}
+use Rattle.model.specs.Step
+use Rattle.model.specs.Step.{newCell, claimed, recordFits, readSlot, readPlan, writeSlot, writeCapped, writePlan, guard}
 use Rattle.model.specs.declared.Session.{Session}
 use Rattle.model.specs.declared.Lock.{Lock}
 use Rattle.model.specs.declared.Plan.{Plan}
 use Rattle.model.specs.declared.Plan.the-variants.{Refuse, Tell, Enter, Update, EnterUpdate, RollBack}
 use Rattle.model.proofs.Tools.{split, which}
 use Rattle.log.proofs.Targets.{slot-some}
-use Rattle.decide.specs.Pieces.{guardOn}
 use Rattle.decide.proofs.Ways.{Entries, record-entries}
-use Rattle.store.proofs.Tags.{tag, Passed, Passes, passed, apart}
+use Rattle.store.proofs.Tags.{tag, Passed, Passes, passed, clashes}
 
 -- a plan p of a call on cell c: refused; that of entry k in the log; that of a new cell; or rolled back
 pub data Choice (n : ℕ) (log : List ℕ) (x : Session) (c : ℕ) (known : ℕ → Plan) (new p : Plan) : Type 0 where
@@ -31,8 +31,8 @@ module _ (n : ℕ) (log : List ℕ) (x : Session) (l : Lock) (c : ℕ) where
   -- past the tests, and with no entry of the cell
   module _ (known : ℕ → Plan) (new : Plan) where
     past : (p : Plan) → (Entries n log x → c < n → Choice n log x c known new p)
-        → Choice n log x c known new (guardOn (recordFits n log x) (eqb (x .phase) 1) (cond (ltb c n) p (Refuse 3)))
-    unfolding guardOn
+        → Choice n log x c known new (guard n log x (eqb (x .phase) 1) (Step.known n c p))
+    unfolding guard Step.known
     past p f =
         split (Choice n log x c known new) (recordFits n log x)
         (λ w.
@@ -50,14 +50,14 @@ module _ (n : ℕ) (log : List ℕ) (x : Session) (l : Lock) (c : ℕ) where
         (λ a. refuses 5 refl)
 
   -- an entry found is one of at most 32
-  spot : Entries n log x → (k : ℕ) → slotIn log 0 (x .count) c ≡ some k → k < 32
+  spot : Entries n log x → (k : ℕ) → slotIn log (x .count) c ≡ some k → k < 32
   spot e k q = let i = slot-some log (x .count) c q .0 in let f = e .count in omega arith
 
-  pub read-choice : Choice n log x c (λ k. Tell (entryAt log 0 k .current)) (Enter c) (readPlan n log x l c)
+  pub read-choice : Choice n log x c (λ k. Tell (entryAt log k .current)) (Enter c) (readPlan n log x l c)
   unfolding readPlan readSlot
   read-choice =
-      past (λ k. Tell (entryAt log 0 k .current)) (Enter c) _
-      (λ e i. which (slotIn log 0 (x .count) c) (λ q. rw q (fresh (λ k. Tell (entryAt log 0 k .current)) (Enter c) e i)) (λ k q. rw q (knows k (spot e k q) refl)))
+      past (λ k. Tell (entryAt log k .current)) (Enter c) _
+      (λ e i. which (slotIn log (x .count) c) (λ q. rw q (fresh (λ k. Tell (entryAt log k .current)) (Enter c) e i)) (λ k q. rw q (knows k (spot e k q) refl)))
 
   pub write-choice : (classes : List ℕ) (v : ℕ) → Choice n log x c (λ k. Update k v) (EnterUpdate c v) (writePlan classes n log x l c v)
   unfolding writePlan writeCapped writeSlot
@@ -67,7 +67,7 @@ module _ (n : ℕ) (log : List ℕ) (x : Session) (l : Lock) (c : ℕ) where
       split (Choice n log x c (λ k. Update k v) (EnterUpdate c v)) (ltb (getD classes c 0) 16)
       (λ a.
       split (Choice n log x c (λ k. Update k v) (EnterUpdate c v)) (leb v (cap (getD classes c 0)))
-      (λ b. which (slotIn log 0 (x .count) c) (λ q. rw q (fresh (λ k. Update k v) (EnterUpdate c v) e i)) (λ k q. rw q (knows k (spot e k q) refl)))
+      (λ b. which (slotIn log (x .count) c) (λ q. rw q (fresh (λ k. Update k v) (EnterUpdate c v) e i)) (λ k q. rw q (knows k (spot e k q) refl)))
       (λ b. refuses 4 refl))
       (λ a. refuses 8 refl))
 
@@ -76,10 +76,10 @@ module _ {n : ℕ} {log : List ℕ} {x : Session} {c : ℕ} {p : Plan} where
   module _ {known : ℕ → Plan} {new : Plan} where
     pub when-new : Choice n log x c known new p → (q : Plan) → T (not (eqb 0 (tag q))) → ((k : ℕ) → T (not (eqb (tag (known k)) (tag q)))) → T (not (eqb 6 (tag q)))
         → p ≡ q → (c < n) × (x .count < 32) × (p ≡ new)
-    when-new (refuses r h) q t u v e = absurd (apart p (Refuse r) q t h e)
-    when-new (knows k i h) q t u v e = absurd (apart p (known k) q (u k) h e)
+    when-new (refuses r h) q t u v e = absurd (clashes p (Refuse r) q t h e)
+    when-new (knows k i h) q t u v e = absurd (clashes p (known k) q (u k) h e)
     when-new (enters i j h) q t u v e = (i, j, h)
-    when-new (rolls i h) q t u v e = absurd (apart p RollBack q v h e)
+    when-new (rolls i h) q t u v e = absurd (clashes p RollBack q v h e)
 
     pub when-left : Choice n log x c known new p → (a b : ℕ) → ((k : ℕ) → Passes a (known k)) → Passes b new → Passed a p → Passed 0 p → Passed b p
         → Entries n log x × (p ≡ RollBack)
@@ -89,7 +89,7 @@ module _ {n : ℕ} {log : List ℕ} {x : Session} {c : ℕ} {p : Plan} where
     when-left (rolls l h) a b t u i j k = (l, h)
 
   pub when-known : {v : ℕ} → Choice n log x c (λ k. Update k v) (EnterUpdate c v) p → (k u : ℕ) → p ≡ Update k u → k < 32
-  when-known (refuses r h) k u e = absurd (apart p (Refuse r) (Update k u) tt h e)
+  when-known (refuses r h) k u e = absurd (clashes p (Refuse r) (Update k u) tt h e)
   when-known (knows j i h) k u e = let q : j ≡ k = cc in omega arith
-  when-known {v} (enters i j h) k u e = absurd (apart p (EnterUpdate c v) (Update k u) tt h e)
-  when-known (rolls i h) k u e = absurd (apart p RollBack (Update k u) tt h e)
+  when-known {v} (enters i j h) k u e = absurd (clashes p (EnterUpdate c v) (Update k u) tt h e)
+  when-known (rolls i h) k u e = absurd (clashes p RollBack (Update k u) tt h e)

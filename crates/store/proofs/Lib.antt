@@ -2,7 +2,7 @@ pub mod Advances
 pub mod Carry
 pub mod Choices
 pub mod Entering
-pub mod Own
+pub mod OneRecord
 pub mod Parts
 pub mod Peeks
 pub mod Refusals

@@ -12,27 +12,27 @@ use base.Fml.{GName}
 use denote.Ref.{RefT}
 use lib.Dec.{T, ltb, eqb}
 use lib.ListN.{length, take, drop, length-take, length-drop}
-use Rattle.model.specs.Buffers.{Store, size, sessionAt, entryAt, slotIn, lengthsFit, logIn}
-use Rattle.model.specs.Step.{outcome, effect, planOf, recordOf, recordFits, guard, known, peekSlot, plan, shown, peekPlan}
+use Rattle.model.specs.Buffers.{Store, size, sessionAt, entryAt, slotIn, lengthsFit}
+use Rattle.model.specs.Step.{outcome, effect, planOf, recordOf, recordFits, guard, known, peekSlot, plan, shown, peekShows, peekPlan, logOf}
 use Rattle.model.specs.declared.Call.the-variants.{Peek}
 use Rattle.model.specs.declared.Answer.the-variants.{Done, Refused}
 use Rattle.model.specs.declared.Plan.{Plan}
 use Rattle.model.specs.declared.Plan.the-variants.{Refuse, ShowStore, ShowLog}
 use Rattle.model.proofs.Tools.{split}
 use Rattle.model.proofs.Laws.{find-some}
-use Rattle.decide.proofs.Agree.{record-agree, peek-agree}
+use Rattle.decide.proofs.Agree.{admitted}
 use Rattle.decide.proofs.Ways.{record-entries}
-use Rattle.store.specs.Lent.{carried, Sized, PartOf, Handed}
+use Rattle.store.specs.Lent.{outcomeOf, LengthsFit, PartOf, IsPart}
 use Rattle.store.proofs.Carry.{carries, refuses, carry-show-store, carry-show-log}
 use Rattle.store.proofs.Refusals.{lengths-of}
-use Rattle.store.proofs.Parts.{own, cut, cut-is}
-use Rattle.store.proofs.Tags.{tag, Passed, passed, apart}
+use Rattle.store.proofs.Parts.{recordIn, cut, cut-is}
+use Rattle.store.proofs.Tags.{tag, Passed, passed, clashes}
 
 -- what the code decides from the part is the model's plan
-pub peek-planned : (σ : Store) (s : ℕ) → Sized σ s → (c : ℕ) (p : Plan) → p ≡ peekPlan (length (σ .lent .values)) (cut (σ .lent .logs) s) (own σ s) c
+pub peek-planned : (σ : Store) (s : ℕ) → LengthsFit σ s → (c : ℕ) (p : Plan) → p ≡ peekPlan (length (σ .lent .values)) (cut (σ .lent .logs) s) (recordIn σ s) c
     → p ≡ planOf (Peek s c) σ
-unfolding planOf size sessionAt
-peek-planned σ s z c p e = e ∙ rw cut-is (peek-agree (σ .lent) s (own σ s) (z .lengths) (z .session) c)
+unfolding plan size sessionAt
+peek-planned σ s z c p e = e ∙ rw cut-is (admitted (Peek s c) σ (z .lengths) (z .session))
 
 -- ---- what a plan p of a peek can be
 
@@ -43,12 +43,12 @@ data Peeked (σ : Store) (s c : ℕ) (p : Plan) : Type 0 where
 
 module _ (σ : Store) (s c : ℕ) where
   by-slot : lengthsFit (σ .lent) ≡ true → s < 16 → c < length (σ .lent .values) → recordOf σ s .count ≤ 32
-      → (o : Option ℕ) → slotIn (σ .lent .logs) s (recordOf σ s .count) c ≡ o → Peeked σ s c (peekSlot (σ .lent) s c o)
+      → (o : Option ℕ) → slotIn (logOf σ s) (recordOf σ s .count) c ≡ o → Peeked σ s c (peekSlot (logOf σ s) c o)
   unfolding peekSlot slotIn
   by-slot l h i few none e = turned 14 refl
   by-slot l h i few (some k) e =
       let f = find-some _ c (recordOf σ s .count) e .0 in
-      split (Peeked σ s c) (entryAt (σ .lent .logs) s k .dirty) (λ d. written k (omega arith) i h (lengths-of (σ .lent) l .logs) refl) (λ d. plain i refl)
+      split (Peeked σ s c) (entryAt (logOf σ s) k .dirty) (λ d. written k (omega arith) i h (lengths-of (σ .lent) l .logs) refl) (λ d. plain i refl)
 
   peeked : Peeked σ s c (planOf (Peek s c) σ)
   unfolding planOf plan guard known size
@@ -58,12 +58,12 @@ module _ (σ : Store) (s c : ℕ) where
       (λ l.
       split (Peeked σ s c) (ltb s 16)
       (λ h.
-      split (Peeked σ s c) (recordFits (σ .lent) s x)
+      split (Peeked σ s c) (recordFits (size (σ .lent)) (logOf σ s) x)
       (λ w.
       split (Peeked σ s c) (eqb (x .phase) 1)
       (λ f.
       let one = eqb-true (x .phase) 1 f in
-      let few = record-entries (size (σ .lent)) (part (σ .lent .logs) s) x (record-agree (σ .lent) s x ∙ w) (omega arith) .count in
+      let few = record-entries (size (σ .lent)) (logOf σ s) x w (omega arith) .count in
       split (Peeked σ s c) (ltb c (length (σ .lent .values))) (λ i. by-slot l (ltb-true s 16 h) (ltb-true c _ i) few _ refl) (λ i. turned 3 refl))
       (λ f. turned 2 refl))
       (λ w. turned 9 refl))
@@ -72,18 +72,18 @@ module _ (σ : Store) (s c : ℕ) where
 
 module _ {σ : Store} {s c : ℕ} {p : Plan} where
   of-any : Peeked σ s c p → (q : Plan) → T (not (eqb 0 (tag q))) → p ≡ q → c < length (σ .lent .values)
-  of-any (turned r f) q t e = absurd (apart p (Refuse r) q t f e)
+  of-any (turned r f) q t e = absurd (clashes p (Refuse r) q t f e)
   of-any (plain i f) q t e = i
   of-any (written j l i h w f) q t e = i
 
   of-store : Peeked σ s c p → (k : ℕ) → p ≡ ShowStore k → p ≡ ShowStore c
-  of-store (turned r f) k e = absurd (apart p (Refuse r) (ShowStore k) tt f e)
+  of-store (turned r f) k e = absurd (clashes p (Refuse r) (ShowStore k) tt f e)
   of-store (plain i f) k e = f
-  of-store (written j l i h w f) k e = absurd (apart p (ShowLog j) (ShowStore k) tt f e)
+  of-store (written j l i h w f) k e = absurd (clashes p (ShowLog j) (ShowStore k) tt f e)
 
   of-log : Peeked σ s c p → (k : ℕ) → p ≡ ShowLog k → 128 * s + (4 * k + 2) + 1 ≤ length (σ .lent .logs)
-  of-log (turned r f) k e = absurd (apart p (Refuse r) (ShowLog k) tt f e)
-  of-log (plain i f) k e = absurd (apart p (ShowStore c) (ShowLog k) tt f e)
+  of-log (turned r f) k e = absurd (clashes p (Refuse r) (ShowLog k) tt f e)
+  of-log (plain i f) k e = absurd (clashes p (ShowStore c) (ShowLog k) tt f e)
   of-log (written j l i h w f) k e = let q : j ≡ k = cc in omega arith
 
   of-neither : Peeked σ s c p → Passed 14 p → Passed 15 p → (r : ℕ) × (p ≡ Refuse r)
@@ -91,7 +91,7 @@ module _ {σ : Store} {s c : ℕ} {p : Plan} where
   of-neither (plain i f) a b = absurd (passed 14 p (ShowStore c) tt f a)
   of-neither (written j l i h w f) a b = absurd (passed 15 p (ShowLog j) tt f b)
 
-  of-either : Peeked σ s c p → Passed 0 p → outcome Done σ ≡ carried s p σ
+  of-either : Peeked σ s c p → Passed 0 p → outcome Done σ ≡ outcomeOf s p σ
   of-either (turned r f) a = absurd (passed 0 p (Refuse r) tt f a)
   of-either (plain i f) a = rw f (carry-show-store s σ c)
   of-either (written j l i h w f) a = rw f (carry-show-log s σ j)
@@ -132,15 +132,15 @@ module _ (σ : Store) (s c : ℕ) (p : Plan) (e : p ≡ planOf (Peek s c) σ) wh
   peek-neither = of-neither way
 
   module _ (v logs : RefT (List ℕ)) where
-    pub hands-store : σ .lent .values ≡ v .now → (k : ℕ) → p ≡ ShowStore k → (γ : GName) → Handed v logs (shown s (planOf (Peek s c) σ)) (slPart v (bySize 4 c (v .ptr .1)) c (c + 1) γ)
+    pub hands-store : σ .lent .values ≡ v .now → (k : ℕ) → p ≡ ShowStore k → (γ : GName) → IsPart v logs (peekShows s c σ) (slPart v (bySize 4 c (v .ptr .1)) c (c + 1) γ)
     unfolding shown
     hands-store i k f γ = rw (← e, of-store way k f) (one v c (rw i at (peek-inside (ShowStore k) tt f)) γ)
 
     pub hands-log : σ .lent .logs ≡ logs .now → (k : ℕ) → p ≡ ShowLog k → (γ : GName)
-        → Handed v logs (shown s (planOf (Peek s c) σ)) (slPart logs (bySize 4 (128 * s + (4 * k + 2)) (logs .ptr .1)) (128 * s + (4 * k + 2)) (128 * s + (4 * k + 2) + 1) γ)
+        → IsPart v logs (peekShows s c σ) (slPart logs (bySize 4 (128 * s + (4 * k + 2)) (logs .ptr .1)) (128 * s + (4 * k + 2)) (128 * s + (4 * k + 2) + 1) γ)
     unfolding shown
     hands-log i k f γ = rw (← e, f) (one logs (128 * s + (4 * k + 2)) (rw i at (peek-logged k f)) γ)
 
-    pub hands-nothing : Passed 14 p → Passed 15 p → (r : RefT (List ℕ)) → r .now ≡ [] → Handed v logs (shown s (planOf (Peek s c) σ)) r
+    pub hands-nothing : Passed 14 p → Passed 15 p → (r : RefT (List ℕ)) → r .now ≡ [] → IsPart v logs (peekShows s c σ) r
     unfolding shown
     hands-nothing a b r n = rw (← e, peek-neither a b .1) n

@@ -1,5 +1,5 @@
 -- The first two refusals of every call, 7 by the lengths and 1 by the session: the plan, and the whole outcome where the code returns it.
--- Past them the store is `Sized`, which the inner functions ask for.
+-- Past them the store is `LengthsFit`, which the inner functions ask for.
 use mathlib.Core.Path.{_≡_, sym, _∙_}
 use mathlib.Core.Bool.{Bool, true, false}
 use Prim.Native.Nat.{ℕ, _<_, _≤_}
@@ -8,13 +8,12 @@ use borrow.Author.Tests.{le-ltb, eqb-true, leb-true}
 use lib.ListN.{length}
 use lib.Dec.{leb, eqb}
 use Rattle.model.specs.Buffers.{Buffers, Store, size, lengthsFit, lengthsMatch}
-use Rattle.model.specs.Step.{outcome, effect, planOf, plan, guard, sessionOf}
+use Rattle.model.specs.Step.{outcome, effect, planOf, sessionOf}
 use Rattle.model.specs.declared.Call.{Call}
-use Rattle.model.specs.declared.Call.the-variants.{Begin, Read, Write, Seal, Advance, Abandon, Peek}
 use Rattle.model.specs.declared.Answer.the-variants.{Refused}
 use Rattle.model.specs.declared.Plan.the-variants.{Refuse}
 use Rattle.model.proofs.Tools.{test, clash, and-false}
-use Rattle.store.specs.Lent.{Sized}
+use Rattle.store.specs.Lent.{LengthsFit}
 use Rattle.store.proofs.Carry.{refuses}
 
 -- what fitting lengths say, one by one
@@ -47,24 +46,12 @@ lengths-of B h =
 
 -- the plans
 pub plan-7 : (k : Call) (σ : Store) → lengthsFit (σ .lent) ≡ false → planOf k σ ≡ Refuse 7
-unfolding planOf plan guard
-plan-7 (Begin s) σ h = rw h
-plan-7 (Read s c) σ h = rw h
-plan-7 (Write s c v) σ h = rw h
-plan-7 (Seal s) σ h = rw h
-plan-7 (Advance s) σ h = rw h
-plan-7 (Abandon s) σ h = rw h
-plan-7 (Peek s c) σ h = rw h
+unfolding planOf
+plan-7 k σ h = rw h
 
 pub plan-1 : (k : Call) (σ : Store) → lengthsFit (σ .lent) ≡ true → 15 < sessionOf k → planOf k σ ≡ Refuse 1
-unfolding planOf plan guard
-plan-1 (Begin s) σ h l = rw (h, le-ltb s 16 l)
-plan-1 (Read s c) σ h l = rw (h, le-ltb s 16 l)
-plan-1 (Write s c v) σ h l = rw (h, le-ltb s 16 l)
-plan-1 (Seal s) σ h l = rw (h, le-ltb s 16 l)
-plan-1 (Advance s) σ h l = rw (h, le-ltb s 16 l)
-plan-1 (Abandon s) σ h l = rw (h, le-ltb s 16 l)
-plan-1 (Peek s c) σ h l = rw (h, le-ltb s 16 l)
+unfolding planOf
+plan-1 k σ h l = rw (h, le-ltb (sessionOf k) 16 l)
 
 -- the same where the code has the test's answer b: of the call's whole outcome, and of what is known past both
 module _ (σ : Store) (b : Bool)
@@ -79,5 +66,5 @@ module _ (σ : Store) (b : Bool)
   pub refused-1 : (k : Call) → b ≡ true → 15 < sessionOf k → outcome (Refused 1) σ ≡ effect k σ
   refused-1 k h l = refuses k σ 1 (sym (plan-1 k σ (sym fit-is ∙ h) l))
 
-  pub sized : (s : ℕ) → b ≡ true → s ≤ 15 → Sized σ s
+  pub sized : (s : ℕ) → b ≡ true → s ≤ 15 → LengthsFit σ s
   sized s h l = record { lengths = sym fit-is ∙ h; session = omega arith }

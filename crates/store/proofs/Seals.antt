@@ -8,7 +8,7 @@ use borrow.Author.Tests.{eqb-true}
 use lib.Dec.{eqb}
 use lib.ListN.{length}
 use Rattle.model.specs.Buffers.{Store, size, idle, sessionAt, moveTo, targetIn}
-use Rattle.model.specs.Step.{outcome, effect, planOf, sealTarget, recordFits, sealPlan}
+use Rattle.model.specs.Step.{outcome, effect, plan, planOf, sealTarget, recordFits, sealPlan, guard}
 use Rattle.model.specs.declared.Session.{Session}
 use Rattle.model.specs.declared.Call.the-variants.{Seal}
 use Rattle.model.specs.declared.Answer.the-variants.{Sealed, Committed, Refused}
@@ -16,13 +16,12 @@ use Rattle.model.specs.declared.Plan.{Plan}
 use Rattle.model.specs.declared.Plan.the-variants.{Refuse, CommitReads, BeginPromotion}
 use Rattle.model.proofs.Tools.{split}
 use Rattle.locks.specs.Sweeps.{locksOf, Swept, DropsReads}
-use Rattle.decide.specs.Pieces.{guardOn}
-use Rattle.decide.proofs.Agree.{seal-agree}
+use Rattle.decide.proofs.Agree.{admitted}
 use Rattle.decide.proofs.Ways.{Entries, record-entries}
-use Rattle.store.specs.Lent.{Sized}
+use Rattle.store.specs.Lent.{LengthsFit}
 use Rattle.store.proofs.Carry.{carries, refuses, leaves, carry-commit-reads, carry-begin-promotion}
 use Rattle.store.proofs.Refusals.{lengths-of}
-use Rattle.store.proofs.Parts.{own, cut, cut-is, reads-dropped, locks-even, can-sweep}
+use Rattle.store.proofs.Parts.{recordIn, cut, cut-is, reads-dropped, locks-even, can-sweep}
 use Rattle.store.proofs.Tags.{Passed, passed}
 
 -- what a plan p of a seal can be; the entries fit where it is no refusal
@@ -38,12 +37,12 @@ module _ (n : ℕ) (log : List ℕ) (x : Session) where
   by-target w (some c) = promotes w refl
 
   sealing : Sealing n log x (sealPlan n log x)
-  unfolding sealPlan guardOn
+  unfolding sealPlan guard
   sealing =
       split (Sealing n log x) (recordFits n log x)
       (λ w.
       split (Sealing n log x) (eqb (x .phase) 1)
-      (λ f. let h = eqb-true (x .phase) 1 f in by-target (record-entries n log x w (omega arith)) (targetIn log 0 (x .count) 0))
+      (λ f. let h = eqb-true (x .phase) 1 f in by-target (record-entries n log x w (omega arith)) (targetIn log (x .count) 0))
       (λ f. turned 2 refl))
       (λ w. turned 9 refl)
 
@@ -70,35 +69,35 @@ module _ (n : ℕ) (log : List ℕ) (x : Session) (p : Plan) (e : p ≡ sealPlan
   seal-begins = begins way h
 
 -- the code's plan p
-module _ (σ : Store) (s : ℕ) (z : Sized σ s) (p : Plan) (e : p ≡ sealPlan (length (σ .lent .values)) (cut (σ .lent .logs) s) (own σ s)) where
+module _ (σ : Store) (s : ℕ) (z : LengthsFit σ s) (p : Plan) (e : p ≡ sealPlan (length (σ .lent .values)) (cut (σ .lent .logs) s) (recordIn σ s)) where
   pub seal-planned : p ≡ planOf (Seal s) σ
-  unfolding planOf size sessionAt
-  seal-planned = e ∙ rw cut-is (seal-agree (σ .lent) s (own σ s) (z .lengths) (z .session))
+  unfolding plan size sessionAt
+  seal-planned = e ∙ rw cut-is (admitted (Seal s) σ (z .lengths) (z .session))
 
   pub seal-refused : (r : ℕ) → p ≡ Refuse r → outcome (Refused r) σ ≡ effect (Seal s) σ
   seal-refused r f = refuses (Seal s) σ r (sym f ∙ seal-planned)
 
   -- no refusal
   module _ (h : Passed 0 p) where
-    fit : Entries (length (σ .lent .values)) (cut (σ .lent .logs) s) (own σ s)
+    fit : Entries (length (σ .lent .values)) (cut (σ .lent .logs) s) (recordIn σ s)
     fit = seal-entries _ _ _ p e h
 
-    pub can-drop : (Swept s (cut (σ .lent .logs) s) (own σ s .count) (length (σ .lent .locks .readers))) × (length (σ .lent .locks .readers) ≤ 1024)
-    can-drop = let l = lengths-of (σ .lent) (z .lengths) in (can-sweep σ s z (own σ s) fit, rw (l .readers) (l .few))
+    pub can-drop : (Swept s (cut (σ .lent .logs) s) (recordIn σ s .count) (length (σ .lent .locks .readers))) × (length (σ .lent .locks .readers) ≤ 1024)
+    can-drop = let l = lengths-of (σ .lent) (z .lengths) in (can-sweep σ s z (recordIn σ s) fit, rw (l .readers) (l .few))
 
     -- the reader sets R that the sweep leaves, and the record y
-    module _ (R : List ℕ) (d : DropsReads (cut (σ .lent .logs) s) (own σ s .count) s (σ .lent .locks .readers) R) (y : Session) where
+    module _ (R : List ℕ) (d : DropsReads (cut (σ .lent .logs) s) (recordIn σ s .count) s (σ .lent .locks .readers) R) (y : Session) where
       pub seal-commits : p ≡ CommitReads → y ≡ idle
           → outcome Committed (leaves σ s (locksOf R (σ .lent .locks .claimants) (σ .lent .locks .exclusives)) (σ .lent .values) (σ .lent .logs) y) ≡ effect (Seal s) σ
       unfolding sessionAt
       seal-commits f i =
           let l = locks-even σ s z in
-          carry-commit-reads s σ _ y (reads-dropped σ s (own σ s) (fit .count) R (l .0) (l .1) d) i ∙ carries (Seal s) σ CommitReads (sym f ∙ seal-planned)
+          carry-commit-reads s σ _ y (reads-dropped σ s (recordIn σ s .count) R (l .0) (l .1) d) i ∙ carries (Seal s) σ CommitReads (sym f ∙ seal-planned)
 
-      pub seal-promotes : Passed 8 p → y ≡ moveTo 2 0 (own σ s)
+      pub seal-promotes : Passed 8 p → y ≡ moveTo 2 0 (recordIn σ s)
           → outcome Sealed (leaves σ s (locksOf R (σ .lent .locks .claimants) (σ .lent .locks .exclusives)) (σ .lent .values) (σ .lent .logs) y) ≡ effect (Seal s) σ
       unfolding sessionAt
       seal-promotes f i =
           let l = locks-even σ s z in
-          carry-begin-promotion s σ _ y (reads-dropped σ s (own σ s) (fit .count) R (l .0) (l .1) d) i
+          carry-begin-promotion s σ _ y (reads-dropped σ s (recordIn σ s .count) R (l .0) (l .1) d) i
           ∙ carries (Seal s) σ BeginPromotion (sym (seal-begins _ _ _ p e h f) ∙ seal-planned)

@@ -31,5 +31,5 @@ pub passed : (k : ℕ) (p q : Plan) → Passes k q → p ≡ q → Passed k p �
 passed k p q t e h = miss (others k) (tag q) t (subst (λ (r : Plan). Passed k r) e h)
 
 -- no plan is of two variants, which `tt` shows
-pub apart : (p q r : Plan) → T (not (eqb (tag q) (tag r))) → p ≡ q → p ≡ r → ⊥
-apart p q r t e f = T-not (eqb (tag q) (tag r)) t (subst (λ (k : ℕ). T (eqb (tag q) k)) (ap tag (sym e ∙ f)) (eqb-refl (tag q)))
+pub clashes : (p q r : Plan) → T (not (eqb (tag q) (tag r))) → p ≡ q → p ≡ r → ⊥
+clashes p q r t e f = T-not (eqb (tag q) (tag r)) t (subst (λ (k : ℕ). T (eqb (tag q) k)) (ap tag (sym e ∙ f)) (eqb-refl (tag q)))

@@ -3,12 +3,10 @@
 ghost use mathlib.Core.Path.{_≡_};
 ghost use Prim.Native.Nat.{_+_, _*_, _%_, _<_, _≤_};
 ghost use lib.ListN.{length, replicate};
-ghost use Rattle.model.specs.Buffers.{sessionAt, withSession, cellAt, lockAt, lockOn, join, appended, logIn};
-ghost use Rattle.model.specs.Step.{outcome, effect, setUpEffect, planOf, shown};
+ghost use Rattle.model.specs.Buffers.{sessionAt, lockAt};
 ghost use Rattle.model.specs.declared.Call.the-variants.{Begin, Read, Write, Seal, Advance, Abandon, Peek};
 ghost use Rattle.locks.specs.Sweeps.{locksOf};
-ghost use Rattle.decide.specs.Pieces.{advanceOn};
-ghost use Rattle.store.specs.Lent.{storeOf, carried, Sized, Admitted, Handed};
+ghost use Rattle.store.specs.Lent.{storeOf, Enters, Takes, TakesOne, SetsUp, AdvancesAt, LengthsFit, EntriesFit, Plans, HandsBack};
 use decide::Due;
 use model::Answer;
 use model::Call;
@@ -20,7 +18,7 @@ use model::Sessions;
 
 // A call's answer, and the record that it leaves its session. Each call but peek hands on one record by value and puts what is left of it in its
 // place at the end, so that the sixteen are copied in and out once. The inner functions name the sixteen in their contracts alone.
-struct Kept {
+struct SessionReply {
     answer: Answer,
     session: Session,
 }
@@ -59,7 +57,7 @@ pub fn set_up(
     exclusives: &mut [u8],
     logs: &mut [u32],
 ) -> Reply
-    ensures { λ r. ⌜ outcome (r .answer) (storeOf (now (values .entry)) (now (classes .entry)) (now (readers .exit)) (now (claimants .exit)) (now (exclusives .exit)) (now (logs .exit)) (r .sessions)) ≡ setUpEffect (storeOf (now (values .entry)) (now (classes .entry)) (now (readers .entry)) (now (claimants .entry)) (now (exclusives .entry)) (now (logs .entry)) sessions) ⌝ }
+    ensures { λ r. ⌜ SetsUp values classes readers claimants exclusives logs sessions r ⌝ }
 {
     if !decide::lengths_fit(
         values.len(),
@@ -104,9 +102,9 @@ fn begin_own(
     exclusives: &[u8],
     logs: &[u32],
     session: u8,
-) -> Kept
+) -> SessionReply
     requires { ⌜ x ≡ sessionAt sessions (session % 16) ⌝ }
-    ensures { λ r. ⌜ outcome (r .answer) (storeOf (now (values .entry)) (now (classes .entry)) (now (readers .entry)) (now (claimants .entry)) (now (exclusives .entry)) (now (logs .entry)) (withSession sessions (session % 16) (r .session))) ≡ effect (Begin session) (storeOf (now (values .entry)) (now (classes .entry)) (now (readers .entry)) (now (claimants .entry)) (now (exclusives .entry)) (now (logs .entry)) sessions) ⌝ }
+    ensures { λ r. ⌜ TakesOne (Begin session) values classes readers claimants exclusives logs sessions (session % 16) r ⌝ }
 {
     let n = values.len();
     if !decide::lengths_fit(
@@ -117,13 +115,13 @@ fn begin_own(
         exclusives.len(),
         logs.len(),
     ) {
-        return Kept {
+        return SessionReply {
             answer: Answer::Refused(7),
             session: x,
         };
     }
     if 15 < session {
-        return Kept {
+        return SessionReply {
             answer: Answer::Refused(1),
             session: x,
         };
@@ -134,13 +132,13 @@ fn begin_own(
     let phase = x.phase;
     let turned = decide::tests(&logs[a..e], n, x, phase == 0);
     if turned != 0 {
-        return Kept {
+        return SessionReply {
             answer: Answer::Refused(turned),
             session: x,
         };
     }
     let y = x.begun();
-    Kept {
+    SessionReply {
         answer: Answer::Done,
         session: y,
     }
@@ -157,7 +155,7 @@ pub fn begin(
     logs: &[u32],
     session: u8,
 ) -> Reply
-    ensures { λ r. ⌜ outcome (r .answer) (storeOf (now (values .entry)) (now (classes .entry)) (now (readers .entry)) (now (claimants .entry)) (now (exclusives .entry)) (now (logs .entry)) (r .sessions)) ≡ effect (Begin session) (storeOf (now (values .entry)) (now (classes .entry)) (now (readers .entry)) (now (claimants .entry)) (now (exclusives .entry)) (now (logs .entry)) sessions) ⌝ }
+    ensures { λ r. ⌜ Takes (Begin session) values classes readers claimants exclusives logs sessions r ⌝ }
 {
     let i = (session % 16) as usize;
     let x = sessions.records[i];
@@ -191,7 +189,7 @@ fn enter(
     value: u32,
 )
     requires { ⌜ (session < 16) × (cell < length (now readers)) × (length (now claimants) ≡ length (now readers)) × (length (now exclusives) ≡ length (now readers)) × (4 * count + 3 < length (now log)) × (l ≡ lockAt (locksOf (now readers) (now claimants) (now exclusives)) cell) ⌝ }
-    ensures { λ _. ⌜ (locksOf (now (readers .exit)) (now (claimants .exit)) (now (exclusives .exit)) ≡ lockOn cell (join session) (locksOf (now (readers .entry)) (now (claimants .entry)) (now (exclusives .entry)))) × (now (log .exit) ≡ appended (now (log .entry)) 0 count cell value) ⌝ }
+    ensures { λ _. ⌜ Enters readers claimants exclusives log count session cell value ⌝ }
 {
     locks::put(
         readers,
@@ -215,9 +213,9 @@ fn read_as(
     logs: &mut [u32],
     session: u8,
     cell: u32,
-) -> Kept
-    requires { ⌜ (Sized (storeOf (now values) (now classes) (now readers) (now claimants) (now exclusives) (now logs) sessions) session) × (x ≡ sessionAt sessions session) ⌝ }
-    ensures { λ r. ⌜ outcome (r .answer) (storeOf (now (values .entry)) (now (classes .entry)) (now (readers .exit)) (now (claimants .exit)) (now (exclusives .exit)) (now (logs .exit)) (withSession sessions session (r .session))) ≡ effect (Read session cell) (storeOf (now (values .entry)) (now (classes .entry)) (now (readers .entry)) (now (claimants .entry)) (now (exclusives .entry)) (now (logs .entry)) sessions) ⌝ }
+) -> SessionReply
+    requires { ⌜ (LengthsFit (storeOf (now values) (now classes) (now readers) (now claimants) (now exclusives) (now logs) sessions) session) × (x ≡ sessionAt sessions session) ⌝ }
+    ensures { λ r. ⌜ TakesOne (Read session cell) values classes readers claimants exclusives logs sessions session r ⌝ }
 {
     let n = values.len();
     let i = session as usize;
@@ -226,13 +224,13 @@ fn read_as(
     let l = locks::at(&readers[..], &claimants[..], &exclusives[..], cell);
     let p = decide::read(&logs[a..e], n, x, l, cell);
     if let Plan::Tell(value) = p {
-        return Kept {
+        return SessionReply {
             answer: Answer::Value(value),
             session: x,
         };
     }
     if let Plan::Refuse(number) = p {
-        return Kept {
+        return SessionReply {
             answer: Answer::Refused(number),
             session: x,
         };
@@ -252,14 +250,14 @@ fn read_as(
             value,
         );
         let y = x.with_entry();
-        return Kept {
+        return SessionReply {
             answer: Answer::Value(value),
             session: y,
         };
     }
     locks::roll_back(&logs[a..e], count, readers, claimants, exclusives, session);
     let y = x.idled();
-    Kept {
+    SessionReply {
         answer: Answer::Refused(6),
         session: y,
     }
@@ -277,9 +275,9 @@ fn read_own(
     logs: &mut [u32],
     session: u8,
     cell: u32,
-) -> Kept
+) -> SessionReply
     requires { ⌜ x ≡ sessionAt sessions (session % 16) ⌝ }
-    ensures { λ r. ⌜ outcome (r .answer) (storeOf (now (values .entry)) (now (classes .entry)) (now (readers .exit)) (now (claimants .exit)) (now (exclusives .exit)) (now (logs .exit)) (withSession sessions (session % 16) (r .session))) ≡ effect (Read session cell) (storeOf (now (values .entry)) (now (classes .entry)) (now (readers .entry)) (now (claimants .entry)) (now (exclusives .entry)) (now (logs .entry)) sessions) ⌝ }
+    ensures { λ r. ⌜ TakesOne (Read session cell) values classes readers claimants exclusives logs sessions (session % 16) r ⌝ }
 {
     if !decide::lengths_fit(
         values.len(),
@@ -289,13 +287,13 @@ fn read_own(
         exclusives.len(),
         logs.len(),
     ) {
-        return Kept {
+        return SessionReply {
             answer: Answer::Refused(7),
             session: x,
         };
     }
     if 15 < session {
-        return Kept {
+        return SessionReply {
             answer: Answer::Refused(1),
             session: x,
         };
@@ -326,7 +324,7 @@ pub fn read(
     session: u8,
     cell: u32,
 ) -> Reply
-    ensures { λ r. ⌜ outcome (r .answer) (storeOf (now (values .entry)) (now (classes .entry)) (now (readers .exit)) (now (claimants .exit)) (now (exclusives .exit)) (now (logs .exit)) (r .sessions)) ≡ effect (Read session cell) (storeOf (now (values .entry)) (now (classes .entry)) (now (readers .entry)) (now (claimants .entry)) (now (exclusives .entry)) (now (logs .entry)) sessions) ⌝ }
+    ensures { λ r. ⌜ Takes (Read session cell) values classes readers claimants exclusives logs sessions r ⌝ }
 {
     let i = (session % 16) as usize;
     let x = sessions.records[i];
@@ -361,9 +359,9 @@ fn write_as(
     session: u8,
     cell: u32,
     value: u32,
-) -> Kept
-    requires { ⌜ (Sized (storeOf (now values) (now classes) (now readers) (now claimants) (now exclusives) (now logs) sessions) session) × (x ≡ sessionAt sessions session) ⌝ }
-    ensures { λ r. ⌜ outcome (r .answer) (storeOf (now (values .entry)) (now (classes .entry)) (now (readers .exit)) (now (claimants .exit)) (now (exclusives .exit)) (now (logs .exit)) (withSession sessions session (r .session))) ≡ effect (Write session cell value) (storeOf (now (values .entry)) (now (classes .entry)) (now (readers .entry)) (now (claimants .entry)) (now (exclusives .entry)) (now (logs .entry)) sessions) ⌝ }
+) -> SessionReply
+    requires { ⌜ (LengthsFit (storeOf (now values) (now classes) (now readers) (now claimants) (now exclusives) (now logs) sessions) session) × (x ≡ sessionAt sessions session) ⌝ }
+    ensures { λ r. ⌜ TakesOne (Write session cell value) values classes readers claimants exclusives logs sessions session r ⌝ }
 {
     let i = session as usize;
     let a = 128 * i;
@@ -372,13 +370,13 @@ fn write_as(
     let p = decide::write(&logs[a..e], classes, x, l, cell, value);
     if let Plan::Update(k, v) = p {
         log::update(&mut logs[a..e], k as usize, v);
-        return Kept {
+        return SessionReply {
             answer: Answer::Done,
             session: x,
         };
     }
     if let Plan::Refuse(number) = p {
-        return Kept {
+        return SessionReply {
             answer: Answer::Refused(number),
             session: x,
         };
@@ -399,14 +397,14 @@ fn write_as(
         );
         log::update(&mut logs[a..e], count, v);
         let y = x.with_entry();
-        return Kept {
+        return SessionReply {
             answer: Answer::Done,
             session: y,
         };
     }
     locks::roll_back(&logs[a..e], count, readers, claimants, exclusives, session);
     let y = x.idled();
-    Kept {
+    SessionReply {
         answer: Answer::Refused(6),
         session: y,
     }
@@ -425,9 +423,9 @@ fn write_own(
     session: u8,
     cell: u32,
     value: u32,
-) -> Kept
+) -> SessionReply
     requires { ⌜ x ≡ sessionAt sessions (session % 16) ⌝ }
-    ensures { λ r. ⌜ outcome (r .answer) (storeOf (now (values .entry)) (now (classes .entry)) (now (readers .exit)) (now (claimants .exit)) (now (exclusives .exit)) (now (logs .exit)) (withSession sessions (session % 16) (r .session))) ≡ effect (Write session cell value) (storeOf (now (values .entry)) (now (classes .entry)) (now (readers .entry)) (now (claimants .entry)) (now (exclusives .entry)) (now (logs .entry)) sessions) ⌝ }
+    ensures { λ r. ⌜ TakesOne (Write session cell value) values classes readers claimants exclusives logs sessions (session % 16) r ⌝ }
 {
     if !decide::lengths_fit(
         values.len(),
@@ -437,13 +435,13 @@ fn write_own(
         exclusives.len(),
         logs.len(),
     ) {
-        return Kept {
+        return SessionReply {
             answer: Answer::Refused(7),
             session: x,
         };
     }
     if 15 < session {
-        return Kept {
+        return SessionReply {
             answer: Answer::Refused(1),
             session: x,
         };
@@ -476,7 +474,7 @@ pub fn write(
     cell: u32,
     value: u32,
 ) -> Reply
-    ensures { λ r. ⌜ outcome (r .answer) (storeOf (now (values .entry)) (now (classes .entry)) (now (readers .exit)) (now (claimants .exit)) (now (exclusives .exit)) (now (logs .exit)) (r .sessions)) ≡ effect (Write session cell value) (storeOf (now (values .entry)) (now (classes .entry)) (now (readers .entry)) (now (claimants .entry)) (now (exclusives .entry)) (now (logs .entry)) sessions) ⌝ }
+    ensures { λ r. ⌜ Takes (Write session cell value) values classes readers claimants exclusives logs sessions r ⌝ }
 {
     let i = (session % 16) as usize;
     let x = sessions.records[i];
@@ -510,9 +508,9 @@ fn seal_own(
     exclusives: &[u8],
     logs: &[u32],
     session: u8,
-) -> Kept
+) -> SessionReply
     requires { ⌜ x ≡ sessionAt sessions (session % 16) ⌝ }
-    ensures { λ r. ⌜ outcome (r .answer) (storeOf (now (values .entry)) (now (classes .entry)) (now (readers .exit)) (now (claimants .entry)) (now (exclusives .entry)) (now (logs .entry)) (withSession sessions (session % 16) (r .session))) ≡ effect (Seal session) (storeOf (now (values .entry)) (now (classes .entry)) (now (readers .entry)) (now (claimants .entry)) (now (exclusives .entry)) (now (logs .entry)) sessions) ⌝ }
+    ensures { λ r. ⌜ TakesOne (Seal session) values classes readers claimants exclusives logs sessions (session % 16) r ⌝ }
 {
     let n = values.len();
     if !decide::lengths_fit(
@@ -523,13 +521,13 @@ fn seal_own(
         exclusives.len(),
         logs.len(),
     ) {
-        return Kept {
+        return SessionReply {
             answer: Answer::Refused(7),
             session: x,
         };
     }
     if 15 < session {
-        return Kept {
+        return SessionReply {
             answer: Answer::Refused(1),
             session: x,
         };
@@ -539,7 +537,7 @@ fn seal_own(
     let e = a + 128;
     let p = decide::seal(&logs[a..e], n, x);
     if let Plan::Refuse(number) = p {
-        return Kept {
+        return SessionReply {
             answer: Answer::Refused(number),
             session: x,
         };
@@ -548,13 +546,13 @@ fn seal_own(
     locks::drop_reads(&logs[a..e], count, readers, session);
     if let Plan::CommitReads = p {
         let y = x.idled();
-        return Kept {
+        return SessionReply {
             answer: Answer::Committed,
             session: y,
         };
     }
     let y = x.sealed();
-    Kept {
+    SessionReply {
         answer: Answer::Sealed,
         session: y,
     }
@@ -571,7 +569,7 @@ pub fn seal(
     logs: &[u32],
     session: u8,
 ) -> Reply
-    ensures { λ r. ⌜ outcome (r .answer) (storeOf (now (values .entry)) (now (classes .entry)) (now (readers .exit)) (now (claimants .entry)) (now (exclusives .entry)) (now (logs .entry)) (r .sessions)) ≡ effect (Seal session) (storeOf (now (values .entry)) (now (classes .entry)) (now (readers .entry)) (now (claimants .entry)) (now (exclusives .entry)) (now (logs .entry)) sessions) ⌝ }
+    ensures { λ r. ⌜ Takes (Seal session) values classes readers claimants exclusives logs sessions r ⌝ }
 {
     let i = (session % 16) as usize;
     let x = sessions.records[i];
@@ -604,9 +602,9 @@ fn advance_at(
     logs: &[u32],
     session: u8,
     k: usize,
-) -> Kept
-    requires { ⌜ (Admitted (storeOf (now values) (now classes) (now readers) (now claimants) (now exclusives) (now logs) sessions) session) × (k < sessionAt sessions session .count) × (2 ≤ sessionAt sessions session .phase) × (sessionAt sessions session .phase ≤ 4) × (x ≡ sessionAt sessions session) ⌝ }
-    ensures { λ r. ⌜ outcome (r .answer) (storeOf (now (values .exit)) (now (classes .entry)) (now (readers .exit)) (now (claimants .exit)) (now (exclusives .exit)) (now (logs .entry)) (withSession sessions session (r .session))) ≡ carried session (advanceOn (part (now (logs .entry)) session) (sessionAt sessions session) (lockAt (locksOf (now (readers .entry)) (now (claimants .entry)) (now (exclusives .entry))) (cellAt (part (now (logs .entry)) session) 0 k)) session k) (storeOf (now (values .entry)) (now (classes .entry)) (now (readers .entry)) (now (claimants .entry)) (now (exclusives .entry)) (now (logs .entry)) sessions) ⌝ }
+) -> SessionReply
+    requires { ⌜ (EntriesFit (storeOf (now values) (now classes) (now readers) (now claimants) (now exclusives) (now logs) sessions) session) × (k < sessionAt sessions session .count) × (2 ≤ sessionAt sessions session .phase) × (sessionAt sessions session .phase ≤ 4) × (x ≡ sessionAt sessions session) ⌝ }
+    ensures { λ r. ⌜ AdvancesAt k values classes readers claimants exclusives logs sessions session r ⌝ }
 {
     let i = session as usize;
     let a = 128 * i;
@@ -623,7 +621,7 @@ fn advance_at(
             cell,
             locks::claimed(l, session),
         );
-        return Kept {
+        return SessionReply {
             answer: Answer::Waiting,
             session: x,
         };
@@ -632,7 +630,7 @@ fn advance_at(
         let count = x.count as usize;
         locks::roll_back(log, count, readers, claimants, exclusives, session);
         let y = x.idled();
-        return Kept {
+        return SessionReply {
             answer: Answer::Refused(6),
             session: y,
         };
@@ -646,13 +644,13 @@ fn advance_at(
             claimants,
             exclusives,
             cell,
-            locks::owned(l, session),
+            locks::acquired(l, session),
         );
-        return Kept { answer, session: y };
+        return SessionReply { answer, session: y };
     }
     if let Plan::Publish(_, value) = p {
         values[cell as usize] = value;
-        return Kept { answer, session: y };
+        return SessionReply { answer, session: y };
     }
     locks::put(
         readers,
@@ -661,7 +659,7 @@ fn advance_at(
         cell,
         locks::vacated(l, session),
     );
-    Kept { answer, session: y }
+    SessionReply { answer, session: y }
 }
 
 // Advance, of the session whose record is x.
@@ -675,9 +673,9 @@ fn advance_own(
     exclusives: &mut [u8],
     logs: &[u32],
     session: u8,
-) -> Kept
+) -> SessionReply
     requires { ⌜ x ≡ sessionAt sessions (session % 16) ⌝ }
-    ensures { λ r. ⌜ outcome (r .answer) (storeOf (now (values .exit)) (now (classes .entry)) (now (readers .exit)) (now (claimants .exit)) (now (exclusives .exit)) (now (logs .entry)) (withSession sessions (session % 16) (r .session))) ≡ effect (Advance session) (storeOf (now (values .entry)) (now (classes .entry)) (now (readers .entry)) (now (claimants .entry)) (now (exclusives .entry)) (now (logs .entry)) sessions) ⌝ }
+    ensures { λ r. ⌜ TakesOne (Advance session) values classes readers claimants exclusives logs sessions (session % 16) r ⌝ }
 {
     let n = values.len();
     if !decide::lengths_fit(
@@ -688,13 +686,13 @@ fn advance_own(
         exclusives.len(),
         logs.len(),
     ) {
-        return Kept {
+        return SessionReply {
             answer: Answer::Refused(7),
             session: x,
         };
     }
     if 15 < session {
-        return Kept {
+        return SessionReply {
             answer: Answer::Refused(1),
             session: x,
         };
@@ -704,7 +702,7 @@ fn advance_own(
     let e = a + 128;
     let due = decide::due_slot(&logs[a..e], n, x);
     match due {
-        Due::Refused(number) => Kept {
+        Due::Refused(number) => SessionReply {
             answer: Answer::Refused(number),
             session: x,
         },
@@ -734,7 +732,7 @@ pub fn advance(
     logs: &[u32],
     session: u8,
 ) -> Reply
-    ensures { λ r. ⌜ outcome (r .answer) (storeOf (now (values .exit)) (now (classes .entry)) (now (readers .exit)) (now (claimants .exit)) (now (exclusives .exit)) (now (logs .entry)) (r .sessions)) ≡ effect (Advance session) (storeOf (now (values .entry)) (now (classes .entry)) (now (readers .entry)) (now (claimants .entry)) (now (exclusives .entry)) (now (logs .entry)) sessions) ⌝ }
+    ensures { λ r. ⌜ Takes (Advance session) values classes readers claimants exclusives logs sessions r ⌝ }
 {
     let i = (session % 16) as usize;
     let x = sessions.records[i];
@@ -766,9 +764,9 @@ fn abandon_own(
     exclusives: &mut [u8],
     logs: &[u32],
     session: u8,
-) -> Kept
+) -> SessionReply
     requires { ⌜ x ≡ sessionAt sessions (session % 16) ⌝ }
-    ensures { λ r. ⌜ outcome (r .answer) (storeOf (now (values .entry)) (now (classes .entry)) (now (readers .exit)) (now (claimants .exit)) (now (exclusives .exit)) (now (logs .entry)) (withSession sessions (session % 16) (r .session))) ≡ effect (Abandon session) (storeOf (now (values .entry)) (now (classes .entry)) (now (readers .entry)) (now (claimants .entry)) (now (exclusives .entry)) (now (logs .entry)) sessions) ⌝ }
+    ensures { λ r. ⌜ TakesOne (Abandon session) values classes readers claimants exclusives logs sessions (session % 16) r ⌝ }
 {
     let n = values.len();
     if !decide::lengths_fit(
@@ -779,13 +777,13 @@ fn abandon_own(
         exclusives.len(),
         logs.len(),
     ) {
-        return Kept {
+        return SessionReply {
             answer: Answer::Refused(7),
             session: x,
         };
     }
     if 15 < session {
-        return Kept {
+        return SessionReply {
             answer: Answer::Refused(1),
             session: x,
         };
@@ -796,7 +794,7 @@ fn abandon_own(
     let phase = x.phase;
     let turned = decide::tests(&logs[a..e], n, x, (phase == 1) | (phase == 2));
     if turned != 0 {
-        return Kept {
+        return SessionReply {
             answer: Answer::Refused(turned),
             session: x,
         };
@@ -804,7 +802,7 @@ fn abandon_own(
     let count = x.count as usize;
     locks::roll_back(&logs[a..e], count, readers, claimants, exclusives, session);
     let y = x.idled();
-    Kept {
+    SessionReply {
         answer: Answer::Done,
         session: y,
     }
@@ -821,7 +819,7 @@ pub fn abandon(
     logs: &[u32],
     session: u8,
 ) -> Reply
-    ensures { λ r. ⌜ outcome (r .answer) (storeOf (now (values .entry)) (now (classes .entry)) (now (readers .exit)) (now (claimants .exit)) (now (exclusives .exit)) (now (logs .entry)) (r .sessions)) ≡ effect (Abandon session) (storeOf (now (values .entry)) (now (classes .entry)) (now (readers .entry)) (now (claimants .entry)) (now (exclusives .entry)) (now (logs .entry)) sessions) ⌝ }
+    ensures { λ r. ⌜ Takes (Abandon session) values classes readers claimants exclusives logs sessions r ⌝ }
 {
     let i = (session % 16) as usize;
     let x = sessions.records[i];
@@ -856,7 +854,7 @@ pub fn peek_plan(
     session: u8,
     cell: u32,
 ) -> Plan
-    ensures { λ r. ⌜ r ≡ planOf (Peek session cell) (storeOf (now (values .entry)) (now (classes .entry)) (now (readers .entry)) (now (claimants .entry)) (now (exclusives .entry)) (now (logs .entry)) sessions) ⌝ }
+    ensures { λ r. ⌜ Plans session cell values classes readers claimants exclusives logs sessions r ⌝ }
 {
     let n = values.len();
     if !decide::lengths_fit(
@@ -891,7 +889,7 @@ pub fn peek<'a>(
     session: u8,
     cell: u32,
 ) -> &'a [u32]
-    ensures { λ r. ⌜ Handed (values .entry) (logs .entry) (shown session (planOf (Peek session cell) (storeOf (now (values .entry)) (now (classes .entry)) (now (readers .entry)) (now (claimants .entry)) (now (exclusives .entry)) (now (logs .entry)) sessions))) r ⌝ }
+    ensures { λ r. ⌜ HandsBack session cell values classes readers claimants exclusives logs sessions r ⌝ }
 {
     let p = peek_plan(
         sessions,
@@ -929,7 +927,7 @@ pub fn peek_number(
     session: u8,
     cell: u32,
 ) -> Reply
-    ensures { λ r. ⌜ outcome (r .answer) (storeOf (now (values .entry)) (now (classes .entry)) (now (readers .entry)) (now (claimants .entry)) (now (exclusives .entry)) (now (logs .entry)) (r .sessions)) ≡ effect (Peek session cell) (storeOf (now (values .entry)) (now (classes .entry)) (now (readers .entry)) (now (claimants .entry)) (now (exclusives .entry)) (now (logs .entry)) sessions) ⌝ }
+    ensures { λ r. ⌜ Takes (Peek session cell) values classes readers claimants exclusives logs sessions r ⌝ }
 {
     let p = peek_plan(
         sessions,
@@ -967,7 +965,7 @@ pub fn step(
     exclusives: &mut [u8],
     logs: &mut [u32],
 ) -> Reply
-    ensures { λ r. ⌜ outcome (r .answer) (storeOf (now (values .exit)) (now (classes .entry)) (now (readers .exit)) (now (claimants .exit)) (now (exclusives .exit)) (now (logs .exit)) (r .sessions)) ≡ effect call (storeOf (now (values .entry)) (now (classes .entry)) (now (readers .entry)) (now (claimants .entry)) (now (exclusives .entry)) (now (logs .entry)) sessions) ⌝ }
+    ensures { λ r. ⌜ Takes call values classes readers claimants exclusives logs sessions r ⌝ }
 {
     match call {
         Call::Begin(s) => begin(

@@ -13,26 +13,26 @@ use Rattle.transcript.specs.declared.Next.{Next}
 use Rattle.transcript.specs.declared.Next.the-variants as next
 use Rattle.transcript.specs.Items.{Item, asked, following}
 use Rattle.transcript.specs.Lines.{answerLine, cellLines}
-use Rattle.transcript.specs.Output.{Out, out, put, Turned, turned, turn, stopLine}
+use Rattle.transcript.specs.Output.{Out, out, put, CallPrinted, callPrinted, turn, stopLine}
 use Rattle.transcript.specs.Transcript.{callsText}
 use Rattle.transcript.proofs.Forward.{text-asked, text-end, text-refused, text-late-cell}
 use Rattle.transcript.proofs.Next.{the-type}
 use Rattle.transcript.proofs.Puts.{after}
 
 module _ (k : Call) (i : ℕ) (o : List ℕ) (at : ℕ) (σ : Store) where
-  pub turning : {x : Answer} {φ : Store} {a : ℕ} {p : List ℕ} → outcome x φ ≡ effect k σ → out a p ≡ put o at (answerLine i x) → turned (out a p) φ ≡ turn k i o at σ
+  pub turning : {x : Answer} {φ : Store} {a : ℕ} {p : List ℕ} → outcome x φ ≡ effect k σ → out a p ≡ put o at (answerLine i x) → callPrinted (out a p) φ ≡ turn k i o at σ
   unfolding effect turn
   turning {x} {φ} {a} {p} e f =
       let said : x ≡ reply k σ = ap (λ (r : Outcome). r .answer) e in
       let left : φ ≡ step k σ = ap (λ (r : Outcome). r .store) e in
-      ap (λ (w : Out). turned w φ) (f ∙ ap (λ (y : Answer). put o at (answerLine i y)) said) ∙ ap (turned (put o at (answerLine i (reply k σ)))) left
+      ap (λ (w : Out). callPrinted w φ) (f ∙ ap (λ (y : Answer). put o at (answerLine i y)) said) ∙ ap (callPrinted (put o at (answerLine i (reply k σ)))) left
 
   -- what is left of the text after a call
-  pub turned-text : (items : List Item) {φ : Store} {a : ℕ} {p : List ℕ} → turned (out a p) φ ≡ turn k i o at σ → put p a (callsText (i + 1) φ items) ≡ put o at (callsText i σ (asked k ∷ items))
+  pub turned-text : (items : List Item) {φ : Store} {a : ℕ} {p : List ℕ} → callPrinted (out a p) φ ≡ turn k i o at σ → put p a (callsText (i + 1) φ items) ≡ put o at (callsText i σ (asked k ∷ items))
   unfolding turn
   turned-text items {φ} {a} {p} e =
-      let line : out a p ≡ put o at (answerLine i (reply k σ)) = ap (λ (t : Turned). t .out) e in
-      let left : φ ≡ step k σ = ap (λ (t : Turned). t .store) e in
+      let line : out a p ≡ put o at (answerLine i (reply k σ)) = ap (λ (t : CallPrinted). t .out) e in
+      let left : φ ≡ step k σ = ap (λ (t : CallPrinted). t .store) e in
       rw (add-one, left) (after o at _ _ line ∙ ap (put o at) (sym (text-asked σ k i items)))
 
 -- what is no call ends them

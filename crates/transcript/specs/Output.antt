@@ -5,9 +5,14 @@ use mathlib.Core.Path.{_≡_}
 use mathlib.Core.List.{List, []}
 use lib.ListN.{length, take}
 use lib.Seq.{sets}
+use denote.Ref.{now}
 use Rattle.model.specs.declared.Call.{Call}
+use Rattle.model.specs.declared.Sessions.{Sessions}
 use Rattle.model.specs.Buffers.{Store}
+use Rattle.model.specs.Slices.{Slice}
 use Rattle.model.specs.Step.{step, reply}
+use Rattle.store.specs.Lent.{before, afterwards}
+use Rattle.transcript.specs.declared.Turn.{Turn}
 use Rattle.transcript.specs.declared.Next.{Next}
 use Rattle.transcript.specs.declared.Next.the-variants as next
 use Rattle.transcript.specs.declared.Cells.{Cells}
@@ -29,6 +34,10 @@ out at output = record { at = at; output = output }
 unfoldable pub put : List ℕ → ℕ → List ℕ → Out
 put output at text = out (at + length text) (sets output at text)
 
+-- a text put into a lent output, of at most m bytes
+abbrev pub Puts : Slice → ℕ → List ℕ → ℕ → ℕ → Type 0
+Puts output at text m r = (out r (now (output .exit)) ≡ put (now (output .entry)) at text) × (r ≤ at + m)
+
 -- ---- what ends the calls
 
 -- the line of what stands at a place, where it is no call
@@ -41,16 +50,22 @@ stopLine place (next.Refused number) = fieldLine place number
 -- ---- one call
 
 -- the output and the store after a call
-pub record Turned : Type 0 where
+pub record CallPrinted : Type 0 where
   pub out : Out
   pub store : Store
 
-abbrev pub turned : Out → Store → Turned
-turned o σ = record { out = o; store = σ }
+abbrev pub callPrinted : Out → Store → CallPrinted
+callPrinted o σ = record { out = o; store = σ }
 
 -- a call's line is put, and the call is made
-unfoldable pub turn : Call → ℕ → List ℕ → ℕ → Store → Turned
-turn k ordinal output at σ = turned (put output at (answerLine ordinal (reply k σ))) (step k σ)
+unfoldable pub turn : Call → ℕ → List ℕ → ℕ → Store → CallPrinted
+turn k ordinal output at σ = callPrinted (put output at (answerLine ordinal (reply k σ))) (step k σ)
+
+abbrev pub TakesTurn : Call → ℕ → Slice → ℕ → Slice → Slice → Slice → Slice → Slice → Slice → Sessions → Turn → Type 0
+TakesTurn k ordinal output at values classes readers claimants exclusives logs ss r =
+    (callPrinted (out (r .at) (now (output .exit))) (afterwards values classes readers claimants exclusives logs (r .sessions))
+    ≡ turn k ordinal (now (output .entry)) at (before values classes readers claimants exclusives logs ss))
+    × (r .at ≤ at + 21)
 
 -- ---- the cells
 

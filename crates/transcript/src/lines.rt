@@ -5,10 +5,9 @@ ghost use mathlib.Core.Path.{_≡_};
 ghost use mathlib.Core.List.{_∷_, []};
 ghost use Prim.Native.Nat.{_+_, _*_, _≤_, _<_};
 ghost use lib.ListN.{length};
-ghost use Rattle.model.specs.Step.{number};
 ghost use Rattle.transcript.specs.Decimal.{decimal};
 ghost use Rattle.transcript.specs.Lines.{word, setUpLine, fieldLine, cellLine, answerLine, cellLines};
-ghost use Rattle.transcript.specs.Output.{out, put, stopLine};
+ghost use Rattle.transcript.specs.Output.{out, put, Puts, stopLine};
 
 const SPACE: u8 = 32;
 
@@ -56,25 +55,10 @@ pub(crate) fn put_text(output: &mut [u8], at: usize, text: &[u8]) -> usize
     at + i
 }
 
-// The number of an answer.
-pub(crate) fn number_of(answer: Answer) -> u8
-    ensures { λ r. ⌜ r ≡ number answer ⌝ }
-{
-    match answer {
-        Answer::Done => 100,
-        Answer::Value(_) => 101,
-        Answer::Sealed => 102,
-        Answer::Moved => 103,
-        Answer::Waiting => 104,
-        Answer::Committed => 105,
-        Answer::Refused(k) => k,
-    }
-}
-
 // setup N
 pub(crate) fn put_set_up(output: &mut [u8], at: usize, n: u8) -> usize
     requires { ⌜ at + 10 ≤ length (now output) ⌝ }
-    ensures { λ r. ⌜ (out r (now (output .exit)) ≡ put (now (output .entry)) at (setUpLine n)) × (r ≤ at + 10) ⌝ }
+    ensures { λ r. ⌜ Puts output at (setUpLine n) 10 r ⌝ }
 {
     let a = put_text(output, at, b"setup ");
     put_word(output, a, n as u32, NEWLINE)
@@ -83,7 +67,7 @@ pub(crate) fn put_set_up(output: &mut [u8], at: usize, n: u8) -> usize
 // field PLACE N
 fn put_field(output: &mut [u8], at: usize, place: u32, n: u8) -> usize
     requires { ⌜ (place < 100000) × (at + 16 ≤ length (now output)) ⌝ }
-    ensures { λ r. ⌜ (out r (now (output .exit)) ≡ put (now (output .entry)) at (fieldLine place n)) × (r ≤ at + 16) ⌝ }
+    ensures { λ r. ⌜ Puts output at (fieldLine place n) 16 r ⌝ }
 {
     let a = put_text(output, at, b"field ");
     let b = put_word(output, a, place, SPACE);
@@ -93,7 +77,7 @@ fn put_field(output: &mut [u8], at: usize, place: u32, n: u8) -> usize
 // The line of what ends the calls; none where the input ends.
 pub(crate) fn put_stop(output: &mut [u8], at: usize, place: usize, next: Next) -> usize
     requires { ⌜ (place < 100000) × (at + 16 ≤ length (now output)) ⌝ }
-    ensures { λ r. ⌜ (out r (now (output .exit)) ≡ put (now (output .entry)) at (stopLine place next)) × (r ≤ at + 16) ⌝ }
+    ensures { λ r. ⌜ Puts output at (stopLine place next) 16 r ⌝ }
 {
     match next {
         Next::Refused { number } => put_field(output, at, place as u32, number),
@@ -110,9 +94,9 @@ pub(crate) fn put_stop(output: &mut [u8], at: usize, place: usize, next: Next) -
 // ORDINAL N, and after 101 the value
 pub(crate) fn put_answer(output: &mut [u8], at: usize, ordinal: u32, answer: Answer) -> usize
     requires { ⌜ (ordinal < 100000) × (at + 21 ≤ length (now output)) ⌝ }
-    ensures { λ r. ⌜ (out r (now (output .exit)) ≡ put (now (output .entry)) at (answerLine ordinal answer)) × (r ≤ at + 21) ⌝ }
+    ensures { λ r. ⌜ Puts output at (answerLine ordinal answer) 21 r ⌝ }
 {
-    let n = number_of(answer);
+    let n = answer.number();
     let a = put_word(output, at, ordinal, SPACE);
     let Answer::Value(v) = answer else {
         return put_word(output, a, n as u32, NEWLINE);
@@ -135,7 +119,7 @@ fn put_cell(output: &mut [u8], at: usize, cell: u32, value: u32) -> usize
 // A line for each cell.
 pub(crate) fn put_cells(output: &mut [u8], at: usize, values: &[u32]) -> usize
     requires { ⌜ (length (now values) ≤ 1024) × (at + 18 * length (now values) ≤ length (now output)) ⌝ }
-    ensures { λ r. ⌜ (out r (now (output .exit)) ≡ put (now (output .entry)) at (cellLines 0 (now (values .entry)))) × (r ≤ at + 18 * length (now (values .entry))) ⌝ }
+    ensures { λ r. ⌜ Puts output at (cellLines 0 (now (values .entry))) (18 * length (now (values .entry))) r ⌝ }
 {
     let mut end = at;
     let mut i = 0;

@@ -11,9 +11,9 @@ use model::Sessions;
 ghost use mathlib.Core.Path.{_≡_};
 ghost use Prim.Native.Nat.{_+_, _≤_, _<_};
 ghost use lib.ListN.{length};
-ghost use Rattle.store.specs.Lent.{storeOf};
+ghost use Rattle.store.specs.Lent.{before};
 ghost use Rattle.transcript.specs.Items.{itemsAt};
-ghost use Rattle.transcript.specs.Output.{out, put, turned, turn, Leading, Fitted, Roomy};
+ghost use Rattle.transcript.specs.Output.{Puts, TakesTurn, Leading, Fitted, Roomy};
 ghost use Rattle.transcript.specs.Transcript.{callsText, given, setUpText, transcript};
 
 // One call with its line.
@@ -31,7 +31,7 @@ fn take_turn(
     logs: &mut [u32],
 ) -> Turn
     requires { ⌜ (ordinal < 100000) × (at + 21 ≤ length (now output)) ⌝ }
-    ensures { λ r. ⌜ (turned (out (r .at) (now (output .exit))) (storeOf (now (values .exit)) (now (classes .entry)) (now (readers .exit)) (now (claimants .exit)) (now (exclusives .exit)) (now (logs .exit)) (r .sessions)) ≡ turn call ordinal (now (output .entry)) at (storeOf (now (values .entry)) (now (classes .entry)) (now (readers .entry)) (now (claimants .entry)) (now (exclusives .entry)) (now (logs .entry)) sessions)) × (r .at ≤ at + 21) ⌝ }
+    ensures { λ r. ⌜ TakesTurn call ordinal output at values classes readers claimants exclusives logs sessions r ⌝ }
 {
     let reply = store::step(
         call,
@@ -66,7 +66,7 @@ fn run_calls(
     logs: &mut [u32],
 ) -> usize
     requires { ⌜ (from ≤ length (now input)) × (length (now input) ≤ 65536) × (409600 ≤ length (now output)) × (length (now values) ≤ 1024) ⌝ }
-    ensures { λ r. ⌜ (out r (now (output .exit)) ≡ put (now (output .entry)) 0 (callsText 1 (storeOf (now (values .entry)) (now (classes .entry)) (now (readers .entry)) (now (claimants .entry)) (now (exclusives .entry)) (now (logs .entry)) sessions) (itemsAt (now (input .entry)) from))) × (r ≤ 409600) ⌝ }
+    ensures { λ r. ⌜ Puts output 0 (callsText 1 (before values classes readers claimants exclusives logs sessions) (itemsAt (now (input .entry)) from)) 409600 r ⌝ }
 {
     let mut sessions = sessions;
     let mut place = from;
@@ -112,7 +112,7 @@ pub(crate) fn set_up_and_run(
     logs: &mut [u32],
 ) -> usize
     requires { ⌜ (from ≤ length (now input)) × (length (now input) ≤ 65536) × (409600 ≤ length (now output)) ⌝ ∗ ⌜ Fitted (now values) (now classes) (now readers) (now claimants) (now exclusives) (now logs) ⌝ }
-    ensures { λ r. ⌜ (out r (now (output .exit)) ≡ put (now (output .entry)) 0 (setUpText (given (now (values .entry)) (now (classes .entry))) (itemsAt (now (input .entry)) from))) × (r ≤ 409600) ⌝ }
+    ensures { λ r. ⌜ Puts output 0 (setUpText (given (now (values .entry)) (now (classes .entry))) (itemsAt (now (input .entry)) from)) 409600 r ⌝ }
 {
     let records = [Session {
         phase: 0,
@@ -130,7 +130,7 @@ pub(crate) fn set_up_and_run(
     );
     let answer = reply.answer;
     let sessions = reply.sessions;
-    let n = lines::number_of(answer);
+    let n = answer.number();
     if n != 100 {
         return lines::put_set_up(output, 0, n);
     }
@@ -162,7 +162,7 @@ fn run_cells(
     logs: &mut [u32],
 ) -> usize
     requires { ⌜ length (now input) ≤ 65536 ⌝ ∗ ⌜ Leading (now input) (now values) (now classes) count place ⌝ ∗ ⌜ Roomy (length (now output)) (length (now values)) (length (now classes)) (length (now readers)) (length (now claimants)) (length (now exclusives)) (length (now logs)) ⌝ }
-    ensures { λ r. ⌜ (out r (now (output .exit)) ≡ put (now (output .entry)) 0 (transcript (now (input .entry)))) × (r ≤ 409600) ⌝ }
+    ensures { λ r. ⌜ Puts output 0 (transcript (now (input .entry))) 409600 r ⌝ }
 {
     set_up_and_run(
         input,
@@ -189,7 +189,7 @@ pub(crate) fn print(
     logs: &mut [u32],
 ) -> usize
     requires { ⌜ Roomy (length (now output)) (length (now values)) (length (now classes)) (length (now readers)) (length (now claimants)) (length (now exclusives)) (length (now logs)) ⌝ }
-    ensures { λ r. ⌜ (out r (now (output .exit)) ≡ put (now (output .entry)) 0 (transcript (now (input .entry)))) × (r ≤ 409600) ⌝ }
+    ensures { λ r. ⌜ Puts output 0 (transcript (now (input .entry))) 409600 r ⌝ }
 {
     if 65536 < input.len() {
         return lines::put_text(output, 0, b"size\n");

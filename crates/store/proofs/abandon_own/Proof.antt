@@ -5,10 +5,10 @@ use borrow.Author.Tests.{not-true, not-false}
 use mathlib.Core.Bool.{_||_}
 use lib.Dec.{eqb}
 use Rattle.model.specs.Buffers.{Store, sessionAt}
-use Rattle.store.specs.Lent.{storeOf, Sized}
+use Rattle.store.specs.Lent.{storeOf, LengthsFit}
 use Rattle.store.proofs.Refusals.{refused-7, refused-1, sized}
-use Rattle.store.proofs.Parts.{own, part-fits, can-decide, can-roll-back, part-start, part-stop, part-bytes, part-some}
-use Rattle.store.proofs.Pieces.{unchanged, own-place, put-place, tested-at, entries-at, rolled-at}
+use Rattle.store.proofs.Parts.{recordIn, part-fits, can-decide, can-roll-back, part-start, part-stop, part-bytes, part-some}
+use Rattle.store.proofs.OneRecord.{unchanged, own-place, put-place, tested-at, entries-at, rolled-at}
 use Rattle.store.proofs.Tested.{abandon-refused, abandon-entries, abandon-cancels}
 use Rattle.store.proofs.abandon_own.Statement.{statement}
 use Rattle.store.proofs.abandon_own.Tie as tie
@@ -21,11 +21,11 @@ given c =
 abbrev start : tie.Else2 → tie.Start
 start c = c .before .before .before .before .before .before .before .before .before
 
-fits : (c : tie.Else2) → Sized (given (start c)) (start c .args .session)
+fits : (c : tie.Else2) → LengthsFit (given (start c)) (start c .args .session)
 fits c = sized (given (start c)) _ (c .before .before .lengths-fit .ensures) _ (not-false _ (c .before .if1 .left)) (c .if2 .left)
 
 -- the record handed in is the session's
-mine : (c : tie.Else2) → start c .args .x ≡ own (given (start c)) (start c .args .session)
+mine : (c : tie.Else2) → start c .args .x ≡ recordIn (given (start c)) (start c .args .session)
 unfolding sessionAt
 mine c = own-place (start c .args .sessions) _ (start c .args .x) (c .if2 .left) (start c .pre)
 

@@ -3,9 +3,9 @@ use mathlib.Core.Path.{_≡_, refl}
 use borrow.Author.Needs.{needs}
 use Rattle.model.specs.Buffers.{Store, sessionAt, withSession}
 use Rattle.store.specs.Lent.{storeOf}
-use Rattle.store.proofs.Parts.{own, part-fits, locks-even, part-start, part-stop, part-bytes, part-some}
-use Rattle.store.proofs.Pieces.{unchanged, advance-at, handled-at, swept-at, rolled-at}
-use Rattle.store.proofs.Advances.{Decided, cell-inside, can-put, can-roll, can-handle, leaves-rolled, leaves-waiting, leaves-owned, leaves-published, leaves-released}
+use Rattle.store.proofs.Parts.{recordIn, part-fits, locks-even, part-start, part-stop, part-bytes, part-some}
+use Rattle.store.proofs.OneRecord.{unchanged, advance-at, handled-at, swept-at, rolled-at}
+use Rattle.store.proofs.Advances.{Decided, cell-inside, can-put, can-roll, can-handle, leaves-rolled, leaves-waiting, leaves-acquired, leaves-published, leaves-released}
 use Rattle.store.proofs.advance_at.Statement.{statement}
 use Rattle.store.proofs.advance_at.Tie as tie
 
@@ -18,7 +18,7 @@ abbrev start : tie.After-advance → tie.Start
 start c = c .before .before .before .before .before .before .before .before .before .before .before .before .before
 
 -- the record handed in is the session's
-mine : (c : tie.After-advance) → start c .args .x ≡ own (given (start c)) (start c .args .session)
+mine : (c : tie.After-advance) → start c .args .x ≡ recordIn (given (start c)) (start c .args .session)
 unfolding sessionAt
 mine c = start c .pre .4
 
@@ -66,7 +66,7 @@ put-requires-2 c κs = can-put (decided (c .before .before .before .before .befo
 returns-3 : tie.Need-returns-3
 unfolding withSession
 returns-3 c = let q = c .before .before .before .before .before .before in let h = q .before .before .before .before .before in let d = h .before .before .before .before .before .before in
-    leaves-owned (decided d) _ (handled-at _ _ (mine d) _ _ (h .before .before .before .handle .ensures)) _ (h .enum-told3 .given .1) _ _ (q .before .owned .ensures) (q .put2 .ensures)
+    leaves-acquired (decided d) _ (handled-at _ _ (mine d) _ _ (h .before .before .before .handle .ensures)) _ (h .enum-told3 .given .1) _ _ (q .before .acquired .ensures) (q .put2 .ensures)
 
 slice-write-values : tie.Need-slice-write-values
 slice-write-values c = cell-inside (decided (c .before .before .before .before .before .before .before .before))

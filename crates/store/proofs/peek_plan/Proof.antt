@@ -2,7 +2,7 @@
 use mathlib.Core.Path.{sym, _∙_}
 use borrow.Author.Tests.{not-true, not-false}
 use Rattle.model.specs.Buffers.{Store}
-use Rattle.store.specs.Lent.{storeOf, Sized}
+use Rattle.store.specs.Lent.{storeOf, LengthsFit}
 use Rattle.store.proofs.Refusals.{fit-is, plan-7, plan-1, sized}
 use Rattle.store.proofs.Parts.{part-fits, can-decide, part-start, part-stop, part-bytes, record-bytes, part-some}
 use Rattle.store.proofs.Peeks.{peek-planned}
@@ -17,7 +17,7 @@ given c =
 abbrev start : tie.Else2 → tie.Start
 start c = c .before .before .before .before .before .before .before .before .before
 
-fits : (c : tie.Else2) → Sized (given (start c)) (start c .args .session)
+fits : (c : tie.Else2) → LengthsFit (given (start c)) (start c .args .session)
 fits c = sized (given (start c)) _ (c .before .before .lengths-fit .ensures) _ (not-false _ (c .before .if1 .left)) (c .if2 .left)
 
 returns : tie.Need-returns

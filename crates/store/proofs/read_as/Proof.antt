@@ -8,9 +8,9 @@ use Rattle.model.specs.declared.Call.{Call}
 use Rattle.model.specs.declared.Plan.{Plan}
 use Rattle.model.specs.declared.Plan.the-variants.{Enter}
 use Rattle.store.specs.Lent.{storeOf}
-use Rattle.store.proofs.Parts.{own, part-fits, can-decide, locks-even, can-roll-back, part-start, part-stop, part-bytes, part-some}
+use Rattle.store.proofs.Parts.{recordIn, part-fits, can-decide, locks-even, can-roll-back, part-start, part-stop, part-bytes, part-some}
 use Rattle.store.proofs.Entering.{Decided, New, Left, OfRead, read-decided, refused, told-new, told-left, can-enter, rolled, read-told, read-entered}
-use Rattle.store.proofs.Pieces.{unchanged, read-at, room-at, inside-at, entries-at, appended-at, rolled-at, entered-at}
+use Rattle.store.proofs.OneRecord.{unchanged, read-at, room-at, inside-at, entries-at, appended-at, rolled-at, entered-at}
 use Rattle.store.proofs.read_as.Statement.{statement}
 use Rattle.store.proofs.read_as.Tie as tie
 
@@ -27,7 +27,7 @@ abbrev At : (Store → Call → ℕ → Lock → (ℕ → Plan) → Plan → Pla
 At D c = OfRead D (given (start c)) (start c .args .session) (start c .args .cell) (c .before .before .before .at .result) (c .read .result)
 
 -- the record handed in is the session's
-mine : (c : tie.After-read) → start c .args .x ≡ own (given (start c)) (start c .args .session)
+mine : (c : tie.After-read) → start c .args .x ≡ recordIn (given (start c)) (start c .args .session)
 unfolding sessionAt
 mine c = start c .pre .1
 

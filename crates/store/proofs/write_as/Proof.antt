@@ -8,9 +8,9 @@ use Rattle.model.specs.declared.Call.{Call}
 use Rattle.model.specs.declared.Plan.{Plan}
 use Rattle.model.specs.declared.Plan.the-variants.{EnterUpdate}
 use Rattle.store.specs.Lent.{storeOf}
-use Rattle.store.proofs.Parts.{own, part-fits, can-decide-write, locks-even, can-roll-back, part-start, part-stop, part-bytes, part-some}
+use Rattle.store.proofs.Parts.{recordIn, part-fits, can-decide-write, locks-even, can-roll-back, part-start, part-stop, part-bytes, part-some}
 use Rattle.store.proofs.Entering.{Decided, New, Left, OfWrite, write-decided, refused, told-new, told-left, can-enter, rolled, can-update, write-updated, entered-fits, can-update-new, logs-still, write-entered}
-use Rattle.store.proofs.Pieces.{unchanged, write-at, room-at, inside-at, entries-at, appended-at, updated-at, rolled-at, entered-at}
+use Rattle.store.proofs.OneRecord.{unchanged, write-at, room-at, inside-at, entries-at, appended-at, updated-at, rolled-at, entered-at}
 use Rattle.store.proofs.write_as.Statement.{statement}
 use Rattle.store.proofs.write_as.Tie as tie
 
@@ -27,7 +27,7 @@ abbrev At : (Store → Call → ℕ → Lock → (ℕ → Plan) → Plan → Pla
 At D c = OfWrite D (given (start c)) (start c .args .session) (start c .args .cell) (start c .args .value) (c .before .before .before .at .result) (c .write .result)
 
 -- the record handed in is the session's
-mine : (c : tie.After-write) → start c .args .x ≡ own (given (start c)) (start c .args .session)
+mine : (c : tie.After-write) → start c .args .x ≡ recordIn (given (start c)) (start c .args .session)
 unfolding sessionAt
 mine c = start c .pre .1
 

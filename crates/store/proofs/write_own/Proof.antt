@@ -3,7 +3,7 @@ use borrow.Author.Tests.{not-true, not-false}
 use Rattle.model.specs.Buffers.{Store, withSession}
 use Rattle.store.specs.Lent.{storeOf}
 use Rattle.store.proofs.Refusals.{refused-7, refused-1, sized}
-use Rattle.store.proofs.Pieces.{unchanged, own-place, put-place}
+use Rattle.store.proofs.OneRecord.{unchanged, own-place, put-place}
 use Rattle.store.proofs.write_own.Statement.{statement}
 use Rattle.store.proofs.write_own.Tie as tie
 

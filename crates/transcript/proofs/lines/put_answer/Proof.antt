@@ -16,26 +16,26 @@ put-word-requires c κs = omega (arith, length-word 4 (c .before .before .before
 
 put-word-requires-2 : tie.Need-put-word-requires-2
 put-word-requires-2 c κs =
-    omega (arith, ends-at _ _ _ (c .before .before .before .before .put-word .ensures), length-word 4 (c .before .before .before .before .before .before .before .before .args .ordinal) 32 (omega arith), length-word 2 (c .before .before .before .before .before .before .number-of .result) 10 (omega arith))
+    omega (arith, ends-at _ _ _ (c .before .before .before .before .put-word .ensures), length-word 4 (c .before .before .before .before .before .before .before .before .args .ordinal) 32 (omega arith), length-word 2 (c .before .before .before .before .before .before .number .result) 10 (omega arith))
 
 returns : tie.Need-returns
 unfolding answerLine
 returns c =
     let a = c .before .before .before .before .before .before .before .put-word .ensures in
     let e = c .before .before .put-word2 .ensures in (
-      then _ _ _ _ a (e ∙ ap (put _ _) (ap (λ (n : ℕ). word n newline) (c .before .before .before .before .before .before .before .before .before .number-of .ensures) ∙ sym (plain-words _ (c .before .before .before .before .match .keys2)))),
+      then _ _ _ _ a (e ∙ ap (put _ _) (ap (λ (n : ℕ). word n newline) (c .before .before .before .before .before .before .before .before .before .number .ensures) ∙ sym (plain-words _ (c .before .before .before .before .match .keys2)))),
       omega (
         arith,
         ends-at _ _ _ a,
         ends-at _ _ _ e,
         length-word 4 (c .before .before .before .before .before .before .before .before .before .before .before .args .ordinal) 32 (omega arith),
-        length-word 2 (c .before .before .before .before .before .before .before .before .before .number-of .result) 10 (omega arith),
+        length-word 2 (c .before .before .before .before .before .before .before .before .before .number .result) 10 (omega arith),
       ),
     )
 
 put-word-requires-3 : tie.Need-put-word-requires-3
 put-word-requires-3 c κs =
-    omega (arith, ends-at _ _ _ (c .before .before .before .before .before .before .put-word .ensures), length-word 4 (c .before .before .before .before .before .before .before .before .before .before .args .ordinal) 32 (omega arith), length-word 2 (c .before .before .before .before .before .before .before .before .number-of .result) 32 (omega arith))
+    omega (arith, ends-at _ _ _ (c .before .before .before .before .before .before .put-word .ensures), length-word 4 (c .before .before .before .before .before .before .before .before .before .before .args .ordinal) 32 (omega arith), length-word 2 (c .before .before .before .before .before .before .before .before .number .result) 32 (omega arith))
 
 put-word-requires-4 : tie.Need-put-word-requires-4
 put-word-requires-4 c κs =
@@ -44,7 +44,7 @@ put-word-requires-4 c κs =
       ends-at _ _ _ (c .before .before .before .before .before .before .before .before .before .before .put-word .ensures),
       ends-at _ _ _ (c .before .before .before .put-word3 .ensures),
       length-word 4 (c .before .before .before .before .before .before .before .before .before .before .before .before .before .before .args .ordinal) 32 (omega arith),
-      length-word 2 (c .before .before .before .before .before .before .before .before .before .before .before .before .number-of .result) 32 (omega arith),
+      length-word 2 (c .before .before .before .before .before .before .before .before .before .before .before .before .number .result) 32 (omega arith),
       length-word 9 (c .before .before .before .before .before .before .answer .given .0 .0) 10 (omega arith),
     )
 
@@ -54,14 +54,14 @@ returns-2 c =
     let a = c .before .before .before .before .before .before .before .before .before .before .before .before .before .put-word .ensures in
     let b = c .before .before .before .before .before .before .put-word3 .ensures in
     let e = c .before .before .put-word4 .ensures in (
-      then _ _ _ _ a (then _ _ _ _ b e ∙ ap (put _ _) (value-words _ _ _ (c .before .before .before .before .before .before .before .before .before .before .before .before .before .before .before .number-of .ensures) (c .before .before .before .before .before .before .before .before .before .answer .given .1))),
+      then _ _ _ _ a (then _ _ _ _ b e ∙ ap (put _ _) (value-words _ _ _ (c .before .before .before .before .before .before .before .before .before .before .before .before .before .before .before .number .ensures) (c .before .before .before .before .before .before .before .before .before .answer .given .1))),
       omega (
         arith,
         ends-at _ _ _ a,
         ends-at _ _ _ b,
         ends-at _ _ _ e,
         length-word 4 (c .before .before .before .before .before .before .before .before .before .before .before .before .before .before .before .before .before .args .ordinal) 32 (omega arith),
-        length-word 2 (c .before .before .before .before .before .before .before .before .before .before .before .before .before .before .before .number-of .result) 32 (omega arith),
+        length-word 2 (c .before .before .before .before .before .before .before .before .before .before .before .before .before .before .before .number .result) 32 (omega arith),
         length-word 9 (c .before .before .before .before .before .before .before .before .before .answer .given .0 .0) 10 (omega arith),
       ),
     )

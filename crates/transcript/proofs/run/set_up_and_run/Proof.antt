@@ -13,7 +13,7 @@ put-set-up-requires c κs = omega (arith, c .before .before .before .before .bef
 returns : tie.Need-returns
 returns c =
     let line = c .before .before .put-set-up .ensures in
-    (line .0 ∙ ap (put _ _) (refused-text _ _ _ _ _ _ _ (c .before .before .before .before .before .before .before .before .before .before .before .before .before .before .before .before .before .before .before .before .before .before .before .before .before .before .before .before .before .pre .1) (c .before .before .before .before .before .before .before .before .before .before .before .before .before .before .before .set-up .ensures) _ _ (c .before .before .before .before .before .number-of .ensures) (c .before .before .before .before .if1 .taken)), omega (arith, line .1))
+    (line .0 ∙ ap (put _ _) (refused-text _ _ _ _ _ _ _ (c .before .before .before .before .before .before .before .before .before .before .before .before .before .before .before .before .before .before .before .before .before .before .before .before .before .before .before .before .before .pre .1) (c .before .before .before .before .before .before .before .before .before .before .before .before .before .before .before .set-up .ensures) _ _ (c .before .before .before .before .before .number .ensures) (c .before .before .before .before .if1 .taken)), omega (arith, line .1))
 
 run-calls-requires : tie.Need-run-calls-requires
 run-calls-requires c κs =
@@ -23,7 +23,7 @@ run-calls-requires c κs =
 returns-2 : tie.Need-returns-2
 returns-2 c =
     let run = c .before .before .before .before .before .before .before .before .before .before .before .before .run-calls .ensures in
-    (run .0 ∙ ap (put _ _) (accepted-text _ _ _ _ _ _ _ (c .before .before .before .before .before .before .before .before .before .before .before .before .before .before .before .before .before .before .before .before .before .before .before .before .before .before .before .before .before .before .before .before .before .before .before .before .before .before .before .before .before .before .before .before .pre .1) (c .before .before .before .before .before .before .before .before .before .before .before .before .before .before .before .before .before .before .before .before .before .before .before .before .before .before .before .before .before .before .set-up .ensures) _ _ (c .before .before .before .before .before .before .before .before .before .before .before .before .before .before .before .before .before .before .before .before .number-of .ensures) (c .before .before .before .before .before .before .before .before .before .before .before .before .before .before .before .before .before .before .before .if1 .left)), run .1)
+    (run .0 ∙ ap (put _ _) (accepted-text _ _ _ _ _ _ _ (c .before .before .before .before .before .before .before .before .before .before .before .before .before .before .before .before .before .before .before .before .before .before .before .before .before .before .before .before .before .before .before .before .before .before .before .before .before .before .before .before .before .before .before .before .pre .1) (c .before .before .before .before .before .before .before .before .before .before .before .before .before .before .before .before .before .before .before .before .before .before .before .before .before .before .before .before .before .before .set-up .ensures) _ _ (c .before .before .before .before .before .before .before .before .before .before .before .before .before .before .before .before .before .before .before .before .number .ensures) (c .before .before .before .before .before .before .before .before .before .before .before .before .before .before .before .before .before .before .before .if1 .left)), run .1)
 
 pub set-up-and-run-spec : {M : Type 1} → statement M
 set-up-and-run-spec =

@@ -9,13 +9,13 @@ use native.Mathlib.Nat.{mod-eq-of-lt, mod-lt, zero-lt-suc}
 use native.Mathlib.Omega.{arith}
 use lib.Seq.{set-getD}
 use Rattle.model.specs.Buffers.{Locks, Store, sessionAt, withSession, withEntry, moveTo, appended, updated}
-use Rattle.model.specs.Step.{Outcome, outcome, recordFits, readPlan, writePlan, sealPlan}
+use Rattle.model.specs.Step.{Outcome, outcome, recordFits, readPlan, writePlan, sealPlan, rolledBack}
 use Rattle.model.specs.declared.Session.{Session}
 use Rattle.model.specs.declared.Sessions.{Sessions}
 use Rattle.model.specs.declared.Answer.{Answer}
 use Rattle.model.specs.declared.Lock.{Lock}
 use Rattle.model.specs.declared.Plan.{Plan}
-use Rattle.locks.specs.Sweeps.{Swept, rolledBackIn, DropsReads}
+use Rattle.locks.specs.Sweeps.{Swept, DropsReads}
 use Rattle.decide.specs.Pieces.{tested, dueOn, advanceOn, handledOn}
 use Rattle.decide.specs.declared.Due.{Due}
 use Rattle.decide.specs.declared.Handled.{Handled}
@@ -91,14 +91,14 @@ module _ (x y : Session) (e : x ≡ y) where
   pub dropped-at : (A : List ℕ) (s : ℕ) (R S : List ℕ) → DropsReads A (x .count) s R S → DropsReads A (y .count) s R S
   dropped-at A s R S h = rw e at h
 
-  pub appended-at : (P A : List ℕ) (c v : ℕ) → P ≡ appended A 0 (x .count) c v → P ≡ appended A 0 (y .count) c v
-  appended-at P A c v h = h ∙ ap (λ z. appended A 0 (z .count) c v) e
+  pub appended-at : (P A : List ℕ) (c v : ℕ) → P ≡ appended A (x .count) c v → P ≡ appended A (y .count) c v
+  appended-at P A c v h = h ∙ ap (λ z. appended A (z .count) c v) e
 
-  pub updated-at : (Q A : List ℕ) (u : ℕ) → Q ≡ updated A 0 (x .count) u → Q ≡ updated A 0 (y .count) u
-  updated-at Q A u h = h ∙ ap (λ z. updated A 0 (z .count) u) e
+  pub updated-at : (Q A : List ℕ) (u : ℕ) → Q ≡ updated A (x .count) u → Q ≡ updated A (y .count) u
+  updated-at Q A u h = h ∙ ap (λ z. updated A (z .count) u) e
 
-  pub rolled-at : (L M : Locks) (A : List ℕ) (s : ℕ) → L ≡ rolledBackIn A (x .count) s M → L ≡ rolledBackIn A (y .count) s M
-  rolled-at L M A s h = h ∙ ap (λ z. rolledBackIn A (z .count) s M) e
+  pub rolled-at : (L M : Locks) (A : List ℕ) (s : ℕ) → L ≡ rolledBack A (x .count) s M → L ≡ rolledBack A (y .count) s M
+  rolled-at L M A s h = h ∙ ap (λ z. rolledBack A (z .count) s M) e
 
   pub entered-at : (z : Session) → z ≡ withEntry x → z ≡ withEntry y
   entered-at z h = h ∙ ap withEntry e
