@@ -27,7 +27,7 @@ use denote.Triple.Spec.{tripleOf}
 use denote.Triple.Walked.{says}
 use Rattle.model.specs.declared.Lock.{Lock}
 use Rattle.lockrun.specs.declared.Change.{Change}
-use Rattle.lockrun.specs.Run.{lockIn, Known, Fits, changedAt, sweptBy}
+use Rattle.lockrun.specs.Run.{lockIn, SessionFits, ChangeFits, changedAt, sweptBy}
 use Rattle.lockrun.proofs.Row.{R, RC, low-c, makes-c}
 use Rattle.lockrun.proofs.Lent.{ref-at}
 use Rattle.lockrun.proofs.lock_at as lock-at
@@ -65,7 +65,7 @@ module _ {M : Type 1} (𝓤 : URA M) (H : Heap 𝓤) (A : Atoms 𝓤) (mem : Mem
         at-once ! $ frame ! $ show ! (λ (r′ : Lock). guard 𝓤 (r′ ≡ lockIn ys c) (sem 𝓤 H A (R .own r′ (v ∷ [])))) r $ check ! is $ done !))
 
     -- ---- `change_at`
-    module _ (d : Change) (gd : Is RC d (low-c d ∷ [])) (ok : Known d) where
+    module _ (d : Change) (gd : Is RC d (low-c d ∷ [])) (ok : SessionFits d) where
       abbrev pub ch-to : ℕ → GName → ChangeAt .Ghost
       ch-to ν δ = (((ν ∷ [], tt), (fullShare, tt), tt, (ref-at b o δ ys, (c, (d, tt))), (sliceVal (b, o) n ∷ [], (vint w64 c ∷ [], (low-c d ∷ [], tt)))), tt)
 
@@ -90,7 +90,7 @@ module _ {M : Type 1} (𝓤 : URA M) (H : Heap 𝓤) (A : Atoms 𝓤) (mem : Mem
   abbrev pub Sweep : Contract 𝓤
   Sweep = tripleOf 𝓤 H A sweep.signature (sweep.spec 𝓤 H A mem run)
 
-  module _ (W : Given 𝓤 H A) (b o n : ℕ) (ys : List Lock) (b₂ o₂ n₂ : ℕ) (logs : List ℕ) (d : Change) (gd : Is RC d (low-c d ∷ [])) (ok : Fits logs d) where
+  module _ (W : Given 𝓤 H A) (b o n : ℕ) (ys : List Lock) (b₂ o₂ n₂ : ℕ) (logs : List ℕ) (d : Change) (gd : Is RC d (low-c d ∷ [])) (ok : ChangeFits logs d) where
     abbrev pub sw-to : ℕ → GName → GName → Sweep .Ghost
     sw-to ν δ δ₂ = (((ν ∷ [], tt), (fullShare, tt), tt, (ref-at b o δ ys, (ref-at b₂ o₂ δ₂ logs, (d, tt))), (sliceVal (b, o) n ∷ [], (sliceVal (b₂, o₂) n₂ ∷ [], (low-c d ∷ [], tt)))), tt)
 

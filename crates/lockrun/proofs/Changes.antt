@@ -1,16 +1,17 @@
--- Changing lock records in turn is, taken apart, what the model does to its three lists.
+-- Changing lock records one after the other is, unzipped, what the model does to its three lists.
 use mathlib.Core.Path.{_≡_, refl, sym, ap, _∙_}
-use mathlib.Core.Bool.{true, not}
+use mathlib.Core.Bool.{not}
 use mathlib.Core.List.{List, [], _∷_, _++_, append-nil}
 use Prim.Native.Nat.{ℕ, zero, suc, _<_, _≤_}
 use native.Mathlib.Nat.{not-suc-le-zero, le-of-suc-le-suc}
 use native.Mathlib.Omega.{arith}
 use lib.ListN.{length, getD, set, drop, length-set, replicate, drop-of-length-le}
-use Rattle.model.specs.Buffers.{free, cellAt, publishesIn, lockAt, setLock, lockOn, sweep, join, leave, vacate, withdraw, claim, own}
+use Rattle.model.specs.Buffers.{free, logIn, cellAt, publishesIn, lockAt, setLock, lockOn, sweep, join, leave, withdraw}
+use Rattle.model.specs.Step.{rolledBack, readsDropped}
 use Rattle.model.specs.declared.Lock.{Lock}
 use Rattle.model.proofs.Tools.{test}
-use Rattle.lockrun.specs.declared.Change.the-variants.{Keep, Join, Claim, Acquire, Vacate, Withdraw, Leave, Clear}
-use Rattle.lockrun.specs.Run.{each, apart, lockIn, turnsOf, cellOf, changeOf, swept, sweptBy}
+use Rattle.lockrun.specs.declared.Change.the-variants.{Join, Withdraw, Leave, Clear}
+use Rattle.lockrun.specs.Run.{each, unzipped, lockIn, countOf, cellOf, changeOf, swept, sweptBy}
 use Rattle.lockrun.proofs.Row.{set-past}
 
 -- ---- one field of every record
@@ -35,50 +36,33 @@ each-replicate f (suc n) l = ap (λ (r : List ℕ). f l ∷ r) (each-replicate f
 
 -- ---- one lock
 
-pub apart-at : (L : List Lock) (c : ℕ) → lockAt (apart L) c ≡ lockIn L c
+pub unzipped-at : (L : List Lock) (c : ℕ) → lockAt (unzipped L) c ≡ lockIn L c
 unfolding lockAt
-apart-at L c = rw (each-at (λ l. l .readers) L c, each-at (λ l. l .claimant) L c, each-at (λ l. l .exclusive) L c)
+unzipped-at L c = rw (each-at (λ l. l .readers) L c, each-at (λ l. l .claimant) L c, each-at (λ l. l .exclusive) L c)
 
-pub apart-set : (L : List Lock) (c : ℕ) (l : Lock) → apart (set L c l) ≡ setLock c l (apart L)
+pub unzipped-set : (L : List Lock) (c : ℕ) (l : Lock) → unzipped (set L c l) ≡ setLock c l (unzipped L)
 unfolding setLock
-apart-set L c l = rw (each-set (λ l. l .readers) L c l, each-set (λ l. l .claimant) L c l, each-set (λ l. l .exclusive) L c l)
+unzipped-set L c l = rw (each-set (λ l. l .readers) L c l, each-set (λ l. l .claimant) L c l, each-set (λ l. l .exclusive) L c l)
 
 -- a lock changed by f
-apart-on : (f : Lock → Lock) (L : List Lock) (c : ℕ) → apart (set L c (f (lockIn L c))) ≡ lockOn c f (apart L)
+unzipped-on : (f : Lock → Lock) (L : List Lock) (c : ℕ) → unzipped (set L c (f (lockIn L c))) ≡ lockOn c f (unzipped L)
 unfolding lockOn
-apart-on f L c = apart-set L c (f (lockIn L c)) ∙ ap (λ (l : Lock). setLock c (f l) (apart L)) (sym (apart-at L c))
+unzipped-on f L c = unzipped-set L c (f (lockIn L c)) ∙ ap (λ (l : Lock). setLock c (f l) (unzipped L)) (sym (unzipped-at L c))
 
 -- ---- all of a change
 
-pub keeps-all : (W : List ℕ) (L : List Lock) → sweptBy W Keep L ≡ L
-unfolding turnsOf swept
-keeps-all W L = refl
-
-module _ (W : List ℕ) (s c : ℕ) (L : List Lock) where
-  pub joins : apart (sweptBy W (Join s c) L) ≡ lockOn c (join s) (apart L)
-  unfolding turnsOf swept cellOf changeOf
-  joins = apart-on (join s) L c
-
-  pub claims : apart (sweptBy W (Claim s c) L) ≡ lockOn c (claim s) (apart L)
-  unfolding turnsOf swept cellOf changeOf
-  claims = apart-on (claim s) L c
-
-  pub owns : apart (sweptBy W (Acquire s c) L) ≡ lockOn c (own s) (apart L)
-  unfolding turnsOf swept cellOf changeOf
-  owns = apart-on (own s) L c
-
-  pub vacates : apart (sweptBy W (Vacate s c) L) ≡ lockOn c (vacate s) (apart L)
-  unfolding turnsOf swept cellOf changeOf
-  vacates = apart-on (vacate s) L c
+pub joins : (W : List ℕ) (s c : ℕ) (L : List Lock) → unzipped (sweptBy W (Join s c) L) ≡ lockOn c (join s) (unzipped L)
+unfolding countOf swept cellOf changeOf
+joins W s c L = unzipped-on (join s) L c
 
 module _ (W : List ℕ) (s m : ℕ) (L : List Lock) where
-  withdraws-to : (k : ℕ) → apart (swept W (Withdraw s m) k L) ≡ sweep (λ c. true) (withdraw s) (cellAt W s) k (apart L)
-  unfolding swept sweep cellOf changeOf
+  withdraws-to : (k : ℕ) → unzipped (swept W (Withdraw s m) k L) ≡ rolledBack (logIn W s) k s (unzipped L)
+  unfolding rolledBack swept sweep cellOf changeOf
   withdraws-to zero = refl
-  withdraws-to (suc k) = apart-on (withdraw s) (swept W (Withdraw s m) k L) (cellAt W s k) ∙ ap (lockOn (cellAt W s k) (withdraw s)) (withdraws-to k)
+  withdraws-to (suc k) = unzipped-on (withdraw s) (swept W (Withdraw s m) k L) (cellAt (logIn W s) k) ∙ ap (lockOn (cellAt (logIn W s) k) (withdraw s)) (withdraws-to k)
 
-  pub withdraws : apart (sweptBy W (Withdraw s m) L) ≡ sweep (λ c. true) (withdraw s) (cellAt W s) m (apart L)
-  unfolding turnsOf
+  pub withdraws : unzipped (sweptBy W (Withdraw s m) L) ≡ rolledBack (logIn W s) m s (unzipped L)
+  unfolding countOf
   withdraws = withdraws-to m
 
   -- no cell of the run is 1,024
@@ -88,16 +72,16 @@ module _ (W : List ℕ) (s m : ℕ) (L : List Lock) where
     still zero = refl
     still (suc k) = length-set (swept W (Leave s m) k L) _ _ ∙ still k
 
-    leaves-to : (k : ℕ) → apart (swept W (Leave s m) k L) ≡ sweep (λ c. not (publishesIn W s m c)) (leave s) (cellAt W s) k (apart L)
+    leaves-to : (k : ℕ) → unzipped (swept W (Leave s m) k L) ≡ sweep (λ c. not (publishesIn (logIn W s) m c)) (leave s) (cellAt (logIn W s)) k (unzipped L)
     unfolding swept sweep cellOf changeOf
     leaves-to zero = refl
     leaves-to (suc k) =
-        test (publishesIn W s m (cellAt W s k))
-        (λ e. let l = still k in rw e (ap apart (set-past (swept W (Leave s m) k L) 1024 _ (omega arith)) ∙ leaves-to k))
-        (λ e. rw e (apart-on (leave s) (swept W (Leave s m) k L) (cellAt W s k) ∙ ap (lockOn (cellAt W s k) (leave s)) (leaves-to k)))
+        test (publishesIn (logIn W s) m (cellAt (logIn W s) k))
+        (λ e. let l = still k in rw e (ap unzipped (set-past (swept W (Leave s m) k L) 1024 _ (omega arith)) ∙ leaves-to k))
+        (λ e. rw e (unzipped-on (leave s) (swept W (Leave s m) k L) (cellAt (logIn W s) k) ∙ ap (lockOn (cellAt (logIn W s) k) (leave s)) (leaves-to k)))
 
-    pub leaves : apart (sweptBy W (Leave s m) L) ≡ sweep (λ c. not (publishesIn W s m c)) (leave s) (cellAt W s) m (apart L)
-    unfolding turnsOf
+    pub leaves : unzipped (sweptBy W (Leave s m) L) ≡ readsDropped (logIn W s) m s (unzipped L)
+    unfolding readsDropped countOf
     leaves = leaves-to m
 
 -- ---- all locks empty
@@ -116,7 +100,7 @@ module _ (W : List ℕ) (n : ℕ) (L : List Lock) where
 
   module _ (long : length L ≡ n) where
     cleared : sweptBy W (Clear n) L ≡ replicate n free
-    unfolding turnsOf
+    unfolding countOf
     cleared = let h : length L ≤ n = omega arith in clears-to n (omega arith) ∙ rw (drop-of-length-le L h, append-nil)
 
     pub clears : (f : Lock → ℕ) → each f (sweptBy W (Clear n) L) ≡ replicate (length (each f L)) (f free)

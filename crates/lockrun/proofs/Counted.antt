@@ -46,7 +46,7 @@ use Rattle.model.specs.declared.Call.{Call}
 use Rattle.model.proofs.Sessions.Laws as S′
 use Rattle.model.proofs.Reply.Laws as A′
 use Rattle.lockrun.specs.Run.{storeOn}
-use Rattle.lockrun.specs.Turns.{Answered}
+use Rattle.lockrun.specs.Turns.{IsReply}
 use Rattle.lockrun.proofs.Row.{R, RS, low-s, tells-s, makes-s, typed-s, RA, typed-a}
 use Rattle.lockrun.proofs.Borrows.{Borrows, κsOf, qsOf, argsOf, atOf, borrowed, Nums, numsAt, Passes, Fitting, Sound, Classes, Tokens}
 use Rattle.lockrun.proofs.Numbers.{hold, lent, inLocals, copies, numbers, stays, rows, spell, tell, last, fit, go, had, passed}
@@ -86,7 +86,7 @@ module _ (ws : List Width) where
       record { signature = S; kept = all yes (S .params) }
 
   abbrev answers : Makes → {M : Type 1} (𝓤 : URA M) → Clauses 𝓤 asked
-  answers k 𝓤 κs a = record { ghost = Unit {0}; requires = λ g. emp 𝓤; ensures = λ g r e. fact 𝓤 (Answered (k 1 κs (a .1 .1 .1 .1 .1)) (a .1 .0) (a .1 .1 .0) (a .1 .1 .1 .0) (now (a .1 .1 .1 .1 .0)) (a .0) r) }
+  answers k 𝓤 κs a = record { ghost = Unit {0}; requires = λ g. emp 𝓤; ensures = λ g r e. fact 𝓤 (IsReply (k 1 κs (a .1 .1 .1 .1 .1)) (a .1 .0) (a .1 .1 .0) (a .1 .1 .1 .0) (now (a .1 .1 .1 .1 .0)) (a .0) r) }
 
   abbrev pub Asked : Makes → {M : Type 1} (𝓤 : URA M) (H : Heap 𝓤) (A : Atoms 𝓤) → Contract 𝓤
   Asked k 𝓤 H A = tripleOf 𝓤 H A (asked .signature) (closing 𝓤 H A asked (answers k 𝓤))
@@ -151,7 +151,7 @@ module _ {M : Type 1} (𝓤 : URA M) (H : Heap 𝓤) (A : Atoms 𝓤) (W : Given
     to = (((b .κ₃, tt), (b .q₃, tt), tt, told, (low-s (b .ss) ∷ [], (vint w64 (length (now (b .x₀))) ∷ [], (vint w64 (length (now (b .x₁))) ∷ [], (vint w64 (length (now (b .x))) ∷ [], (slice-vals (b .x₃), nsAt)))))), tt)
 
     abbrev Says : Reply → Type 0
-    Says r = Answered (k 1 (b .κ₃, tt) ns) (length (now (b .x₀))) (length (now (b .x₁))) (length (now (b .x))) (now (b .x₃)) (b .ss) r
+    Says r = IsReply (k 1 (b .κ₃, tt) ns) (length (now (b .x₀))) (length (now (b .x₁))) (length (now (b .x))) (now (b .x₃)) (b .ss) r
 
     goes : Sound b → Are (rows 1 (b .κ₃, tt) ws) (Ises (rows 1 (b .κ₃, tt) ws)) ns nsAt → ent 𝓤 (⋆ 𝓤 H A (‵ (Logs b) ∷ ‵ (flft (b .κ₃) (b .q₃)) ∷ [])) (Asked ws k 𝓤 H A .pre to)
     goes o are =
@@ -179,7 +179,7 @@ module _ {M : Type 1} (𝓤 : URA M) (H : Heap 𝓤) (A : Atoms 𝓤) (W : Given
     Ends r v =
         ‵ (RA .own r (v ∷ [])) ∷ (‵ (flft (b .κ₃) (b .q₃)) ⊛ ‵ ftrue) ∷ ‵ (Logs b) ∷ ‵ (flft (b .κ₂) (b .q₂)) ∷ ‵ (flft (b .κ₁) (b .q₁)) ∷ ‵ (flft (b .κ₀) (b .q₀)) ∷ ‵ (Locks b) ∷ ‵ (Classes b) ∷ ‵ (Values b) ∷ []
 
-    exits : (r : Reply) (v : Val) → Answered (k 4 κs ns) (length (now (b .x₀))) (length (now (b .x₁))) (length (now (b .x))) (now (b .x₃)) (b .ss) r → ent 𝓤 (⋆ 𝓤 H A (Ends r v)) (Post ws b ns k 𝓤 H A v)
+    exits : (r : Reply) (v : Val) → IsReply (k 4 κs ns) (length (now (b .x₀))) (length (now (b .x₁))) (length (now (b .x))) (now (b .x₃)) (b .ss) r → ent 𝓤 (⋆ 𝓤 H A (Ends r v)) (Post ws b ns k 𝓤 H A v)
     exits r v f =
         qed W (Ends r v) ∵
         suffices ! _ (ends-at 𝓤 H A (ended ws) (stayed ws) (clauses ws k 𝓤) W ((κs, qsOf b, tt, argsOf b ns, at ws b ns), tt) v r (tt, (tt, (tt, (tt, (tt, last 4 κs ws ns))))) (tt, (tt, (tt, (tt, (tt, fit 4 κs ws ns)))))) $

@@ -56,7 +56,7 @@ use Rattle.lockrun.proofs.Borrows.{Borrows, κsOf, qsOf, argsOf, atOf, 
 use Rattle.lockrun.proofs.Numbers.{hold, lent, inLocals, copies, numbers, stays, rows, spell, tell, last, fit, go, had}
 use Rattle.lockrun.proofs.Leave.{full, leave}
 use Rattle.lockrun.proofs.Short.{allocates, var, sets, relends}
-use Rattle.lockrun.proofs.Passed.{Left, Called, Step, Said, st-to, st-gives, st-goes, st-gets}
+use Rattle.lockrun.proofs.CallsStep.{Final, Called, Step, Says, st-to, st-gives, st-goes, st-gets}
 use Rattle.lockrun.proofs.step.Symbol.{name as #lockrun·step}
 
 -- ---- the MIR
@@ -138,10 +138,10 @@ module _ {M : Type 1} (𝓤 : URA M) (H : Heap 𝓤) (A : Atoms 𝓤) (W : Given
     abbrev κs : Lfts 4
     κs = κsOf b
 
-    abbrev Ends : Left → Val → List (Item 𝓤)
+    abbrev Ends : Final → Val → List (Item 𝓤)
     Ends p v = ‵ (RA .own (p .0) (v ∷ [])) ∷ (Tokens 𝓤 b ⊛ (‵ (finally u32 (b .x₀ .name) (p .1 .0)) ⊛ (‵ (finally R (b .x .name) (p .1 .1 .0)) ⊛ ‵ (finally u32 (b .x₃ .name) (p .1 .1 .1))))) ∷ ‵ (Classes b) ∷ []
 
-    exits : (p : Left) (v : Val) → Said 𝓤 H A mem run W b o (record { call = k κs ns; val = w; is = is }) p → ent 𝓤 (⋆ 𝓤 H A (Ends p v)) (Post ws b ns k 𝓤 H A v)
+    exits : (p : Final) (v : Val) → Says 𝓤 H A mem run W b o (record { call = k κs ns; val = w; is = is }) p → ent 𝓤 (⋆ 𝓤 H A (Ends p v)) (Post ws b ns k 𝓤 H A v)
     exits p v f =
         qed W (Ends p v) ∵
         suffices ! _ (ends-at 𝓤 H A (ended ws) (stayed ws) (clauses ws k 𝓤) W ((κs, qsOf b, tt, argsOf b ns, at ws b ns), tt) v (p .0)

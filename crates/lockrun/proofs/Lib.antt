@@ -6,7 +6,7 @@ pub mod Borrows
 pub mod Leave
 pub mod Short
 pub mod Calls
-pub mod Passed
+pub mod CallsStep
 pub mod Filled
 pub mod Counted
 pub mod Changes
@@ -14,5 +14,5 @@ pub mod Ways
 pub mod AdvanceWays
 pub mod Cells
 pub mod SetUps
-pub mod Taken
+pub mod Arms
 pub mod Agreement

@@ -39,7 +39,7 @@ use Rattle.model.proofs.Lock as T
 use Rattle.model.proofs.Lock.Laws as T′
 use Rattle.lockrun.specs.declared.Change.{Change}
 use Rattle.lockrun.specs.declared.Change.the-variants.{Keep, Join, Claim, Acquire, Vacate, Withdraw, Leave, Clear}
-use Rattle.lockrun.specs.Run.{Known, Fits}
+use Rattle.lockrun.specs.Run.{SessionFits, ChangeFits}
 use Rattle.lockrun.proofs.Change as C
 use Rattle.lockrun.proofs.Change.Laws as C′
 
@@ -104,16 +104,16 @@ module _ {M : Type 1} (𝓤 : URA M) (H : Heap 𝓤) (A : Atoms 𝓤) where
   pub typed-c : (W : Given 𝓤 H A) (d : Change) (v : Val) → Is RC d (v ∷ []) → T (hasTy C′.mir v) × WT v
   typed-c W d v p = EL.lawful C.the-type C′.the-laws 𝓤 H A W tt .typed d (v ∷ []) p .0
 
--- a change that fits is one of a known session
-pub known-of : (logs : List ℕ) (d : Change) → Fits logs d → Known d
-known-of logs Keep ok = tt
-known-of logs (Join s c) ok = ok
-known-of logs (Claim s c) ok = ok
-known-of logs (Acquire s c) ok = ok
-known-of logs (Vacate s c) ok = ok
-known-of logs (Withdraw s m) ok = ok .0
-known-of logs (Leave s m) ok = ok .0
-known-of logs (Clear n) ok = tt
+-- a change that fits has a session that fits
+pub session-fits : (logs : List ℕ) (d : Change) → ChangeFits logs d → SessionFits d
+session-fits logs Keep ok = tt
+session-fits logs (Join s c) ok = ok
+session-fits logs (Claim s c) ok = ok
+session-fits logs (Acquire s c) ok = ok
+session-fits logs (Vacate s c) ok = ok
+session-fits logs (Withdraw s m) ok = ok .0
+session-fits logs (Leave s m) ok = ok .0
+session-fits logs (Clear n) ok = tt
 
 -- ---- the session records
 

@@ -13,17 +13,17 @@ use Rattle.store.proofs.Refusals.{Lengths, lengths-of, fit-is}
 use Rattle.store.proofs.SetUp.{set-7, set-8, set-done}
 use Rattle.lockrun.specs.declared.Change.the-variants.{Clear}
 use Rattle.lockrun.specs.declared.Turn.{Turn}
-use Rattle.lockrun.specs.Run.{each, apart, storeOn, turnsOf, swept, sweptBy}
-use Rattle.lockrun.specs.Turns.{keeps, SetUp}
+use Rattle.lockrun.specs.Run.{each, unzipped, storeOn, countOf, swept, sweptBy}
+use Rattle.lockrun.specs.Turns.{onlyAnswer, IsSetUpTurn}
 use Rattle.lockrun.proofs.Changes.{each-length, clears}
 use Rattle.lockrun.proofs.Ways.{runs-fit}
 
 module _ (vs cs W : List ℕ) (ss : Sessions) (m : ℕ) (b : Bool) (e : b ≡ lengthsMatch (length vs) (length cs) m m m (length W)) where
-  fit : (L : List Lock) → length L ≡ m → b ≡ lengthsMatch (length vs) (length cs) (length (apart L .readers)) (length (apart L .claimants)) (length (apart L .exclusives)) (length W)
+  fit : (L : List Lock) → length L ≡ m → b ≡ lengthsMatch (length vs) (length cs) (length (unzipped L .readers)) (length (unzipped L .claimants)) (length (unzipped L .exclusives)) (length W)
   fit L q = runs-fit (length vs) (length cs) m (length W) b e L q
 
-  pub set-up-7 : (t : Turn) → b ≡ false → t ≡ keeps ss (Refused 7) → SetUp vs cs m W ss W t
-  unfolding turnsOf swept
+  pub set-up-7 : (t : Turn) → b ≡ false → t ≡ onlyAnswer ss (Refused 7) → IsSetUpTurn vs cs m W ss W t
+  unfolding countOf swept
   set-up-7 t h f = rw f (tt, λ L q. set-7 (storeOn vs cs L W ss) (sym (fit-is (storeOn vs cs L W ss) b (fit L q)) ∙ h))
 
   module _ (h : b ≡ true) where
@@ -38,12 +38,12 @@ module _ (vs cs W : List ℕ) (ss : Sessions) (m : ℕ) (b : Bool) (e : b ≡ le
 
     -- the answer of the test of values and classes
     module _ (a : Bool) (g : a ≡ allFit vs cs) where
-      pub set-up-8 : (t : Turn) → a ≡ false → t ≡ keeps ss (Refused 8) → SetUp vs cs m W ss W t
-      unfolding turnsOf swept
+      pub set-up-8 : (t : Turn) → a ≡ false → t ≡ onlyAnswer ss (Refused 8) → IsSetUpTurn vs cs m W ss W t
+      unfolding countOf swept
       set-up-8 t i f = rw f (tt, λ L q. set-8 (storeOn vs cs L W ss) (sym (fit-is (storeOn vs cs L W ss) b (fit L q)) ∙ h) a g i)
 
       pub set-up-done : a ≡ true → (words : List ℕ) (rs : Sessions) → words ≡ replicate (length W) 0 → rs ≡ record { records = replicate 16 idle }
-          → SetUp vs cs m W ss words (record { reply = record { answer = Done; sessions = rs }; change = Clear (length vs) })
+          → IsSetUpTurn vs cs m W ss words (record { reply = record { answer = Done; sessions = rs }; change = Clear (length vs) })
       set-up-done i words rs v r = (
         tt,
         λ L q.

@@ -1,3 +1,4 @@
 pub mod Run
+pub mod Lent
 pub mod Turns
 pub mod Forms

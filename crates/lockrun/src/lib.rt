@@ -3,14 +3,13 @@
 ghost use mathlib.Core.Path.{_≡_};
 ghost use Prim.Native.Nat.{_+_, _*_, _<_, _≤_};
 ghost use lib.ListN.{length};
-ghost use Rattle.model.specs.Buffers.{cellAt};
-ghost use Rattle.model.specs.Step.{outcome, effect, setUpEffect, planOf, shown};
+ghost use Rattle.model.specs.Buffers.{logIn, cellAt};
 ghost use Rattle.model.specs.declared.Call.the-variants.{Begin, Read, Write, Seal, Advance, Abandon, Peek};
 ghost use Rattle.decide.specs.declared.Due.the-variants.{Slot};
 ghost use Rattle.lockrun.specs.declared.Change.the-variants.{Leave};
-ghost use Rattle.store.specs.Lent.{Handed};
-ghost use Rattle.lockrun.specs.Run.{storeOn, lockIn, turnsOf, cellOf, changeOf, changedAt, sweptBy, Known, Fits};
-ghost use Rattle.lockrun.specs.Turns.{keeps, tells, dueIn, cellDue, Found, lookAt, lookOf, Turned, Answered, SetUp, Peeks, HandsBack};
+ghost use Rattle.lockrun.specs.Run.{lockIn, countOf, cellOf, changeOf, changedAt, sweptBy, SessionFits, ChangeFits};
+ghost use Rattle.lockrun.specs.Turns.{onlyAnswer, onlyReply, dueIn, cellDue, DueFits, lookAt, lookOf, IsReply, IsPeekPlan, IsPeekPart, TakesTurn, SetsUpTurn};
+ghost use Rattle.lockrun.specs.Lent.{Takes, SetsUp, HandsBack};
 use decide::Due;
 use model::Answer;
 use model::Call;
@@ -33,9 +32,9 @@ pub enum Change {
     Clear(u32),
 }
 
-// How many locks are changed in turn.
-fn turns(change: Change) -> usize
-    ensures { λ r. ⌜ r ≡ turnsOf change ⌝ }
+// How many locks are changed, one after the other.
+fn count_of(change: Change) -> usize
+    ensures { λ r. ⌜ r ≡ countOf change ⌝ }
 {
     match change {
         Change::Keep => 0,
@@ -52,7 +51,7 @@ fn turns(change: Change) -> usize
 // The cell of entry i of a session.
 fn entry_cell(logs: &[u32], session: u8, i: usize) -> usize
     requires { ⌜ (session < 16) × (i < 32) × (length (now logs) ≡ 2048) ⌝ }
-    ensures { λ r. ⌜ r ≡ cellAt (now (logs .entry)) session i ⌝ }
+    ensures { λ r. ⌜ r ≡ cellAt (logIn (now (logs .entry)) session) i ⌝ }
 {
     let a = 128 * (session as usize);
     let e = a + 128;
@@ -75,9 +74,9 @@ fn unwritten_cell(logs: &[u32], session: u8, m: u8, i: usize) -> usize
     cell as usize
 }
 
-// The cell of turn i.
+// The cell whose lock is changed i-th, from 0.
 fn cell_of(logs: &[u32], change: Change, i: usize) -> usize
-    requires { ⌜ (Fits (now logs) change) × (i < turnsOf change) ⌝ }
+    requires { ⌜ (ChangeFits (now logs) change) × (i < countOf change) ⌝ }
     ensures { λ r. ⌜ r ≡ cellOf (now (logs .entry)) change i ⌝ }
 {
     match change {
@@ -94,14 +93,14 @@ fn cell_of(logs: &[u32], change: Change, i: usize) -> usize
 
 // What becomes of a lock.
 fn changed(l: Lock, change: Change) -> Lock
-    requires { ⌜ Known change ⌝ }
+    requires { ⌜ SessionFits change ⌝ }
     ensures { λ r. ⌜ r ≡ changeOf change l ⌝ }
 {
     match change {
         Change::Keep => l,
         Change::Join(s, _) => locks::joined(l, s),
         Change::Claim(s, _) => locks::claimed(l, s),
-        Change::Acquire(s, _) => locks::owned(l, s),
+        Change::Acquire(s, _) => locks::acquired(l, s),
         Change::Vacate(s, _) => locks::vacated(l, s),
         Change::Withdraw(s, _) => locks::withdrawn(l, s),
         Change::Leave(s, _) => locks::left(l, s),
@@ -132,7 +131,7 @@ fn lock_at(locks: &[Lock], cell: usize) -> Lock
 
 // One lock changed; past the last cell nothing is.
 fn change_at(locks: &mut [Lock], cell: usize, change: Change)
-    requires { ⌜ Known change ⌝ }
+    requires { ⌜ SessionFits change ⌝ }
     ensures { λ _. ⌜ now (locks .exit) ≡ changedAt change cell (now (locks .entry)) ⌝ }
 {
     if cell < locks.len() {
@@ -142,10 +141,10 @@ fn change_at(locks: &mut [Lock], cell: usize, change: Change)
 
 // The change carried out, lock by lock.
 fn sweep<'a>(locks: &'a mut [Lock], logs: &'a [u32], change: Change)
-    requires { ⌜ Fits (now logs) change ⌝ }
+    requires { ⌜ ChangeFits (now logs) change ⌝ }
     ensures { λ _. ⌜ now (locks .exit) ≡ sweptBy (now (logs .entry)) change (now (locks .entry)) ⌝ }
 {
-    let n = turns(change);
+    let n = count_of(change);
     let mut i = 0;
     while i < n {
         let cell = cell_of(logs, change, i);
@@ -154,7 +153,7 @@ fn sweep<'a>(locks: &'a mut [Lock], logs: &'a [u32], change: Change)
     }
 }
 
-// ---- what the covered part of a call hands over
+// ---- what the covered code of a call hands over
 
 // What a call has answered and changed besides the run, and what it does to the run.
 pub struct Turn {
@@ -169,8 +168,8 @@ pub struct Look {
 }
 
 // An answer with the records and the run as they were.
-fn kept(sessions: Sessions, answer: Answer) -> Turn
-    ensures { λ r. ⌜ r ≡ keeps sessions answer ⌝ }
+fn only_answer(sessions: Sessions, answer: Answer) -> Turn
+    ensures { λ r. ⌜ r ≡ onlyAnswer sessions answer ⌝ }
 {
     let reply = Reply { answer, sessions };
     Turn {
@@ -180,8 +179,8 @@ fn kept(sessions: Sessions, answer: Answer) -> Turn
 }
 
 // A reply with the run as it was.
-fn told(reply: Reply) -> Turn
-    ensures { λ r. ⌜ r ≡ tells reply ⌝ }
+fn only_reply(reply: Reply) -> Turn
+    ensures { λ r. ⌜ r ≡ onlyReply reply ⌝ }
 {
     Turn {
         reply,
@@ -199,14 +198,14 @@ fn set_up_turn(
     locks: usize,
     logs: &mut [u32],
 ) -> Turn
-    ensures { λ r. ⌜ SetUp (now (values .entry)) (now (classes .entry)) locks (now (logs .entry)) sessions (now (logs .exit)) r ⌝ }
+    ensures { λ r. ⌜ SetsUpTurn values classes locks logs sessions r ⌝ }
 {
     let n = values.len();
     if !decide::lengths_fit(n, classes.len(), locks, locks, locks, logs.len()) {
-        return kept(sessions, Answer::Refused(7));
+        return only_answer(sessions, Answer::Refused(7));
     }
     if !decide::all_fit(values, classes) {
-        return kept(sessions, Answer::Refused(8));
+        return only_answer(sessions, Answer::Refused(8));
     }
     log::clear_words(logs);
     let idle = model::all_idle();
@@ -231,7 +230,7 @@ fn begin_turn(
     logs: &[u32],
     session: u8,
 ) -> Reply
-    ensures { λ r. ⌜ Answered (Begin session) n classes locks (now (logs .entry)) sessions r ⌝ }
+    ensures { λ r. ⌜ IsReply (Begin session) n classes locks (now (logs .entry)) sessions r ⌝ }
 {
     if !decide::lengths_fit(n, classes, locks, locks, locks, logs.len()) {
         return Reply {
@@ -250,10 +249,10 @@ fn begin_turn(
     let e = a + 128;
     let x = sessions.records[i];
     let phase = x.phase;
-    let turned = decide::tests(&logs[a..e], n, x, phase == 0);
-    if turned != 0 {
+    let refusal = decide::tests(&logs[a..e], n, x, phase == 0);
+    if refusal != 0 {
         return Reply {
-            answer: Answer::Refused(turned),
+            answer: Answer::Refused(refusal),
             sessions,
         };
     }
@@ -275,14 +274,14 @@ fn read_turn(
     session: u8,
     cell: u32,
 ) -> Turn
-    ensures { λ r. ⌜ Turned (Read session cell) (now (values .entry)) (now (classes .entry)) locks cell l (now (logs .entry)) sessions (now (values .entry)) (now (logs .exit)) r ⌝ }
+    ensures { λ r. ⌜ TakesTurn (Read session cell) values classes locks cell l logs sessions r ⌝ }
 {
     let n = values.len();
     if !decide::lengths_fit(n, classes.len(), locks, locks, locks, logs.len()) {
-        return kept(sessions, Answer::Refused(7));
+        return only_answer(sessions, Answer::Refused(7));
     }
     if 15 < session {
-        return kept(sessions, Answer::Refused(1));
+        return only_answer(sessions, Answer::Refused(1));
     }
     let i = session as usize;
     let a = 128 * i;
@@ -290,10 +289,10 @@ fn read_turn(
     let x = sessions.records[i];
     let p = decide::read(&logs[a..e], n, x, l, cell);
     if let Plan::Tell(value) = p {
-        return kept(sessions, Answer::Value(value));
+        return only_answer(sessions, Answer::Value(value));
     }
     if let Plan::Refuse(number) = p {
-        return kept(sessions, Answer::Refused(number));
+        return only_answer(sessions, Answer::Refused(number));
     }
     let count = x.count;
     if let Plan::Enter(_) = p {
@@ -332,13 +331,13 @@ fn write_turn(
     cell: u32,
     value: u32,
 ) -> Turn
-    ensures { λ r. ⌜ Turned (Write session cell value) (now (values .entry)) (now (classes .entry)) locks cell l (now (logs .entry)) sessions (now (values .entry)) (now (logs .exit)) r ⌝ }
+    ensures { λ r. ⌜ TakesTurn (Write session cell value) values classes locks cell l logs sessions r ⌝ }
 {
     if !decide::lengths_fit(values.len(), classes.len(), locks, locks, locks, logs.len()) {
-        return kept(sessions, Answer::Refused(7));
+        return only_answer(sessions, Answer::Refused(7));
     }
     if 15 < session {
-        return kept(sessions, Answer::Refused(1));
+        return only_answer(sessions, Answer::Refused(1));
     }
     let i = session as usize;
     let a = 128 * i;
@@ -347,10 +346,10 @@ fn write_turn(
     let p = decide::write(&logs[a..e], classes, x, l, cell, value);
     if let Plan::Update(k, v) = p {
         log::update(&mut logs[a..e], k as usize, v);
-        return kept(sessions, Answer::Done);
+        return only_answer(sessions, Answer::Done);
     }
     if let Plan::Refuse(number) = p {
-        return kept(sessions, Answer::Refused(number));
+        return only_answer(sessions, Answer::Refused(number));
     }
     let count = x.count;
     if let Plan::EnterUpdate(_, v) = p {
@@ -388,14 +387,14 @@ fn seal_turn(
     logs: &[u32],
     session: u8,
 ) -> Turn
-    ensures { λ r. ⌜ Turned (Seal session) (now (values .entry)) (now (classes .entry)) locks 0 l (now (logs .entry)) sessions (now (values .entry)) (now (logs .entry)) r ⌝ }
+    ensures { λ r. ⌜ TakesTurn (Seal session) values classes locks 0 l logs sessions r ⌝ }
 {
     let n = values.len();
     if !decide::lengths_fit(n, classes.len(), locks, locks, locks, logs.len()) {
-        return kept(sessions, Answer::Refused(7));
+        return only_answer(sessions, Answer::Refused(7));
     }
     if 15 < session {
-        return kept(sessions, Answer::Refused(1));
+        return only_answer(sessions, Answer::Refused(1));
     }
     let i = session as usize;
     let a = 128 * i;
@@ -403,7 +402,7 @@ fn seal_turn(
     let x = sessions.records[i];
     let p = decide::seal(&logs[a..e], n, x);
     if let Plan::Refuse(number) = p {
-        return kept(sessions, Answer::Refused(number));
+        return only_answer(sessions, Answer::Refused(number));
     }
     let count = x.count;
     if let Plan::CommitReads = p {
@@ -464,7 +463,7 @@ fn advance_at(
     k: u32,
 ) -> Turn
     requires { ⌜ Slot k ≡ dueIn sessions (length (now values)) (length (now classes)) locks (now logs) session ⌝ }
-    ensures { λ r. ⌜ Turned (Advance session) (now (values .entry)) (now (classes .entry)) locks (cellAt (now (logs .entry)) session k) l (now (logs .entry)) sessions (now (values .exit)) (now (logs .entry)) r ⌝ }
+    ensures { λ r. ⌜ TakesTurn (Advance session) values classes locks (cellAt (logIn (now (logs .entry)) session) k) l logs sessions r ⌝ }
 {
     let i = session as usize;
     let a = 128 * i;
@@ -531,10 +530,10 @@ fn advance_turn(
     entry: Due,
 ) -> Turn
     requires { ⌜ entry ≡ dueIn sessions (length (now values)) (length (now classes)) locks (now logs) session ⌝ }
-    ensures { λ r. ⌜ Turned (Advance session) (now (values .entry)) (now (classes .entry)) locks (cellDue (now (logs .entry)) session entry) l (now (logs .entry)) sessions (now (values .exit)) (now (logs .entry)) r ⌝ }
+    ensures { λ r. ⌜ TakesTurn (Advance session) values classes locks (cellDue (now (logs .entry)) session entry) l logs sessions r ⌝ }
 {
     match entry {
-        Due::Refused(number) => kept(sessions, Answer::Refused(number)),
+        Due::Refused(number) => only_answer(sessions, Answer::Refused(number)),
         Due::Slot(k) => advance_at(sessions, values, classes, locks, l, logs, session, k),
     }
 }
@@ -549,23 +548,23 @@ fn abandon_turn(
     logs: &[u32],
     session: u8,
 ) -> Turn
-    ensures { λ r. ⌜ Turned (Abandon session) (now (values .entry)) (now (classes .entry)) locks 0 l (now (logs .entry)) sessions (now (values .entry)) (now (logs .entry)) r ⌝ }
+    ensures { λ r. ⌜ TakesTurn (Abandon session) values classes locks 0 l logs sessions r ⌝ }
 {
     let n = values.len();
     if !decide::lengths_fit(n, classes.len(), locks, locks, locks, logs.len()) {
-        return kept(sessions, Answer::Refused(7));
+        return only_answer(sessions, Answer::Refused(7));
     }
     if 15 < session {
-        return kept(sessions, Answer::Refused(1));
+        return only_answer(sessions, Answer::Refused(1));
     }
     let i = session as usize;
     let a = 128 * i;
     let e = a + 128;
     let x = sessions.records[i];
     let phase = x.phase;
-    let turned = decide::tests(&logs[a..e], n, x, (phase == 1) | (phase == 2));
-    if turned != 0 {
-        return kept(sessions, Answer::Refused(turned));
+    let refusal = decide::tests(&logs[a..e], n, x, (phase == 1) | (phase == 2));
+    if refusal != 0 {
+        return only_answer(sessions, Answer::Refused(refusal));
     }
     let count = x.count;
     sessions.records[i] = x.idled();
@@ -589,7 +588,7 @@ fn peek_plan(
     session: u8,
     cell: u32,
 ) -> Plan
-    ensures { λ r. ⌜ Peeks n classes locks (now (logs .entry)) sessions session cell r ⌝ }
+    ensures { λ r. ⌜ IsPeekPlan n classes locks (now (logs .entry)) sessions session cell r ⌝ }
 {
     if !decide::lengths_fit(n, classes, locks, locks, locks, logs.len()) {
         return Plan::Refuse(7);
@@ -614,7 +613,7 @@ fn peek_turn(
     session: u8,
     cell: u32,
 ) -> Reply
-    ensures { λ r. ⌜ Answered (Peek session cell) n classes locks (now (logs .entry)) sessions r ⌝ }
+    ensures { λ r. ⌜ IsReply (Peek session cell) n classes locks (now (logs .entry)) sessions r ⌝ }
 {
     let p = peek_plan(sessions, n, classes, locks, logs, session, cell);
     if let Plan::Refuse(number) = p {
@@ -639,7 +638,7 @@ fn peek_part<'a>(
     session: u8,
     cell: u32,
 ) -> &'a [u32]
-    ensures { λ r. ⌜ HandsBack (values .entry) classes locks (logs .entry) sessions session cell r ⌝ }
+    ensures { λ r. ⌜ IsPeekPart (values .entry) classes locks (logs .entry) sessions session cell r ⌝ }
 {
     let p = peek_plan(sessions, values.len(), classes, locks, logs, session, cell);
     if let Plan::ShowStore(_) = p {
@@ -659,7 +658,7 @@ fn peek_part<'a>(
 
 // What an advance looks at.
 fn look_due(logs: &[u32], session: u8, entry: Due) -> Look
-    requires { ⌜ Found (now logs) session entry ⌝ }
+    requires { ⌜ DueFits (now logs) session entry ⌝ }
     ensures { λ r. ⌜ r ≡ lookAt (now (logs .entry)) session entry ⌝ }
 {
     match entry {
@@ -726,11 +725,11 @@ fn take_turn(
     logs: &mut [u32],
 ) -> Turn
     requires { ⌜ look ≡ lookOf call sessions (length (now values)) (length (now classes)) locks (now logs) ⌝ }
-    ensures { λ r. ⌜ Turned call (now (values .entry)) (now (classes .entry)) locks (look .cell) l (now (logs .entry)) sessions (now (values .exit)) (now (logs .exit)) r ⌝ }
+    ensures { λ r. ⌜ TakesTurn call values classes locks (look .cell) l logs sessions r ⌝ }
 {
     let entry = look.due;
     match call {
-        Call::Begin(s) => told(begin_turn(
+        Call::Begin(s) => only_reply(begin_turn(
             sessions,
             values.len(),
             classes.len(),
@@ -743,7 +742,7 @@ fn take_turn(
         Call::Seal(s) => seal_turn(sessions, &values[..], classes, locks, l, &logs[..], s),
         Call::Advance(s) => advance_turn(sessions, values, classes, locks, l, &logs[..], s, entry),
         Call::Abandon(s) => abandon_turn(sessions, &values[..], classes, locks, l, &logs[..], s),
-        Call::Peek(s, c) => told(peek_turn(
+        Call::Peek(s, c) => only_reply(peek_turn(
             sessions,
             values.len(),
             classes.len(),
@@ -765,7 +764,7 @@ pub fn set_up(
     locks: &mut [Lock],
     logs: &mut [u32],
 ) -> Reply
-    ensures { λ r. ⌜ outcome (r .answer) (storeOn (now (values .entry)) (now (classes .entry)) (now (locks .exit)) (now (logs .exit)) (r .sessions)) ≡ setUpEffect (storeOn (now (values .entry)) (now (classes .entry)) (now (locks .entry)) (now (logs .entry)) sessions) ⌝ }
+    ensures { λ r. ⌜ SetsUp values classes locks logs sessions r ⌝ }
 {
     let t = set_up_turn(sessions, values, classes, locks.len(), logs);
     sweep(locks, logs, t.change);
@@ -781,7 +780,7 @@ pub fn step(
     locks: &mut [Lock],
     logs: &mut [u32],
 ) -> Reply
-    ensures { λ r. ⌜ outcome (r .answer) (storeOn (now (values .exit)) (now (classes .entry)) (now (locks .exit)) (now (logs .exit)) (r .sessions)) ≡ effect call (storeOn (now (values .entry)) (now (classes .entry)) (now (locks .entry)) (now (logs .entry)) sessions) ⌝ }
+    ensures { λ r. ⌜ Takes call values classes locks logs sessions r ⌝ }
 {
     let at = look_up(
         call,
@@ -806,7 +805,7 @@ pub fn begin(
     logs: &[u32],
     session: u8,
 ) -> Reply
-    ensures { λ r. ⌜ outcome (r .answer) (storeOn (now (values .entry)) (now (classes .entry)) (now (locks .entry)) (now (logs .entry)) (r .sessions)) ≡ effect (Begin session) (storeOn (now (values .entry)) (now (classes .entry)) (now (locks .entry)) (now (logs .entry)) sessions) ⌝ }
+    ensures { λ r. ⌜ Takes (Begin session) values classes locks logs sessions r ⌝ }
 {
     begin_turn(
         sessions,
@@ -828,7 +827,7 @@ pub fn read(
     session: u8,
     cell: u32,
 ) -> Reply
-    ensures { λ r. ⌜ outcome (r .answer) (storeOn (now (values .exit)) (now (classes .entry)) (now (locks .exit)) (now (logs .exit)) (r .sessions)) ≡ effect (Read session cell) (storeOn (now (values .entry)) (now (classes .entry)) (now (locks .entry)) (now (logs .entry)) sessions) ⌝ }
+    ensures { λ r. ⌜ Takes (Read session cell) values classes locks logs sessions r ⌝ }
 {
     step(
         Call::Read(session, cell),
@@ -851,7 +850,7 @@ pub fn write(
     cell: u32,
     value: u32,
 ) -> Reply
-    ensures { λ r. ⌜ outcome (r .answer) (storeOn (now (values .exit)) (now (classes .entry)) (now (locks .exit)) (now (logs .exit)) (r .sessions)) ≡ effect (Write session cell value) (storeOn (now (values .entry)) (now (classes .entry)) (now (locks .entry)) (now (logs .entry)) sessions) ⌝ }
+    ensures { λ r. ⌜ Takes (Write session cell value) values classes locks logs sessions r ⌝ }
 {
     step(
         Call::Write(session, cell, value),
@@ -872,7 +871,7 @@ pub fn seal(
     logs: &mut [u32],
     session: u8,
 ) -> Reply
-    ensures { λ r. ⌜ outcome (r .answer) (storeOn (now (values .exit)) (now (classes .entry)) (now (locks .exit)) (now (logs .exit)) (r .sessions)) ≡ effect (Seal session) (storeOn (now (values .entry)) (now (classes .entry)) (now (locks .entry)) (now (logs .entry)) sessions) ⌝ }
+    ensures { λ r. ⌜ Takes (Seal session) values classes locks logs sessions r ⌝ }
 {
     step(Call::Seal(session), sessions, values, classes, locks, logs)
 }
@@ -886,7 +885,7 @@ pub fn advance(
     logs: &mut [u32],
     session: u8,
 ) -> Reply
-    ensures { λ r. ⌜ outcome (r .answer) (storeOn (now (values .exit)) (now (classes .entry)) (now (locks .exit)) (now (logs .exit)) (r .sessions)) ≡ effect (Advance session) (storeOn (now (values .entry)) (now (classes .entry)) (now (locks .entry)) (now (logs .entry)) sessions) ⌝ }
+    ensures { λ r. ⌜ Takes (Advance session) values classes locks logs sessions r ⌝ }
 {
     step(
         Call::Advance(session),
@@ -907,7 +906,7 @@ pub fn abandon(
     logs: &mut [u32],
     session: u8,
 ) -> Reply
-    ensures { λ r. ⌜ outcome (r .answer) (storeOn (now (values .exit)) (now (classes .entry)) (now (locks .exit)) (now (logs .exit)) (r .sessions)) ≡ effect (Abandon session) (storeOn (now (values .entry)) (now (classes .entry)) (now (locks .entry)) (now (logs .entry)) sessions) ⌝ }
+    ensures { λ r. ⌜ Takes (Abandon session) values classes locks logs sessions r ⌝ }
 {
     step(
         Call::Abandon(session),
@@ -929,7 +928,7 @@ pub fn peek<'a>(
     session: u8,
     cell: u32,
 ) -> &'a [u32]
-    ensures { λ r. ⌜ Handed (values .entry) (logs .entry) (shown session (planOf (Peek session cell) (storeOn (now (values .entry)) (now (classes .entry)) (now (locks .entry)) (now (logs .entry)) sessions))) r ⌝ }
+    ensures { λ r. ⌜ HandsBack session cell values classes (now (locks .entry)) logs sessions r ⌝ }
 {
     peek_part(
         sessions,
@@ -952,7 +951,7 @@ pub fn peek_number(
     session: u8,
     cell: u32,
 ) -> Reply
-    ensures { λ r. ⌜ outcome (r .answer) (storeOn (now (values .entry)) (now (classes .entry)) (now (locks .entry)) (now (logs .entry)) (r .sessions)) ≡ effect (Peek session cell) (storeOn (now (values .entry)) (now (classes .entry)) (now (locks .entry)) (now (logs .entry)) sessions) ⌝ }
+    ensures { λ r. ⌜ Takes (Peek session cell) values classes locks logs sessions r ⌝ }
 {
     peek_turn(
         sessions,

@@ -20,9 +20,9 @@ use Rattle.model.specs.declared.Reply.{Reply}
 use Rattle.model.proofs.Lock as T
 use Rattle.model.proofs.Lock.Laws as T′
 use Rattle.lockrun.proofs.Row.{R, makes, RA}
-use Rattle.lockrun_check.specs.declared.Left.{Left}
-use Rattle.lockrun_check.proofs.Left as X
-use Rattle.lockrun_check.proofs.Left.Laws as X′
+use Rattle.lockrun_check.specs.declared.RunReply.{RunReply}
+use Rattle.lockrun_check.proofs.RunReply as X
+use Rattle.lockrun_check.proofs.RunReply.Laws as X′
 use Rattle.lockrun_check.proofs.LentArray.{arr}
 
 pub room : Room R 8
@@ -41,7 +41,7 @@ module _ {M : Type 1} (𝓤 : URA M) (H : Heap 𝓤) (A : Atoms 𝓤) (W : Given
   pub makes-x : Makes 𝓤 H A RX (Is RX)
   makes-x = LL.makes X.the-type X′.the-plain 𝓤 H A
 
-  pub typed-x : (d : Left) (v : Val) → Is RX d (v ∷ []) → T (hasTy X′.mir v) × WT v
+  pub typed-x : (d : RunReply) (v : Val) → Is RX d (v ∷ []) → T (hasTy X′.mir v) × WT v
   typed-x d v p = LL.lawful X.the-type X′.the-laws 𝓤 H A W .typed d (v ∷ []) p .0
 
 -- the locks as a field has them
@@ -52,6 +52,6 @@ each-in (z ∷ zs) [] s = s
 each-in (z ∷ zs) (u ∷ us) s = (s .0, each-in zs us (s .1))
 
 -- a reply and a run make a result
-pub left-is : (r : Reply) (v : Val) → Is RA r (v ∷ []) → (zs : List Lock) (u : Val) → Is (Array R 8) zs (u ∷ [])
+pub run-reply-is : (r : Reply) (v : Val) → Is RA r (v ∷ []) → (zs : List Lock) (u : Val) → Is (Array R 8) zs (u ∷ [])
     → Is RX (record { reply = r; locks = zs }) (vstruct (ofList (v ∷ u ∷ [])) ∷ [])
-left-is r v p zs u q = ((v ∷ [], (u ∷ [], tt)), (refl, (p, ((q .0, ((q .1 .0 .0, length-map zs (T.the-field .into) ∙ q .1 .0 .1), each-in zs (q .0) (q .1 .1))), tt))))
+run-reply-is r v p zs u q = ((v ∷ [], (u ∷ [], tt)), (refl, (p, ((q .0, ((q .1 .0 .0, length-map zs (T.the-field .into) ∙ q .1 .0 .1), each-in zs (q .0) (q .1 .1))), tt))))

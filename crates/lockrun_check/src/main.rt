@@ -2,12 +2,8 @@
 // call the part that a peek hands back.
 // It writes the listing's answers, then how many calls of the mixed list had each answer, how many peeks handed back which part, and whether anything
 // ever differed.
-ghost use mathlib.Core.Path.{_≡_};
 ghost use Prim.Native.Nat.{_<_};
-ghost use Rattle.model.specs.Step.{outcome, effect, setUpEffect, planOf, shown};
-ghost use Rattle.model.specs.declared.Call.the-variants.{Peek};
-ghost use Rattle.store.specs.Lent.{Handed};
-ghost use Rattle.lockrun.specs.Run.{storeOn};
+ghost use Rattle.lockrun.specs.Lent.{TakesRun, SetsUpRun, HandsBack};
 use libc::STDOUT_FILENO;
 use model::Answer;
 use model::Call;
@@ -20,7 +16,7 @@ use model::Sessions;
 // ---- calls on a run that is an array by value, so that whoever calls them is covered
 
 // A reply, and the run as it was left.
-struct Left {
+struct RunReply {
     reply: Reply,
     locks: [Lock; 8],
 }
@@ -31,12 +27,12 @@ fn set_up_on(
     classes: &[u8],
     locks: [Lock; 8],
     logs: &mut [u32],
-) -> Left
-    ensures { λ r. ⌜ outcome (r .reply .answer) (storeOn (now (values .entry)) (now (classes .entry)) (r .locks) (now (logs .exit)) (r .reply .sessions)) ≡ setUpEffect (storeOn (now (values .entry)) (now (classes .entry)) locks (now (logs .entry)) sessions) ⌝ }
+) -> RunReply
+    ensures { λ r. ⌜ SetsUpRun values classes locks (r .locks) logs sessions (r .reply) ⌝ }
 {
     let mut run = locks;
     let reply = lockrun::set_up(sessions, values, classes, &mut run, logs);
-    Left { reply, locks: run }
+    RunReply { reply, locks: run }
 }
 
 fn step_on(
@@ -46,12 +42,12 @@ fn step_on(
     classes: &[u8],
     locks: [Lock; 8],
     logs: &mut [u32],
-) -> Left
-    ensures { λ r. ⌜ outcome (r .reply .answer) (storeOn (now (values .exit)) (now (classes .entry)) (r .locks) (now (logs .exit)) (r .reply .sessions)) ≡ effect call (storeOn (now (values .entry)) (now (classes .entry)) locks (now (logs .entry)) sessions) ⌝ }
+) -> RunReply
+    ensures { λ r. ⌜ TakesRun call values classes locks (r .locks) logs sessions (r .reply) ⌝ }
 {
     let mut run = locks;
     let reply = lockrun::step(call, sessions, values, classes, &mut run, logs);
-    Left { reply, locks: run }
+    RunReply { reply, locks: run }
 }
 
 // The run is only read, so it is not handed back.
@@ -64,7 +60,7 @@ fn peek_on<'a>(
     session: u8,
     cell: u32,
 ) -> &'a [u32]
-    ensures { λ r. ⌜ Handed (values .entry) (logs .entry) (shown session (planOf (Peek session cell) (storeOn (now (values .entry)) (now (classes .entry)) locks (now (logs .entry)) sessions))) r ⌝ }
+    ensures { λ r. ⌜ HandsBack session cell values classes locks logs sessions r ⌝ }
 {
     lockrun::peek(sessions, values, classes, &locks, logs, session, cell)
 }
@@ -87,7 +83,7 @@ struct Shown {
 // What a call on both forms leaves.
 struct Both {
     slices: Reply,
-    records: Left,
+    records: RunReply,
     shown: Shown,
 }
 
@@ -151,36 +147,11 @@ fn same_sessions(a: Sessions, b: Sessions) -> bool {
     true
 }
 
-// The number of an answer.
-fn number(a: Answer) -> u32 {
-    match a {
-        Answer::Done => 100,
-        Answer::Value(_) => 101,
-        Answer::Sealed => 102,
-        Answer::Moved => 103,
-        Answer::Waiting => 104,
-        Answer::Committed => 105,
-        Answer::Refused(n) => wide(n),
-    }
-}
-
-fn wide(n: u8) -> u32 {
-    n as u32
-}
-
-// The value of an answer, 0 except with 101.
-fn value(a: Answer) -> u32 {
-    match a {
-        Answer::Value(v) => v,
-        _ => 0,
-    }
-}
-
 fn same_answers(a: Answer, b: Answer) -> bool {
-    if number(a) != number(b) {
+    if a.number() != b.number() {
         return false;
     }
-    value(a) == value(b)
+    a.value() == b.value()
 }
 
 // The part that a peek of the call's session at its cell hands back on both forms, length and word compared. A program cannot compare where a part lies:
@@ -316,7 +287,7 @@ fn call_both(
 fn compared<'a, 'b>(
     call: Call,
     a: Reply,
-    b: Left,
+    b: RunReply,
     classes: &[u8],
     values: &'a [u32],
     readers: &[u16],
@@ -506,12 +477,13 @@ fn print(x: u32, after: u8) {
 
 fn print_answer(i: u32, a: Answer) {
     print(i, b' ');
-    if number(a) == 101 {
+    let n = a.number();
+    if n == 101 {
         print(101, b' ');
-        print(value(a), b'\n');
+        print(a.value(), b'\n');
         return;
     }
-    print(number(a), b'\n');
+    print(n as u32, b'\n');
 }
 
 // Where an answer is counted: good ones from 0, a refusal by its number from 6.

@@ -2,7 +2,6 @@ pub mod Search
 pub mod Readers
 pub mod Buffers
 pub mod Step
-pub mod Slices
 pub mod Told
 pub mod History
 pub mod Computing
@@ -14,3 +13,4 @@ pub mod Cases
 pub mod SetUpCases
 pub mod Anomalies
 pub mod Words
+pub mod Slices

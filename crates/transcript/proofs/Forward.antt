@@ -1,10 +1,10 @@
--- The text of the calls, call by call in their order: the model's `history` and `run`, which have the newest call first, taken from the oldest on.
+-- The text of the calls, call by call in their order: the model's `events` and `run`, which have the newest call first, taken from the oldest on.
 use Prim.Native.Nat.{ℕ, suc}
 use mathlib.Core.Path.{_≡_, refl, _∙_, ap}
 use mathlib.Core.List.{List, [], _∷_, _++_, append-assoc, reverse, reverse-cons, reverse-append}
 use Rattle.model.specs.declared.Call.{Call}
 use Rattle.model.specs.Buffers.{Store}
-use Rattle.model.specs.History.{run, history}
+use Rattle.model.specs.History.{run, events}
 use Rattle.model.specs.Step.{step, reply}
 use Rattle.transcript.specs.Items.{Item, cell, asked, refused, calls}
 use Rattle.transcript.specs.Lines.{fieldLine, answerLine, answerLines, cellLines, endLine}
@@ -17,34 +17,34 @@ module _ (σ : Store) (k : Call) where
   run-first [] = refl
   run-first (j ∷ ks) = ap (step j) (run-first ks)
 
-  history-first : (ks : List Call) → history σ (ks ++ k ∷ []) ≡ history (step k σ) ks ++ (record { call = k; answer = reply k σ } ∷ [])
-  unfolding run history
-  history-first [] = refl
-  history-first (j ∷ ks) = rw (run-first ks, history-first ks)
+  events-first : (ks : List Call) → events σ (ks ++ k ∷ []) ≡ events (step k σ) ks ++ (record { call = k; answer = reply k σ } ∷ [])
+  unfolding run events
+  events-first [] = refl
+  events-first (j ∷ ks) = rw (run-first ks, events-first ks)
 
   run-asked : (ks : List Call) → run σ (reverse (k ∷ ks)) ≡ run (step k σ) (reverse ks)
   run-asked ks = ap (run σ) (reverse-cons k ks) ∙ run-first (reverse ks)
 
-  history-asked : (ks : List Call) → reverse (history σ (reverse (k ∷ ks))) ≡ record { call = k; answer = reply k σ } ∷ reverse (history (step k σ) (reverse ks))
-  history-asked ks =
-      ap (λ (js : List Call). reverse (history σ js)) (reverse-cons k ks) ∙ ap reverse (history-first (reverse ks)) ∙ reverse-append (history (step k σ) (reverse ks)) _
+  events-asked : (ks : List Call) → reverse (events σ (reverse (k ∷ ks))) ≡ record { call = k; answer = reply k σ } ∷ reverse (events (step k σ) (reverse ks))
+  events-asked ks =
+      ap (λ (js : List Call). reverse (events σ js)) (reverse-cons k ks) ∙ ap reverse (events-first (reverse ks)) ∙ reverse-append (events (step k σ) (reverse ks)) _
 
   -- a call prints its line, and the rest follows from the store that it leaves
   pub text-asked : (i : ℕ) (items : List Item) → callsText i σ (asked k ∷ items) ≡ answerLine i (reply k σ) ++ callsText (suc i) (step k σ) items
   unfolding calls answerLines endLine callsText
   text-asked i items =
-      rw (history-asked (calls items), run-asked (calls items)) (append-assoc (answerLine i (reply k σ)) (answerLines (suc i) (reverse (history (step k σ) (reverse (calls items))))) _)
+      rw (events-asked (calls items), run-asked (calls items)) (append-assoc (answerLine i (reply k σ)) (answerLines (suc i) (reverse (events (step k σ) (reverse (calls items))))) _)
 
 module _ (i : ℕ) (σ : Store) where
   -- where the calls end, the cells follow
   pub text-end : callsText i σ [] ≡ cellLines 0 (σ .lent .values)
-  unfolding calls answerLines endLine callsText run history
+  unfolding calls answerLines endLine callsText run events
   text-end = refl
 
   pub text-refused : (place number : ℕ) (items : List Item) → callsText i σ (refused place number ∷ items) ≡ fieldLine place number ++ cellLines 0 (σ .lent .values)
-  unfolding calls answerLines endLine callsText run history
+  unfolding calls answerLines endLine callsText run events
   text-refused place number items = refl
 
   pub text-late-cell : (place class value : ℕ) (items : List Item) → callsText i σ (cell place class value ∷ items) ≡ fieldLine place 11 ++ cellLines 0 (σ .lent .values)
-  unfolding calls answerLines endLine callsText run history
+  unfolding calls answerLines endLine callsText run events
   text-late-cell place class value items = refl

@@ -1,24 +1,24 @@
--- Demand 3 is about what is printed: the answers of an accepted input are those of the model's history of its calls, and that history is isolated.
+-- Demand 3 is about what is printed: the answers of an accepted input are those of the model's events of its calls, and what these tell is isolated.
 use Prim.Native.Nat.{ℕ}
 use mathlib.Core.Path.{_≡_}
-use mathlib.Core.List.{List, _++_, reverse}
+use mathlib.Core.List.{List, [], _++_, reverse}
 use borrow.Author.Tests.{le-leb, eq-eqb}
 use Rattle.model.specs.Step.{setUp}
-use Rattle.model.specs.History.{run, history}
+use Rattle.model.specs.History.{run, events}
 use Rattle.model.specs.Isolation.{Demand3}
 use Rattle.model.proofs.Demand3.{demand3}
 use Rattle.transcript.specs.Items.{itemsAt, later}
 use Rattle.transcript.specs.Lines.{answerLines, cellLines, endLine}
 use Rattle.transcript.specs.Transcript.{callsText, afterSetUp, setUpText, itemsText, transcript, givenBy, callsOf, Accepted}
 
--- a line for each event of the history, in the order of the calls, then what ends them, then the values that the history leaves
-pub printed-is-history : (input : List ℕ) → Accepted input
+-- a line for each event, in the order of the calls, then what ends them, then the values that the calls leave
+pub printed-is-events : (input : List ℕ) → Accepted input
     → transcript input
-    ≡ answerLines 1 (reverse (history (setUp (givenBy input)) (reverse (callsOf input))))
+    ≡ answerLines 1 (reverse (events (setUp (givenBy input)) (reverse (callsOf input))))
     ++ (endLine (later (itemsAt input 0)) ++ cellLines 0 (run (setUp (givenBy input)) (reverse (callsOf input)) .lent .values))
 unfolding transcript itemsText setUpText afterSetUp callsText
-printed-is-history input a = rw (le-leb _ _ (a .short), eq-eqb _ _ (a .setUp))
+printed-is-events input a = rw (le-leb _ _ (a .short), eq-eqb _ _ (a .setUp))
 
 -- of that store and those calls demand 3 holds
-pub printed-isolated : (input : List ℕ) → Accepted input → Demand3 (setUp (givenBy input)) (callsOf input)
+pub printed-isolated : (input : List ℕ) → Accepted input → Demand3 [] (setUp (givenBy input)) (callsOf input)
 printed-isolated input a = demand3 (givenBy input) (a .setUp) (callsOf input)

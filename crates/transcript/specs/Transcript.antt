@@ -1,4 +1,4 @@
--- The replay's text, from input bytes to output bytes (document 01, "Call fields"). What it prints of the calls is `history` and `run` of the
+-- The replay's text, from input bytes to output bytes (document 01, "Call fields"). What it prints of the calls is `events` and `run` of the
 -- model, of which demand 3 speaks.
 use Prim.Native.Nat.{ℕ, _≤_}
 use mathlib.Core.Path.{_≡_}
@@ -10,7 +10,7 @@ use Rattle.model.specs.declared.Answer.{Answer}
 use Rattle.model.specs.declared.Call.{Call}
 use Rattle.model.specs.Buffers.{Store, idle}
 use Rattle.model.specs.Step.{number, setUpAnswer, setUp}
-use Rattle.model.specs.History.{run, history}
+use Rattle.model.specs.History.{run, events}
 use Rattle.transcript.specs.Items.{Item, itemsAt, values, classes, later, calls}
 use Rattle.transcript.specs.Lines.{sizeLine, setUpLine, answerLines, cellLines, endLine}
 
@@ -31,7 +31,7 @@ given vs ks =
 -- a line for each call from the store σ, with the ordinals from the given one on, the line of what ends the calls, and a line for each cell
 unfoldable pub callsText : ℕ → Store → List Item → List ℕ
 callsText ordinal σ items =
-    answerLines ordinal (reverse (history σ (reverse (calls items)))) ++ (endLine items ++ cellLines 0 (run σ (reverse (calls items)) .lent .values))
+    answerLines ordinal (reverse (events σ (reverse (calls items)))) ++ (endLine items ++ cellLines 0 (run σ (reverse (calls items)) .lent .values))
 
 -- set-up comes first: a refused one is all that is printed
 unfoldable pub afterSetUp : Answer → Store → List Item → List ℕ

@@ -1,5 +1,5 @@
 -- `lockrun::advance_at` meets its contract: each way through it is one law of proofs/AdvanceWays.antt, at the plan that `decide::advance` answers.
-use Rattle.lockrun.proofs.AdvanceWays.{part-ends, in-part, can-advance, in-values, handles, advance-waits, advance-rolls, advance-owns, advance-publishes, advance-releases}
+use Rattle.lockrun.proofs.AdvanceWays.{log-ends, in-log, can-advance, in-values, handles, advance-waits, advance-rolls, advance-acquires, advance-publishes, advance-releases}
 use borrow.Author.Needs.{needs}
 use Rattle.lockrun.proofs.advance_at.Statement.{statement}
 use Rattle.lockrun.proofs.advance_at.Tie as tie
@@ -8,10 +8,10 @@ element-copy-out-x : tie.Need-element-copy-out-x
 element-copy-out-x c = let a = c .before .before .before .args in can-advance (a .values .now) (a .classes .now) (a .logs .now) (a .t1) (a .locks) (a .session) (a .k) (c .before .before .before .pre) .0
 
 part-log-end : tie.Need-part-log-end
-part-log-end c = let a = c .before .before .before .before .args in part-ends (a .values .now) (a .classes .now) (a .logs .now) (a .t1) (a .locks) (a .session) (a .k) (c .before .before .before .before .pre)
+part-log-end c = let a = c .before .before .before .before .args in log-ends (a .values .now) (a .classes .now) (a .logs .now) (a .t1) (a .locks) (a .session) (a .k) (c .before .before .before .before .pre)
 
 cell-at-requires : tie.Need-cell-at-requires
-cell-at-requires c κs = let a = c .before .before .before .before .before .args in in-part (a .values .now) (a .classes .now) (a .logs .now) (a .t1) (a .locks) (a .session) (a .k) (c .before .before .before .before .before .pre)
+cell-at-requires c κs = let a = c .before .before .before .before .before .args in in-log (a .values .now) (a .classes .now) (a .logs .now) (a .t1) (a .locks) (a .session) (a .k) (c .before .before .before .before .before .pre)
 
 advance-requires : tie.Need-advance-requires
 advance-requires c κs = let a = c .before .before .before .before .before .before .args in can-advance (a .values .now) (a .classes .now) (a .logs .now) (a .t1) (a .locks) (a .session) (a .k) (c .before .before .before .before .before .before .pre)
@@ -32,7 +32,7 @@ element-set-from-y : tie.Need-element-set-from-y
 element-set-from-y c = let a = c .before .before .before .before .before .before .before .before .before .before .before .args in can-advance (a .values .now) (a .classes .now) (a .logs .now) (a .t1) (a .locks) (a .session) (a .k) (c .before .before .before .before .before .before .before .before .before .before .before .pre) .0
 
 returns-3 : tie.Need-returns-3
-returns-3 c = let a = c .before .before .before .before .before .before .before .before .before .before .before .before .before .args in advance-owns (a .values .now) (a .classes .now) (a .logs .now) (a .t1) (a .locks) (a .session) (a .k) (c .before .before .before .before .before .before .before .before .before .before .before .before .before .pre) _ (c .before .before .before .before .before .before .before .cell-at .ensures) _ _ (c .before .before .before .before .before .before .advance .ensures) _ (c .before .before .before .handle .ensures) (c .enum-told3 .given .1)
+returns-3 c = let a = c .before .before .before .before .before .before .before .before .before .before .before .before .before .args in advance-acquires (a .values .now) (a .classes .now) (a .logs .now) (a .t1) (a .locks) (a .session) (a .k) (c .before .before .before .before .before .before .before .before .before .before .before .before .before .pre) _ (c .before .before .before .before .before .before .before .cell-at .ensures) _ _ (c .before .before .before .before .before .before .advance .ensures) _ (c .before .before .before .handle .ensures) (c .enum-told3 .given .1)
 
 slice-write-values : tie.Need-slice-write-values
 slice-write-values c = let a = c .before .before .before .before .before .before .before .before .before .before .before .before .before .before .before .args in in-values (a .values .now) (a .classes .now) (a .logs .now) (a .t1) (a .locks) (a .session) (a .k) (c .before .before .before .before .before .before .before .before .before .before .before .before .before .before .before .pre) _ (c .before .before .before .before .before .before .before .before .before .cell-at .ensures)

@@ -1,5 +1,5 @@
 -- `lockrun::advance_turn` meets its contract: a refusal is the plan's, and an entry that is due is handled.
-use Rattle.lockrun.proofs.AdvanceWays.{advance-turned}
+use Rattle.lockrun.proofs.AdvanceWays.{advance-refuses}
 use Rattle.lockrun.specs.Turns.{cellDue}
 use mathlib.Core.Path.{sym, _∙_}
 use borrow.Author.Needs.{needs}
@@ -10,7 +10,7 @@ advance-at-requires : tie.Need-advance-at-requires
 advance-at-requires c κs = sym (c .before .before .entry2 .given .1) ∙ c .before .before .before .before .before .before .before .pre
 
 returns : tie.Need-returns
-returns c = let a = c .before .before .before .before .before .before .before .args in advance-turned (a .values .now) (a .classes .now) (a .logs .now) (a .sessions) (a .locks) (a .session) _ _ _ (sym (c .before .before .entry .given .1) ∙ c .before .before .before .before .before .before .before .pre) _ (c .kept .ensures)
+returns c = let a = c .before .before .before .before .before .before .before .args in advance-refuses (a .values .now) (a .classes .now) (a .logs .now) (a .sessions) (a .locks) (a .session) _ _ _ (sym (c .before .before .entry .given .1) ∙ c .before .before .before .before .before .before .before .pre) _ (c .only-answer .ensures)
 
 returns-2 : tie.Need-returns-2
 unfolding cellDue

@@ -44,7 +44,7 @@ use denote.Exit.{yes}
 use Rattle.model.specs.declared.Lock.{Lock}
 use Rattle.model.specs.Buffers.{free}
 use Rattle.lockrun.specs.declared.Change.{Change}
-use Rattle.lockrun.specs.Run.{Known, changeOf, changedAt}
+use Rattle.lockrun.specs.Run.{SessionFits, changeOf, changedAt}
 use Rattle.lockrun.proofs.Change.Laws as C′
 use Rattle.lockrun.proofs.Leave.{full, leave}
 use Rattle.lockrun.proofs.Row.{R, low, vals, tells, makes, typed, typed-at, RC, low-c, tells-c, makes-c, typed-c, set-past, place-fits}
@@ -74,7 +74,7 @@ module _ {M : Type 1} (𝓤 : URA M) (H : Heap 𝓤) (A : Atoms 𝓤) (mem : Mem
   made-of : (e : Lock) (d : Change) (r : Lock) → ent 𝓤 (ensured 𝓤 H A changed.ended (changed.clauses 𝓤 H A mem run) tt (e, (d, tt)) tt r) (fact 𝓤 (r ≡ changeOf d e))
   made-of e d r = exE 𝓤 _ (λ ws. snd∗ 𝓤 (sem 𝓤 H A (lasts changed.ended tt (e, (d, tt)) ws)) (fact 𝓤 (r ≡ changeOf d e)))
 
-module _ {M : Type 1} (𝓤 : URA M) (H : Heap 𝓤) (A : Atoms 𝓤) (W : Given 𝓤 H A) (mem : Memory → SProp 𝓤) (run : Routine → Fun 𝓤) (κ : Lft) (q : Share) (b o : ℕ) (γ : GName) (ys : List Lock) (c : ℕ) (d : Change) (gc : c < 2 ^ 64) (gd : Is RC d (low-c d ∷ [])) (ok : Known d) where
+module _ {M : Type 1} (𝓤 : URA M) (H : Heap 𝓤) (A : Atoms 𝓤) (W : Given 𝓤 H A) (mem : Memory → SProp 𝓤) (run : Routine → Fun 𝓤) (κ : Lft) (q : Share) (b o : ℕ) (γ : GName) (ys : List Lock) (c : ℕ) (d : Change) (gc : c < 2 ^ 64) (gd : Is RC d (low-c d ∷ [])) (ok : SessionFits d) where
   abbrev x : List Lock → RefT (List Lock)
   x l = record { ptr = (b, o); name = γ; now = l }
 

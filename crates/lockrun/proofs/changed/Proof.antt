@@ -30,7 +30,7 @@ returns-3 c = rw (c .before .before .change2 .given .1) (c .claimed .ensures)
 
 returns-4 : tie.Need-returns-4
 unfolding changeOf
-returns-4 c = rw (c .before .before .change3 .given .1) (c .owned .ensures)
+returns-4 c = rw (c .before .before .change3 .given .1) (c .acquired .ensures)
 
 returns-5 : tie.Need-returns-5
 unfolding changeOf

@@ -1,5 +1,4 @@
--- `lockrun::entry_cell` meets its contract: the words of the session's part are the session's words.
-use Rattle.decide.proofs.Agree.{part-cell}
+-- `lockrun::entry_cell` meets its contract: the slice that it lends is the session's log.
 use Rattle.store.proofs.Parts.{cut-is, part-long}
 use mathlib.Core.Path.{_∙_}
 use native.Mathlib.Omega.{arith}
@@ -14,7 +13,7 @@ cell-at-requires : tie.Need-cell-at-requires
 cell-at-requires c κs = let w = part-long (c .before .before .args .logs .now) (c .before .before .args .session) (c .before .before .pre .2) (c .before .before .pre .0) in let i = c .before .before .pre .1 in omega arith
 
 returns : tie.Need-returns
-returns c = c .cell-at .ensures ∙ rw cut-is (part-cell _ _ _ (c .before .before .before .pre .1))
+returns c = c .cell-at .ensures ∙ rw cut-is
 
 pub entry-cell-spec : {M : Type 1} → statement M
 entry-cell-spec =

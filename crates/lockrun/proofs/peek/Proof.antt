@@ -37,7 +37,7 @@ use denote.Triple.Walked.{says, Stays, stay-none, stay-none-slice, walkOf, goes-
 use denote.Exit.{yes}
 use Rattle.model.specs.declared.Lock.{Lock}
 use Rattle.model.specs.declared.Sessions.{Sessions}
-use Rattle.lockrun.specs.Turns.{HandsBack}
+use Rattle.lockrun.specs.Turns.{IsPeekPart}
 use Rattle.lockrun.proofs.Row.{R, RS, low-s, tells-s, makes-s, typed-s}
 use Rattle.lockrun.proofs.Leave.{full, leave}
 use Rattle.lockrun.proofs.Short.{allocates, var, sets}
@@ -101,7 +101,7 @@ module _ {M : Type 1} (𝓤 : URA M) (H : Heap 𝓤) (A : Atoms 𝓤) (W : Given
   Part r v = ShrSlice (named 0) κ₀ u32 .own r (v ∷ [])
 
   abbrev Says : RefT (List ℕ) → Type 0
-  Says r = HandsBack x₀ n₁ n x₃ ss s c r
+  Says r = IsPeekPart x₀ n₁ n x₃ ss s c r
 
   goes : ent 𝓤 (⋆ 𝓤 H A (‵ Values ∷ ‵ Logs ∷ ‵ (flft κ₀ q₀) ∷ [])) (PeekPart 𝓤 H A mem run .pre to)
   goes =

@@ -1,11 +1,11 @@
 -- `lockrun::peek_turn` meets its contract: a refusal is the plan's, and any other plan of a peek answers 100.
-use Rattle.lockrun.proofs.Ways.{peek-turns, peek-shows}
+use Rattle.lockrun.proofs.Ways.{peek-refuses, peek-shows}
 use borrow.Author.Needs.{needs}
 use Rattle.lockrun.proofs.peek_turn.Statement.{statement}
 use Rattle.lockrun.proofs.peek_turn.Tie as tie
 
 returns : tie.Need-returns
-returns c = let a = c .before .before .before .before .before .args in peek-turns (a .n) (a .classes) (a .locks) (a .logs .now) (a .sessions) (a .session) (a .cell) _ (c .before .before .before .peek-plan .ensures) _ (c .before .p .given .1)
+returns c = let a = c .before .before .before .before .before .args in peek-refuses (a .n) (a .classes) (a .locks) (a .logs .now) (a .sessions) (a .session) (a .cell) _ (c .before .before .before .peek-plan .ensures) _ (c .before .p .given .1)
 
 returns-2 : tie.Need-returns-2
 returns-2 c = let a = c .before .before .before .args in peek-shows (a .n) (a .classes) (a .locks) (a .logs .now) (a .sessions) (a .session) (a .cell) _ (c .before .peek-plan .ensures) (c .match .keys2)

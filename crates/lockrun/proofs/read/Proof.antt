@@ -3,7 +3,7 @@
 use contract.Running.{givenOf, tables, tablesOf}
 use denote.Triple.Spec.{tripleOf}
 use denote.Triple.Table.{entered, cited}
-use Rattle.lockrun.proofs.Passed.{Step}
+use Rattle.lockrun.proofs.CallsStep.{Step}
 use Rattle.lockrun.proofs.Filled.{meets-two}
 use Rattle.lockrun.proofs.step.Symbol as step-def
 use Rattle.lockrun.proofs.step.Symbol.{name as #lockrun·step}

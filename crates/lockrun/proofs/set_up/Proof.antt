@@ -40,7 +40,7 @@ use Rattle.model.specs.declared.Lock.{Lock}
 use Rattle.model.specs.declared.Sessions.{Sessions}
 use Rattle.lockrun.specs.declared.Turn.{Turn}
 use Rattle.lockrun.specs.Run.{storeOn, sweptBy}
-use Rattle.lockrun.specs.Turns.{SetUp}
+use Rattle.lockrun.specs.Turns.{IsSetUpTurn}
 use Rattle.lockrun.proofs.Turn.Laws as U′
 use Rattle.lockrun.proofs.Row.{R, RS, low-s, tells-s, makes-s, typed-s, RA, low-a, makes-a, typed-a, RU, typed-u, turn-is, reply-is, change-is}
 use Rattle.lockrun.proofs.Leave.{full, leave}
@@ -111,7 +111,7 @@ module _ {M : Type 1} (𝓤 : URA M) (H : Heap 𝓤) (A : Atoms 𝓤) (W : Given
   to ν δ = (((κ₀, (κ₁, (ν ∷ [], tt))), (q₀, (q₁, (fullShare, tt))), tt, (ss, (x₀, (x₁, (n, (ref-at b₃ o₃ δ logs, tt))))), (low-s ss ∷ [], (slice-vals x₀, (slice-vals x₁, (vint w64 n ∷ [], (s₃ ∷ [], tt)))))), tt)
 
   abbrev Says : List ℕ → Turn → Type 0
-  Says ws t = SetUp (now x₀) (now x₁) n logs ss ws t
+  Says ws t = IsSetUpTurn (now x₀) (now x₁) n logs ss ws t
 
   abbrev gives : Val → List ℕ → Item 𝓤
   gives v ws = some (λ (t : Turn). given (Says ws t) (‵ (RU .own t (v ∷ [])) ⊛ (‵ (flft κ₀ q₀) ⊛ ‵ (flft κ₁ q₁))))

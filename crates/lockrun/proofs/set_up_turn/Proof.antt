@@ -7,13 +7,13 @@ use Rattle.lockrun.proofs.set_up_turn.Statement.{statement}
 use Rattle.lockrun.proofs.set_up_turn.Tie as tie
 
 returns : tie.Need-returns
-returns c = let a = c .before .before .before .before .before .before .args in set-up-7 (a .values .now) (a .classes .now) (a .logs .now) (a .sessions) (a .locks) _ (c .before .before .lengths-fit .ensures) _ (not-true _ (c .before .if1 .taken)) (c .kept .ensures)
+returns c = let a = c .before .before .before .before .before .before .args in set-up-7 (a .values .now) (a .classes .now) (a .logs .now) (a .sessions) (a .locks) _ (c .before .before .lengths-fit .ensures) _ (not-true _ (c .before .if1 .taken)) (c .only-answer .ensures)
 
 all-fit-requires : tie.Need-all-fit-requires
 all-fit-requires c κs = let a = c .before .before .before .before .before .args in classes-fit (a .values .now) (a .classes .now) (a .logs .now) (a .sessions) (a .locks) _ (c .before .lengths-fit .ensures) (not-false _ (c .if1 .left))
 
 returns-2 : tie.Need-returns-2
-returns-2 c = let a = c .before .before .before .before .before .before .before .before .args in set-up-8 (a .values .now) (a .classes .now) (a .logs .now) (a .sessions) (a .locks) _ (c .before .before .before .before .lengths-fit .ensures) (not-false _ (c .before .before .before .if1 .left)) _ (c .before .before .all-fit .ensures) _ (not-true _ (c .before .if2 .taken)) (c .kept2 .ensures)
+returns-2 c = let a = c .before .before .before .before .before .before .before .before .args in set-up-8 (a .values .now) (a .classes .now) (a .logs .now) (a .sessions) (a .locks) _ (c .before .before .before .before .lengths-fit .ensures) (not-false _ (c .before .before .before .if1 .left)) _ (c .before .before .all-fit .ensures) _ (not-true _ (c .before .if2 .taken)) (c .only-answer2 .ensures)
 
 cast-t19 : tie.Need-cast-t19
 cast-t19 c = let a = c .before .before .before .before .before .before .before .before .before .before .before .before .args in omega (arith, values-few (a .values .now) (a .classes .now) (a .logs .now) (a .sessions) (a .locks) _ (c .before .before .before .before .before .before .before .before .lengths-fit .ensures) (not-false _ (c .before .before .before .before .before .before .before .if1 .left)))

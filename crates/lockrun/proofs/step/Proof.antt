@@ -42,7 +42,7 @@ use Rattle.model.specs.declared.Call.{Call}
 use Rattle.lockrun.specs.declared.Look.{Look}
 use Rattle.lockrun.specs.declared.Turn.{Turn}
 use Rattle.lockrun.specs.Run.{storeOn, lockIn, sweptBy}
-use Rattle.lockrun.specs.Turns.{lookOf, Turned}
+use Rattle.lockrun.specs.Turns.{lookOf, IsTurn}
 use Rattle.lockrun.proofs.Look.Laws as L′
 use Rattle.lockrun.proofs.Turn.Laws as U′
 use Rattle.lockrun.proofs.Row.{R, makes, typed-at, RS, low-s, tells-s, makes-s, typed-s, RA, low-a, makes-a, typed-a, RU, typed-u, turn-is, reply-is, change-is, RK, low-k, tells-k, makes-k, typed-k, RL, low-l, makes-l, typed-l, look-is, cell-fits}
@@ -161,7 +161,7 @@ module _ {M : Type 1} (𝓤 : URA M) (H : Heap 𝓤) (A : Atoms 𝓤) (W : Given
     to ν δ = (((κ₀, (κ₁, (ν ∷ [], tt))), (q₀, (q₁, (fullShare, tt))), tt, (call, (g, (ss, (x₀, (x₁, (n, (r, (ref-at b₃ o₃ δ logs, tt)))))))), (low-k call ∷ [], (low-l g ∷ [], (low-s ss ∷ [], (slice-vals x₀, (slice-vals x₁, (vint w64 n ∷ [], (v ∷ [], (s₃ ∷ [], tt))))))))), tt)
 
     abbrev Says : List ℕ → List ℕ → Turn → Type 0
-    Says vs ws t = Turned call (now x₀) (now x₁) n (g .cell) r logs ss vs ws t
+    Says vs ws t = IsTurn call (now x₀) (now x₁) n (g .cell) r logs ss vs ws t
 
     abbrev gives : Val → List ℕ → Item 𝓤
     gives u ws = some (λ (p : Turn × List ℕ). given (Says (p .1) ws (p .0) × (length (p .1) ≡ n₀)) (‵ (RU .own (p .0) (u ∷ [])) ⊛ (‵ (finally u32 (x₀ .name) (p .1)) ⊛ (‵ (flft κ₀ q₀) ⊛ ‵ (flft κ₁ q₁)))))
@@ -190,7 +190,7 @@ module _ {M : Type 1} (𝓤 : URA M) (H : Heap 𝓤) (A : Atoms 𝓤) (W : Given
         show ! (λ (p : Turn × List ℕ). mean 𝓤 H A (given (Says (p .1) (ws .1 .1 .1 .1 .1 .1 .1 .0) (p .0) × (length (p .1) ≡ n₀)) (‵ (RU .own (p .0) (u ∷ [])) ⊛ (‵ (finally u32 (x₀ .name) (p .1)) ⊛ (‵ (flft κ₀ q₀) ⊛ ‵ (flft κ₁ q₁)))))) (t, ws .1 .1 .1 .0) $ check ! (is, e₀) $ frame ! $ frame ! $ frame ! $ done !)))))
 
   -- ---- the end
-  exits : (g : Look) (r : Lock) → r ≡ lockIn ys (g .cell) → (t : Turn) (v : Val) → Is RU t (v ∷ []) → (vs : List ℕ) (zs : List Lock) (ws : List ℕ) → Turned call (now x₀) (now x₁) n (g .cell) r logs ss vs ws t
+  exits : (g : Look) (r : Lock) → r ≡ lockIn ys (g .cell) → (t : Turn) (v : Val) → Is RU t (v ∷ []) → (vs : List ℕ) (zs : List Lock) (ws : List ℕ) → IsTurn call (now x₀) (now x₁) n (g .cell) r logs ss vs ws t
       → length vs ≡ n₀ → length zs ≡ n → zs ≡ sweptBy ws (t .change) ys → length ws ≡ k
       → ent 𝓤 (⋆ 𝓤 H A (‵ (Locks zs) ∷ ‵ (flft κ₂ q₂) ∷ ‵ (Logs ws) ∷ ‵ (flft κ₃ q₃) ∷ ‵ (flft κ₀ q₀) ∷ ‵ (flft κ₁ q₁) ∷ ‵ (finally u32 (x₀ .name) vs) ∷ ‵ Classes ∷ [])) (Post (low-a (t .reply)))
   exits g r r-is t v p vs zs ws f len₀ len put len₃ =

@@ -44,16 +44,16 @@ use denote.Triple.Walked.{says, needs, Stays, stay-none, stay-slice, stay-none-s
 use denote.Exit.{yes}
 use Rattle.model.specs.declared.Lock.{Lock}
 use Rattle.lockrun.specs.declared.Change.{Change}
-use Rattle.lockrun.specs.Run.{turnsOf, cellOf, changedAt, swept, Fits}
-use Rattle.lockrun.proofs.Row.{R, RC, low-c, tells-c, makes-c, typed-c, known-of}
+use Rattle.lockrun.specs.Run.{countOf, cellOf, changedAt, swept, ChangeFits}
+use Rattle.lockrun.proofs.Row.{R, RC, low-c, tells-c, makes-c, typed-c, session-fits}
 use Rattle.lockrun.proofs.Leave.{full, bare, leave}
 use Rattle.lockrun.proofs.Short.{var, sets, relends}
 use Rattle.lockrun.proofs.Lent.{ref-at, lent}
 use Rattle.lockrun.proofs.Calls.{ChangeAt, ch-to, ch-gives, ch-goes, ch-gets}
-use Rattle.lockrun.proofs.turns as turns
-use Rattle.lockrun.proofs.turns.Symbol as turns-def
-use Rattle.lockrun.proofs.turns.Symbol.{name as #lockrun·turns}
-use Rattle.lockrun.proofs.turns.Met as turns-thm
+use Rattle.lockrun.proofs.count_of as count-of
+use Rattle.lockrun.proofs.count_of.Symbol as count-of-def
+use Rattle.lockrun.proofs.count_of.Symbol.{name as #lockrun·count-of}
+use Rattle.lockrun.proofs.count_of.Met as count-of-thm
 use Rattle.lockrun.proofs.cell_of as cell-of
 use Rattle.lockrun.proofs.cell_of.Symbol as cell-of-def
 use Rattle.lockrun.proofs.cell_of.Symbol.{name as #lockrun·cell-of}
@@ -118,11 +118,11 @@ abbrev stayed : Stays (sweep.ended .signature .params) (sweep.ended .kept)
 stayed = (stay-slice (0 ∷ []) tt (plain (λ _. R)), (stay-none-slice (0 ∷ []) tt (plain (λ _. u32)) yes, (stay-none (λ _. RC) yes, tt)))
 
 module _ {M : Type 1} (𝓤 : URA M) (H : Heap 𝓤) (A : Atoms 𝓤) (mem : Memory → SProp 𝓤) (run : Routine → Fun 𝓤) where
-  abbrev Turns : Contract 𝓤
-  Turns = tripleOf 𝓤 H A turns.signature (turns.spec 𝓤 H A mem run)
+  abbrev CountOf : Contract 𝓤
+  CountOf = tripleOf 𝓤 H A count-of.signature (count-of.spec 𝓤 H A mem run)
 
-  turns-says : (d : Change) (r : ℕ) → ent 𝓤 (ensured 𝓤 H A turns.ended (turns.clauses 𝓤 H A mem run) tt (d, tt) tt r) (fact 𝓤 (r ≡ turnsOf d))
-  turns-says d r = exE 𝓤 _ (λ ws. snd∗ 𝓤 (sem 𝓤 H A (lasts turns.ended tt (d, tt) ws)) (fact 𝓤 (r ≡ turnsOf d)))
+  count-says : (d : Change) (r : ℕ) → ent 𝓤 (ensured 𝓤 H A count-of.ended (count-of.clauses 𝓤 H A mem run) tt (d, tt) tt r) (fact 𝓤 (r ≡ countOf d))
+  count-says d r = exE 𝓤 _ (λ ws. snd∗ 𝓤 (sem 𝓤 H A (lasts count-of.ended tt (d, tt) ws)) (fact 𝓤 (r ≡ countOf d)))
 
   abbrev CellOf : Contract 𝓤
   CellOf = tripleOf 𝓤 H A cell-of.signature (cell-of.spec 𝓤 H A mem run)
@@ -132,7 +132,7 @@ module _ {M : Type 1} (𝓤 : URA M) (H : Heap 𝓤) (A : Atoms 𝓤) (mem : Mem
 
 module _ {M : Type 1} (𝓤 : URA M) (H : Heap 𝓤) (A : Atoms 𝓤) (W : Given 𝓤 H A) (mem : Memory → SProp 𝓤) (run : Routine → Fun 𝓤)
     (κ : Lft) (q : Share) (b o : ℕ) (γ : GName) (ys : List Lock) (b₂ o₂ : ℕ) (γ₂ : GName) (logs : List ℕ) (d : Change)
-    (room : Room R (length ys)) (room₂ : Room u32 (length logs)) (gd : Is RC d (low-c d ∷ [])) (ok : Fits logs d) where
+    (room : Room R (length ys)) (room₂ : Room u32 (length logs)) (gd : Is RC d (low-c d ∷ [])) (ok : ChangeFits logs d) where
   abbrev n : ℕ
   n = length ys
 
@@ -163,23 +163,23 @@ module _ {M : Type 1} (𝓤 : URA M) (H : Heap 𝓤) (A : Atoms 𝓤) (W : Given
   abbrev Logs : Fml
   Logs = ShrSlice (named 0) κ u32 .own (ref-at b₂ o₂ γ₂ logs) (s₂ ∷ [])
 
-  -- `turns`
-  abbrev to : Turns 𝓤 H A mem run .Ghost
+  -- `count_of`
+  abbrev to : CountOf 𝓤 H A mem run .Ghost
   to = ((tt, tt, tt, (d, tt), (m ∷ [], tt)), tt)
 
-  goes : ent 𝓤 (emp 𝓤) (Turns 𝓤 H A mem run .pre to)
+  goes : ent 𝓤 (emp 𝓤) (CountOf 𝓤 H A mem run .pre to)
   goes = qed W [] ∵ nothing ! $ owned ! RC (Is RC) (makes-c 𝓤 H A) d (m ∷ []) gd $ fjoin ! $ nothing ! $ join ! $ frame ! $ done !
 
-  -- `cell_of`, at turn i
+  -- `cell_of`, at i
   abbrev to-cell : ℕ → CellOf 𝓤 H A mem run .Ghost
   to-cell i = (((κ, tt), (q, tt), tt, (ref-at b₂ o₂ γ₂ logs, (d, (i, tt))), (s₂ ∷ [], (m ∷ [], (vint w64 i ∷ [], tt)))), tt)
 
-  goes-cell : (i : ℕ) → i < 2 ^ 64 → i < turnsOf d → ent 𝓤 (⋆ 𝓤 H A (‵ Logs ∷ ‵ (flft κ q) ∷ [])) (CellOf 𝓤 H A mem run .pre (to-cell i))
+  goes-cell : (i : ℕ) → i < 2 ^ 64 → i < countOf d → ent 𝓤 (⋆ 𝓤 H A (‵ Logs ∷ ‵ (flft κ q) ∷ [])) (CellOf 𝓤 H A mem run .pre (to-cell i))
   goes-cell i gi less =
       qed W (‵ Logs ∷ ‵ (flft κ q) ∷ []) ∵ says ! (ok, less) $ nothing ! $ move ! (2 ∷ 0 ∷ []) $ join ! $ frame ! $
       nothing ! $ owned ! usize (Is usize) (uint-makes 𝓤 H A W w64) i _ (refl, gi) $ fjoin ! $ owned ! RC (Is RC) (makes-c 𝓤 H A) d (m ∷ []) gd $ fjoin ! $ move ! (1 ∷ 0 ∷ []) $ fjoin ! $ done !
 
-  exits : (zs : List Lock) → length zs ≡ n → zs ≡ swept logs d (turnsOf d) ys → ent 𝓤 (⋆ 𝓤 H A (‵ (Locks zs) ∷ ‵ (flft κ q) ∷ ‵ Logs ∷ [])) (Post vunit)
+  exits : (zs : List Lock) → length zs ≡ n → zs ≡ swept logs d (countOf d) ys → ent 𝓤 (⋆ 𝓤 H A (‵ (Locks zs) ∷ ‵ (flft κ q) ∷ ‵ Logs ∷ [])) (Post vunit)
   exits zs len is =
       qed W (‵ (Locks zs) ∷ ‵ (flft κ q) ∷ ‵ Logs ∷ []) ∵
       suffices ! _ (ends-at 𝓤 H A sweep.ended stayed (sweep.clauses 𝓤 H A mem run) W (((κ, tt), (q, tt), tt, a, at), tt) vunit tt (zs, (tt, (tt, tt))) (len, (tt, (tt, tt)))) $ says ! is $
@@ -187,7 +187,7 @@ module _ {M : Type 1} (𝓤 : URA M) (H : Heap 𝓤) (A : Atoms 𝓤) (W : Given
       nothing ! $ owned ! RC (Is RC) (makes-c 𝓤 H A) d (m ∷ []) gd $ fjoin ! $ move ! (2 ∷ 0 ∷ []) $ fjoin ! $ move ! (1 ∷ 0 ∷ []) $ fjoin ! $
       feqI ! (List Val) (vunit ∷ []) (vunit ∷ []) refl $ move ! (1 ∷ 0 ∷ []) $ done !
 
-  module _ (t : ℕ) (t-is : t ≡ turnsOf d) (gt : t < 2 ^ 64) where
+  module _ (t : ℕ) (t-is : t ≡ countOf d) (gt : t < 2 ^ 64) where
     record State : Type 0 where
       pub i : ℕ
       pub zs : List Lock
@@ -225,15 +225,15 @@ module _ {M : Type 1} (𝓤 : URA M) (H : Heap 𝓤) (A : Atoms 𝓤) (W : Given
           ∷ ‵ (froom word l₆ 0) ∷ ‵ (fdies word l₆) ∷ ‵ (fat fullShare word l₅ 0 (vint w64 (u .i))) ∷ ‵ (fdies word l₅) ∷ ‵ (fat fullShare word l₄ 0 (vint w64 t)) ∷ ‵ (fdies word l₄) ∷ ‵ (fat fullShare change l₃ 0 m) ∷ ‵ (fdies change l₃)
           ∷ ‵ (fat fullShare slice₂ l₂ 0 s₂) ∷ ‵ (fdies slice₂ l₂) ∷ ‵ (fat fullShare slice l₁ 0 s) ∷ ‵ (fdies slice l₁) ∷ ‵ (froom tyUnit l₀ 0) ∷ ‵ (fdies tyUnit l₀) ∷ []
 
-      abbrev Turned : State → Out → SProp 𝓤
-      Turned u = afterTurn 𝓤 H (Below 𝓤 H A Nearer At u) (afterBlock 𝓤 H (afterSeq 𝓤 H (Wp 𝓤 H C Λ En pieces.t-4 (atReturn 𝓤 H En Post)) (atReturn 𝓤 H En Post)))
+      abbrev IsTurn : State → Out → SProp 𝓤
+      IsTurn u = afterTurn 𝓤 H (Below 𝓤 H A Nearer At u) (afterBlock 𝓤 H (afterSeq 𝓤 H (Wp 𝓤 H C Λ En pieces.t-4 (atReturn 𝓤 H En Post)) (atReturn 𝓤 H En Post)))
 
-      turn : (u : State) → Sq W (At u) (runs C Λ En pieces.turn-1 (anyQ (Turned u)))
+      turn : (u : State) → Sq W (At u) (runs C Λ En pieces.turn-1 (anyQ (IsTurn u)))
       unfolding afterTurn
       turn u =
           sets ! (bin ! (var ! 13 refl) (var ! 15 refl) tt) 9 refl (tt, tt) $
           first ! $ branches ! (var ! 9 refl)
-          (λ less. let l = ltb→lt (u .i) t less in skips ! $ exec ! C Λ En more (anyQ (Turned u)) $
+          (λ less. let l = ltb→lt (u .i) t less in skips ! $ exec ! C Λ En more (anyQ (IsTurn u)) $
           -- logs is Copy: one copy of what it owns goes to `cell_of`, with the token
           move ! (2 ∷ []) $ use1 W (‵ Logs ⊛ ‵ Logs) (shr-slice-copy 𝓤 H A W (named 0) κ u32 .twice (ref-at b₂ o₂ γ₂ logs) (s₂ ∷ [])) $ split ! $ move ! (0 ∷ 3 ∷ []) $
           use2 W (raw (CellOf 𝓤 H A mem run .pre (to-cell (u .i)))) (goes-cell (u .i) (fits-below (u .i) t l gt) (subst (λ (k : ℕ). u .i < k) t-is l)) $
@@ -245,8 +245,8 @@ module _ {M : Type 1} (𝓤 : URA M) (H : Heap 𝓤) (A : Atoms 𝓤) (W : Given
           -- [the token; true; logs; locks; _10 at 4; …]
           rewrite ! 12 (λ (v : Val). ‵ (fat fullShare word l₆ 0 v)) (ap only (pr .0)) refl $ move ! (3 ∷ 0 ∷ 1 ∷ []) $
           relends ! 22 refl refl 6 refl (tt, tt) refl refl 4 refl (tt, (tt, (record { fits = room .0 }, tt))) $
-          lent ! (fmOf 𝓤 H (W .laws) 𝓣) (ChangeAt 𝓤 H A mem run) known R κ q b o n γ (u .zs) (u .len) room (ch-gives 𝓤 H A mem run W b o n (u .zs) r (pr .1) d gd (known-of logs d ok)) (ch-to 𝓤 H A mem run W b o n (u .zs) r (pr .1) d gd (known-of logs d ok))
-          (ch-goes 𝓤 H A mem run W b o n (u .zs) r (pr .1) d gd (known-of logs d ok)) (ch-gets 𝓤 H A mem run W b o n (u .zs) r (pr .1) d gd (known-of logs d ok) (u .len))
+          lent ! (fmOf 𝓤 H (W .laws) 𝓣) (ChangeAt 𝓤 H A mem run) known R κ q b o n γ (u .zs) (u .len) room (ch-gives 𝓤 H A mem run W b o n (u .zs) r (pr .1) d gd (session-fits logs d ok)) (ch-to 𝓤 H A mem run W b o n (u .zs) r (pr .1) d gd (session-fits logs d ok))
+          (ch-goes 𝓤 H A mem run W b o n (u .zs) r (pr .1) d gd (session-fits logs d ok)) (ch-gets 𝓤 H A mem run W b o n (u .zs) r (pr .1) d gd (session-fits logs d ok) (u .len))
           -- under the two entries that the step puts in front: [·; ·; logs; _10 at 3; …]
           (λ ν δ i j. and-then ! (var ! 3 refl) (and-then ! (var ! 11 refl) (and-then ! (var ! 17 refl) (no-more !)))) (λ v zs len. move ! (2 ∷ []) $ learn ! (λ z-is. peeks ! unit (Is unit) (shows 𝓤 H A unit) tt (v ∷ []) (λ pu.
           land ! (from ! (stop !)) (init ! 8 refl (nothing-lawful 𝓤 H A W .typed tt (v ∷ []) pu .0)) $ drop ! $
@@ -258,19 +258,19 @@ module _ {M : Type 1} (𝓤 : URA M) (H : Heap 𝓤) (A : Atoms 𝓤) (W : Given
           returns ! (look ! 23 refl) $ leave ! 3 (full _ ∷ full _ ∷ full _ ∷ full _ ∷ full _ ∷ full _ ∷ bare ∷ full _ ∷ []) refl $
           by ! (exits (u .zs) (u .len) (u .is ∙ ap (λ (k : ℕ). swept logs d k ys) (le-antisymm (u .upto) (nltb→le (u .i) t over) ∙ t-is))))
 
-  walk : (𝓣 : Tables 𝓤 H) → Triple 𝓤 (𝓣 .C #lockrun·turns) (Turns 𝓤 H A mem run) → Triple 𝓤 (𝓣 .C #lockrun·cell-of) (CellOf 𝓤 H A mem run) → Triple 𝓤 (𝓣 .C #lockrun·change-at) (ChangeAt 𝓤 H A mem run)
+  walk : (𝓣 : Tables 𝓤 H) → Triple 𝓤 (𝓣 .C #lockrun·count-of) (CountOf 𝓤 H A mem run) → Triple 𝓤 (𝓣 .C #lockrun·cell-of) (CellOf 𝓤 H A mem run) → Triple 𝓤 (𝓣 .C #lockrun·change-at) (ChangeAt 𝓤 H A mem run)
       → ent 𝓤 (onEntry 𝓤 H A sweep.signature (κ, tt) (q, tt) a at) (WpFn 𝓤 H (𝓣 .C) (𝓣 .Λ) code.function (s ∷ s₂ ∷ m ∷ []) Post)
   unfolding swept
-  walk 𝓣 known-turns known-cell known =
+  walk 𝓣 known-count known-cell known =
       qed W ((‵ (flft κ q) ⊛ ‵ ftrue) ∷ ‵ (owns (MutSlice (named 0) κ R ∷ ShrSlice (named 0) κ u32 ∷ RC ∷ []) a at) ∷ []) ∵ enter ! (𝓣 .C) (𝓣 .Λ) code.function (s ∷ s₂ ∷ m ∷ []) _ $
       alloc1 ! (λ l₀. alloc1 ! (λ l₁. alloc1 ! (λ l₂. alloc1 ! (λ l₃. alloc1 ! (λ l₄. alloc1 ! (λ l₅. alloc1 ! (λ l₆. alloc1 ! (λ l₇. alloc1 ! (λ l₈. alloc1 ! (λ l₉. alloc1 ! (λ l₁₀. alloc0 ! $ params1 ! $
       pass1 ! (init ! 18 refl (tt, (tt, (record { fits = room .0 }, tt)))) $ pass1 ! (init ! 16 refl (tt, (tt, (record { fits = room₂ .0 }, tt)))) $ pass1 ! (init ! 14 refl (typed-c 𝓤 H A W d m gd)) $ pass0 ! $
       move ! (23 ∷ []) $ fsplit ! $ move ! (1 ∷ []) $ fsplit ! $ move ! (25 ∷ []) $ split ! $ move ! (4 ∷ 0 ∷ 2 ∷ []) $
       -- [locks; the token; logs; true; change's; _10 at 5; …; _0 at 25; …]
-      use0 W (raw (Turns 𝓤 H A mem run .pre to)) goes $
-      calls-at ! (fmOf 𝓤 H (W .laws) 𝓣) (Turns 𝓤 H A mem run) known-turns to (and-then ! (var ! 20 refl) (no-more !)) (λ w.
-      use1 W (later (some (λ (r : ℕ). (‵ ftrue ⊛ ‵ (usize .own r (w ∷ []))) ⊛ raw (ensured 𝓤 H A turns.ended (turns.clauses 𝓤 H A mem run) tt (d, tt) tt r)))) (id⊢ 𝓤 _) $ await ! tt $ pick ! (λ t.
-      split ! $ move ! (1 ∷ []) $ use1 W (raw (fact 𝓤 (t ≡ turnsOf d))) (turns-says 𝓤 H A mem run d t) $ heard ! (t ≡ turnsOf d) (λ t-is. split ! $ drop ! $
+      use0 W (raw (CountOf 𝓤 H A mem run .pre to)) goes $
+      calls-at ! (fmOf 𝓤 H (W .laws) 𝓣) (CountOf 𝓤 H A mem run) known-count to (and-then ! (var ! 20 refl) (no-more !)) (λ w.
+      use1 W (later (some (λ (r : ℕ). (‵ ftrue ⊛ ‵ (usize .own r (w ∷ []))) ⊛ raw (ensured 𝓤 H A count-of.ended (count-of.clauses 𝓤 H A mem run) tt (d, tt) tt r)))) (id⊢ 𝓤 _) $ await ! tt $ pick ! (λ t.
+      split ! $ move ! (1 ∷ []) $ use1 W (raw (fact 𝓤 (t ≡ countOf d))) (count-says 𝓤 H A mem run d t) $ heard ! (t ≡ countOf d) (λ t-is. split ! $ drop ! $
       peeks ! usize (Is usize) (shows 𝓤 H A usize) t (w ∷ []) (λ pt. land ! (from ! (stop !)) (init ! 18 refl (uint-lawful 𝓤 H A W w64 .typed t _ pt .0)) $ drop ! $
       rewrite ! 17 (λ (v : Val). ‵ (fat fullShare word l₄ 0 v)) (ap only (pt .0)) refl $
       sets ! (of-opd ! (lit ! tt)) 15 refl (tt, record { fits = lit< tt }) $
@@ -279,12 +279,12 @@ module _ {M : Type 1} (𝓤 : URA M) (H : Heap 𝓤) (A : Atoms 𝓤) (W : Given
       (record { i = 0; zs = ys; upto = zero-le; len = refl; is = refl }))))))))))))))))
 
 module _ {M : Type 1} (𝓤 : URA M) (H : Heap 𝓤) (A : Atoms 𝓤) (W : Given 𝓤 H A) (mem : Memory → SProp 𝓤) (run : Routine → Fun 𝓤) (𝓣 : Tables 𝓤 H)
-    (known-turns : Triple 𝓤 (𝓣 .C #lockrun·turns) (Turns 𝓤 H A mem run)) (known-cell : Triple 𝓤 (𝓣 .C #lockrun·cell-of) (CellOf 𝓤 H A mem run)) (known : Triple 𝓤 (𝓣 .C #lockrun·change-at) (ChangeAt 𝓤 H A mem run)) where
+    (known-count : Triple 𝓤 (𝓣 .C #lockrun·count-of) (CountOf 𝓤 H A mem run)) (known-cell : Triple 𝓤 (𝓣 .C #lockrun·cell-of) (CellOf 𝓤 H A mem run)) (known : Triple 𝓤 (𝓣 .C #lockrun·change-at) (ChangeAt 𝓤 H A mem run)) where
   walks : Walks 𝓤 H A sweep.ended stayed (WpFn 𝓤 H (𝓣 .C) (𝓣 .Λ) code.function) (sweep.clauses 𝓤 H A mem run)
   walks = walked 𝓤 H A sweep.ended stayed (sweep.clauses 𝓤 H A mem run) (WpFn 𝓤 H (𝓣 .C) (𝓣 .Λ) code.function) (λ κs. (slice-vals, (slice-vals, (λ (k : Change). low-c k ∷ [], tt))))
       (λ κs. (mut-slice-tells (named 0) (κs .0) R, (shr-slice-tells (named 0) (κs .0) u32, (tells-c, tt))))
       (λ κs qs bounds a g are. needs 𝓤 _ _ (λ ok.
-      walk 𝓤 H A W mem run (κs .0) (qs .0) (a .0 .ptr .0) (a .0 .ptr .1) (a .0 .name) (a .0 .now) (a .1 .0 .ptr .0) (a .1 .0 .ptr .1) (a .1 .0 .name) (a .1 .0 .now) (a .1 .1 .0) (are .0 .0 .1) (are .1 .0 .0 .1) (are .1 .1 .0) ok 𝓣 known-turns known-cell known))
+      walk 𝓤 H A W mem run (κs .0) (qs .0) (a .0 .ptr .0) (a .0 .ptr .1) (a .0 .name) (a .0 .now) (a .1 .0 .ptr .0) (a .1 .0 .ptr .1) (a .1 .0 .name) (a .1 .0 .now) (a .1 .1 .0) (are .0 .0 .1) (are .1 .0 .0 .1) (are .1 .1 .0) ok 𝓣 known-count known-cell known))
 
   meets : Meets 𝓤 H A sweep.signature (WpFn 𝓤 H (𝓣 .C) (𝓣 .Λ) code.function) (sweep.spec 𝓤 H A mem run)
   meets = walk-meets 𝓤 H A sweep.ended stayed W (goes-slice 𝓤 H A W 1 0 tt (plain (λ _. R)), (goes-none-slice 𝓤 H A W 1 (0 ∷ []) tt (plain (λ _. u32)) yes, (goes-none 𝓤 H A W 1 (λ _. RC) yes (λ κs x f. refl), tt)))
@@ -296,6 +296,6 @@ sweep-spec 𝓤 H 𝓜 𝓖 𝓡 =
     entered 𝓤 H (tripleOf 𝓤 H (𝓖 .A) sweep.signature (sweep.spec 𝓤 H (𝓖 .A) (𝓜 .mem) (𝓡 .run)))
     (tables 𝓤 H 𝓜 𝓡 code.env .C) (tables 𝓤 H 𝓜 𝓡 code.env .Λ) #lockrun·sweep code.function (code.unfolded 𝓤 H 𝓜 𝓡)
     (meets 𝓤 H (𝓖 .A) (givenOf 𝓤 H 𝓜 𝓖) (𝓜 .mem) (𝓡 .run) (tablesOf 𝓤 H 𝓜 (tables 𝓤 H 𝓜 𝓡 code.env))
-    (cited 𝓤 H (Turns 𝓤 H (𝓖 .A) (𝓜 .mem) (𝓡 .run)) 𝓜 𝓡 code.env #lockrun·turns turns-def.routine code.calls-lockrun·turns (turns-thm.met 𝓤 H 𝓜 𝓖 𝓡))
+    (cited 𝓤 H (CountOf 𝓤 H (𝓖 .A) (𝓜 .mem) (𝓡 .run)) 𝓜 𝓡 code.env #lockrun·count-of count-of-def.routine code.calls-lockrun·count-of (count-of-thm.met 𝓤 H 𝓜 𝓖 𝓡))
     (cited 𝓤 H (CellOf 𝓤 H (𝓖 .A) (𝓜 .mem) (𝓡 .run)) 𝓜 𝓡 code.env #lockrun·cell-of cell-of-def.routine code.calls-lockrun·cell-of (cell-of-thm.met 𝓤 H 𝓜 𝓖 𝓡))
     (cited 𝓤 H (ChangeAt 𝓤 H (𝓖 .A) (𝓜 .mem) (𝓡 .run)) 𝓜 𝓡 code.env #lockrun·change-at change-at-def.routine code.calls-lockrun·change-at (change-at-thm.met 𝓤 H 𝓜 𝓖 𝓡)))

@@ -1,4 +1,4 @@
--- `lockrun::unwritten_cell` meets its contract: the cell's first entry in the session's part says whether the cell is written.
+-- `lockrun::unwritten_cell` meets its contract: the cell's first entry in the session's log says whether the cell is written.
 use Rattle.lockrun.proofs.Cells.{written-cell, unwritten, first-there}
 use Rattle.store.proofs.Parts.{part-long}
 use native.Mathlib.Omega.{arith}

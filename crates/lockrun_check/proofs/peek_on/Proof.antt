@@ -36,11 +36,10 @@ use denote.Triple.Statement.{Contract, Triple}
 use denote.Triple.Table.{entered, cited}
 use denote.Triple.Walked.{says, Stays, stay-none, stay-none-slice, walkOf, goes-none, goes-none-slice, Walks, ends-at, walked, walk-meets}
 use denote.Exit.{yes}
-use Rattle.model.specs.Step.{planOf, shown}
+use Rattle.model.specs.Step.{peekShows}
 use Rattle.model.specs.declared.Lock.{Lock}
 use Rattle.model.specs.declared.Sessions.{Sessions}
-use Rattle.model.specs.declared.Call.the-variants.{Peek}
-use Rattle.store.specs.Lent.{Handed}
+use Rattle.store.specs.Lent.{IsPart}
 use Rattle.lockrun.specs.Run.{storeOn}
 use Rattle.lockrun.proofs.Row.{R, vals, tells, RS, low-s, tells-s, makes-s, typed-s}
 use Rattle.lockrun.proofs.Leave.{full, leave}
@@ -82,11 +81,11 @@ module _ {M : Type 1} (𝓤 : URA M) (H : Heap 𝓤) (A : Atoms 𝓤) (W : Given
   Post = walkOf 𝓤 H A peek-on.ended stayed (peek-on.clauses 𝓤 H A mem run) .post (((κ₀, (κ₁, tt)), (q₀, (q₁, tt)), tt, a, at), tt)
 
   -- what each slice owns
-  abbrev Figs : Fml
-  Figs = ShrSlice (named 0) κ₀ u32 .own x₀ (slice-vals x₀)
+  abbrev Values : Fml
+  Values = ShrSlice (named 0) κ₀ u32 .own x₀ (slice-vals x₀)
 
-  abbrev Kinds : Fml
-  Kinds = ShrSlice (named 0) κ₁ u8 .own x₁ (slice-vals x₁)
+  abbrev Classes : Fml
+  Classes = ShrSlice (named 0) κ₁ u8 .own x₁ (slice-vals x₁)
 
   abbrev Logs : Fml
   Logs = ShrSlice (named 0) κ₀ u32 .own x₂ (slice-vals x₂)
@@ -96,13 +95,13 @@ module _ {M : Type 1} (𝓤 : URA M) (H : Heap 𝓤) (A : Atoms 𝓤) (W : Given
   Part r v = ShrSlice (named 0) κ₀ u32 .own r (v ∷ [])
 
   abbrev Says : RefT (List ℕ) → Type 0
-  Says r = Handed x₀ x₂ (shown s (planOf (Peek s c) (storeOn (now x₀) (now x₁) ys (now x₂) ss))) r
+  Says r = IsPart x₀ x₂ (peekShows s c (storeOn (now x₀) (now x₁) ys (now x₂) ss)) r
 
   abbrev gives : Val → Item 𝓤
   gives v = some (λ (r : RefT (List ℕ)). given (Says r) (‵ (Part r v) ⊛ (‵ (flft κ₀ q₀) ⊛ ‵ (flft κ₁ q₁))))
 
   abbrev Asks : Item 𝓤
-  Asks = ‵ Figs ⊛ (‵ Kinds ⊛ (‵ Logs ⊛ (‵ (flft κ₀ q₀) ⊛ ‵ (flft κ₁ q₁))))
+  Asks = ‵ Values ⊛ (‵ Classes ⊛ (‵ Logs ⊛ (‵ (flft κ₀ q₀) ⊛ ‵ (flft κ₁ q₁))))
 
   -- ---- `lockrun::peek`, lent the local at (b, 0)
   module _ (b : ℕ) where
@@ -130,9 +129,9 @@ module _ {M : Type 1} (𝓤 : URA M) (H : Heap 𝓤) (A : Atoms 𝓤) (W : Given
         use1 W (raw (fact 𝓤 (Says r))) (hears ν δ r) $ heard ! (Says r) (λ f. split ! $ split ! $ move ! (1 ∷ []) $ split ! $ move ! (1 ∷ []) $ split ! $
         keep ! (0 ∷ 4 ∷ 3 ∷ 2 ∷ []) $ at-once ! $ frame ! $ show ! (λ (r′ : RefT (List ℕ)). mean 𝓤 H A (given (Says r′) (‵ (Part r′ v) ⊛ (‵ (flft κ₀ q₀) ⊛ ‵ (flft κ₁ q₁))))) r $ check ! f $ frame ! $ frame ! $ done !))
 
-  exits : (r : RefT (List ℕ)) (v : Val) → Says r → ent 𝓤 (⋆ 𝓤 H A (‵ (Part r v) ∷ (‵ (flft κ₀ q₀) ⊛ ‵ (flft κ₁ q₁)) ∷ ‵ Figs ∷ ‵ Kinds ∷ ‵ Logs ∷ [])) (Post v)
+  exits : (r : RefT (List ℕ)) (v : Val) → Says r → ent 𝓤 (⋆ 𝓤 H A (‵ (Part r v) ∷ (‵ (flft κ₀ q₀) ⊛ ‵ (flft κ₁ q₁)) ∷ ‵ Values ∷ ‵ Classes ∷ ‵ Logs ∷ [])) (Post v)
   exits r v f =
-      qed W (‵ (Part r v) ∷ (‵ (flft κ₀ q₀) ⊛ ‵ (flft κ₁ q₁)) ∷ ‵ Figs ∷ ‵ Kinds ∷ ‵ Logs ∷ []) ∵
+      qed W (‵ (Part r v) ∷ (‵ (flft κ₀ q₀) ⊛ ‵ (flft κ₁ q₁)) ∷ ‵ Values ∷ ‵ Classes ∷ ‵ Logs ∷ []) ∵
       suffices ! _ (ends-at 𝓤 H A peek-on.ended stayed (peek-on.clauses 𝓤 H A mem run) W (((κ₀, (κ₁, tt)), (q₀, (q₁, tt)), tt, a, at), tt) v r (tt, (tt, (tt, (tt, (tt, (tt, (tt, tt))))))) (tt, (tt, (tt, (tt, (tt, (tt, (tt, tt)))))))) $ says ! f $
       move ! (1 ∷ []) $ split ! $ nothing ! $ move ! (2 ∷ 0 ∷ []) $ join ! $ move ! (1 ∷ 0 ∷ []) $ join ! $ frame ! $
       -- [the part; values; classes; logs]
@@ -155,8 +154,8 @@ module _ {M : Type 1} (𝓤 : URA M) (H : Heap 𝓤) (A : Atoms 𝓤) (W : Given
         sets ! (agg ! (and-then ! (var ! 7 refl) (and-then ! (lit ! tt) (no-more !)))) 5 refl (tt, (tt, (record { fits = room .0 }, tt))) $
         -- what is Copy is copied, and one copy goes to `lockrun::peek`
         move ! (2 ∷ []) $ use1 W (‵ Logs ⊛ ‵ Logs) (shr-slice-copy 𝓤 H A W (named 0) κ₀ u32 .twice x₂ (slice-vals x₂)) $ split ! $
-        move ! (4 ∷ []) $ use1 W (‵ Kinds ⊛ ‵ Kinds) (shr-slice-copy 𝓤 H A W (named 0) κ₁ u8 .twice x₁ (slice-vals x₁)) $ split ! $
-        move ! (6 ∷ []) $ use1 W (‵ Figs ⊛ ‵ Figs) (shr-slice-copy 𝓤 H A W (named 0) κ₀ u32 .twice x₀ (slice-vals x₀)) $ split ! $ move ! (0 ∷ 2 ∷ 4 ∷ 7 ∷ 6 ∷ []) $ group ! 5 $
+        move ! (4 ∷ []) $ use1 W (‵ Classes ⊛ ‵ Classes) (shr-slice-copy 𝓤 H A W (named 0) κ₁ u8 .twice x₁ (slice-vals x₁)) $ split ! $
+        move ! (6 ∷ []) $ use1 W (‵ Values ⊛ ‵ Values) (shr-slice-copy 𝓤 H A W (named 0) κ₀ u32 .twice x₀ (slice-vals x₀)) $ split ! $ move ! (0 ∷ 2 ∷ 4 ∷ 7 ∷ 6 ∷ []) $ group ! 5 $
         owned ! (Array R 8) (Is (Array R 8)) (makes-run 𝓤 H A W) ys (v₀ ∷ []) gr $ move ! (9 ∷ 0 ∷ 1 ∷ []) $
         -- [the local; what the array owns; what else is asked; values; classes; logs; _10 at 6; …]
         lent-array-shared ! fm (PeekRun 𝓤 H A mem run) known R tt vals tells 8 l₈ 0 ys v₀ room gives (to l₈) (goes l₈) (gets l₈)

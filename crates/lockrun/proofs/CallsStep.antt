@@ -32,8 +32,8 @@ use Rattle.lockrun.proofs.Borrows.{Borrows, κsOf, qsOf, Sound, Classes
 use Rattle.lockrun.proofs.step as step
 
 -- a reply, and the last lists of values, run and logs
-abbrev pub Left : Type 0
-Left = Reply × (List ℕ × (List Lock × List ℕ))
+abbrev pub Final : Type 0
+Final = Reply × (List ℕ × (List Lock × List ℕ))
 
 -- a call, with its machine value
 pub record Called : Type 0 where
@@ -49,12 +49,12 @@ module _ {M : Type 1} (𝓤 : URA M) (H : Heap 𝓤) (A : Atoms 𝓤) (mem : Mem
     abbrev pub st-to : Step .Ghost
     st-to = ((κsOf b, qsOf b, tt, (c .call, (b .ss, (b .x₀, (b .x₁, (b .x, (b .x₃, tt)))))), (c .val ∷ [], (low-s (b .ss) ∷ [], (slice-vals (b .x₀), (slice-vals (b .x₁), (slice-vals (b .x), (slice-vals (b .x₃), tt))))))), tt)
 
-    abbrev pub Said : Left → Type 0
-    Said p = (outcome (p .0 .answer) (storeOn (p .1 .0) (now (b .x₁)) (p .1 .1 .0) (p .1 .1 .1) (p .0 .sessions)) ≡ effect (c .call) (storeOn (now (b .x₀)) (now (b .x₁)) (now (b .x)) (now (b .x₃)) (b .ss)))
+    abbrev pub Says : Final → Type 0
+    Says p = (outcome (p .0 .answer) (storeOn (p .1 .0) (now (b .x₁)) (p .1 .1 .0) (p .1 .1 .1) (p .0 .sessions)) ≡ effect (c .call) (storeOn (now (b .x₀)) (now (b .x₁)) (now (b .x)) (now (b .x₃)) (b .ss)))
         × ((length (p .1 .0) ≡ length (now (b .x₀))) × ((length (p .1 .1 .0) ≡ length (now (b .x))) × (length (p .1 .1 .1) ≡ length (now (b .x₃)))))
 
     abbrev pub st-gives : Val → Item 𝓤
-    st-gives v = some (λ (p : Left). given (Said p) (‵ (RA .own (p .0) (v ∷ [])) ⊛ (Tokens 𝓤 b ⊛ (‵ (finally u32 (b .x₀ .name) (p .1 .0)) ⊛ (‵ (finally R (b .x .name) (p .1 .1 .0)) ⊛ ‵ (finally u32 (b .x₃ .name) (p .1 .1 .1)))))))
+    st-gives v = some (λ (p : Final). given (Says p) (‵ (RA .own (p .0) (v ∷ [])) ⊛ (Tokens 𝓤 b ⊛ (‵ (finally u32 (b .x₀ .name) (p .1 .0)) ⊛ (‵ (finally R (b .x .name) (p .1 .1 .0)) ⊛ ‵ (finally u32 (b .x₃ .name) (p .1 .1 .1)))))))
 
     pub st-goes : ent 𝓤 (⋆ 𝓤 H A (‵ (MutSlice (named 0) (b .κ₀) u32 .own (b .x₀) (slice-vals (b .x₀))) ∷ ‵ (Classes b) ∷ ‵ (MutSlice (named 0) (b .κ₂) R .own (b .x) (slice-vals (b .x))) ∷ ‵ (MutSlice (named 0) (b .κ₃) u32 .own (b .x₃) (slice-vals (b .x₃))) ∷ Tokens 𝓤 b ∷ [])) (Step .pre st-to)
     st-goes =
@@ -72,5 +72,5 @@ module _ {M : Type 1} (𝓤 : URA M) (H : Heap 𝓤) (A : Atoms 𝓤) (mem : Mem
         fsplit ! $ drop ! $ fsplit ! $ drop ! $ fsplit ! $ fsplit ! $ move ! (1 ∷ []) $ feqL ! (λ e₀. move ! (1 ∷ []) $ fsplit ! $ drop ! $ fsplit ! $ fsplit ! $ move ! (1 ∷ []) $ feqL ! (λ e. move ! (1 ∷ []) $ fsplit ! $ fsplit ! $ move ! (1 ∷ []) $ feqL ! (λ e₃.
         -- [what says logs' last list; true; what says locks'; what says values'; the tokens and the reply]
         move ! (4 ∷ []) $ split ! $ keep ! (1 ∷ 0 ∷ 5 ∷ 4 ∷ 2 ∷ []) $ at-once ! $
-        show ! (λ (p : Left). mean 𝓤 H A (given (Said p) (‵ (RA .own (p .0) (v ∷ [])) ⊛ (Tokens 𝓤 b ⊛ (‵ (finally u32 (b .x₀ .name) (p .1 .0)) ⊛ (‵ (finally R (b .x .name) (p .1 .1 .0)) ⊛ ‵ (finally u32 (b .x₃ .name) (p .1 .1 .1)))))))) (r, (ws .1 .1 .0, (ws .1 .1 .1 .1 .0, ws .1 .1 .1 .1 .1 .0))) $
+        show ! (λ (p : Final). mean 𝓤 H A (given (Says p) (‵ (RA .own (p .0) (v ∷ [])) ⊛ (Tokens 𝓤 b ⊛ (‵ (finally u32 (b .x₀ .name) (p .1 .0)) ⊛ (‵ (finally R (b .x .name) (p .1 .1 .0)) ⊛ ‵ (finally u32 (b .x₃ .name) (p .1 .1 .1)))))))) (r, (ws .1 .1 .0, (ws .1 .1 .1 .1 .0, ws .1 .1 .1 .1 .1 .0))) $
         check ! (is, (e₀, (e, e₃))) $ frame ! $ frame ! $ frame ! $ frame ! $ done !))))))

@@ -1,43 +1,43 @@
--- `lockrun::turns` meets its contract: one arm for each change.
-use Rattle.lockrun.specs.Run.{turnsOf}
+-- `lockrun::count_of` meets its contract: one arm for each change.
+use Rattle.lockrun.specs.Run.{countOf}
 use borrow.Author.Needs.{needs}
-use Rattle.lockrun.proofs.turns.Statement.{statement}
-use Rattle.lockrun.proofs.turns.Tie as tie
+use Rattle.lockrun.proofs.count_of.Statement.{statement}
+use Rattle.lockrun.proofs.count_of.Tie as tie
 
 returns : tie.Need-returns
-unfolding turnsOf
+unfolding countOf
 returns c = search needs
 
 returns-2 : tie.Need-returns-2
-unfolding turnsOf
+unfolding countOf
 returns-2 c = search needs
 
 returns-3 : tie.Need-returns-3
-unfolding turnsOf
+unfolding countOf
 returns-3 c = search needs
 
 returns-4 : tie.Need-returns-4
-unfolding turnsOf
+unfolding countOf
 returns-4 c = search needs
 
 returns-5 : tie.Need-returns-5
-unfolding turnsOf
+unfolding countOf
 returns-5 c = search needs
 
 returns-6 : tie.Need-returns-6
-unfolding turnsOf
+unfolding countOf
 returns-6 c = search needs
 
 returns-7 : tie.Need-returns-7
-unfolding turnsOf
+unfolding countOf
 returns-7 c = search needs
 
 returns-8 : tie.Need-returns-8
-unfolding turnsOf
+unfolding countOf
 returns-8 c = search needs
 
-pub turns-spec : {M : Type 1} → statement M
-turns-spec =
+pub count-of-spec : {M : Type 1} → statement M
+count-of-spec =
     tie.close
     (tie.spec
     (λ c. search needs) (λ c. search needs) (λ c. search needs) (λ c. search needs) (λ c. search needs) (λ c. search needs) (λ c. search needs)
