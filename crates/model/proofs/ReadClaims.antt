@@ -8,7 +8,7 @@ use mathlib.Core.List.{List, [], _∷_}
 use lib.Dec.{leb, eqb}
 use lib.ListN.{getD}
 use borrow.Author.Tests.{eqb-true, eqb-false, leb-true, ltb-true}
-use Rattle.model.specs.declared.Call.the-variants.{Begin, Read, Write, Seal, Advance}
+use Rattle.model.specs.declared.Call.the-variants.{Begin, Read, Write, Seal, Advance, Abandon}
 use Rattle.model.specs.declared.Answer.the-variants.{Done, Value, Moved, Waiting, Refused}
 use Rattle.model.specs.Caps.{GotWithin, WithinCaps}
 use Rattle.model.specs.Computing.{computing, counting}
@@ -139,6 +139,11 @@ pub commit-unclaimed : HoldsAtCommit toldSealed (midway 3 4 16 1) (Advance 1 ∷
 unfolding midway toldSealed firsts computing counting
 commit-unclaimed h = eqb-false 16 1 refl (h .withThis (name 0 1) refl 0 refl .0)
 
+-- the lock held later, when the same session runs again, does not count
+pub claimed-after-commit : HoldsAtCommit toldSealed (midway 3 4 16 1) (Advance 1 ∷ Seal 1 ∷ Write 1 0 4 ∷ Begin 1 ∷ Advance 1 ∷ Advance 1 ∷ []) → ⊥
+unfolding midway toldSealed firsts computing counting
+claimed-after-commit h = eqb-false 16 1 refl (h .withThis (name 0 1) refl 0 refl .0)
+
 pub commit-unmarked : HoldsAtCommit toldSealed (midway 3 4 1 0) (Advance 1 ∷ []) → ⊥
 unfolding midway toldSealed firsts computing counting
 commit-unmarked h = eqb-false 0 1 refl (h .withThis (name 0 1) refl 0 refl .1)
@@ -214,7 +219,7 @@ pub reads-draft-not : ReadsSerially first (event (Read 0 0) (Value 3) ∷ event 
 unfolding counting serial serialStep
 reads-draft-not r = eqb-false 3 4 refl (r .1 .0)
 
--- a value read that the serial store has not, an answer 6, and a value left that no transaction of the list wrote
+-- a value read that the serial store has not, an answer 6, and a value left that only an abandoned draft has
 pub reads-another : SeriallyEqual (midway 1 4 16 0) (Read 1 0 ∷ []) → ⊥
 unfolding midway computing counting serial serialStep
 reads-another e = eqb-false 4 3 refl (e .reads .1 .0)
@@ -223,6 +228,9 @@ pub disturbed : SeriallyEqual (midway 2 4 0 0) (Advance 1 ∷ []) → ⊥
 unfolding midway computing counting serial serialStep
 disturbed e = e .undisturbed .0 .0 refl
 
-pub leaves-another : SeriallyEqual (midway 3 4 1 1) (Advance 1 ∷ []) → ⊥
+pub leaves-another : SeriallyEqual (midway 3 4 16 1) (Advance 1 ∷ Abandon 0 ∷ Write 0 0 4 ∷ Begin 0 ∷ []) → ⊥
 unfolding midway noneOpen computing counting serial serialStep
-leaves-another e = eqb-false 4 3 refl (ap (λ (l : List ℕ). getD l 0 0) (e .left (none-open (told [] (event (Advance 1) Moved ∷ [])) refl)))
+leaves-another e =
+    eqb-false 4 3 refl
+    (ap (λ (l : List ℕ). getD l 0 0)
+    (e .left (none-open (told [] (event (Advance 1) Moved ∷ event (Abandon 0) Done ∷ event (Write 0 0 4) Done ∷ event (Begin 0) Done ∷ [])) refl)))

@@ -1,4 +1,4 @@
--- The theorem: every list of calls, from a store that set-up left.
+-- Every list of calls keeps the invariant and a ledger that matches what is told, from any start that has both; what set-up leaves is such a start.
 use Prim.Native.Nat.{ℕ, zero, suc, _<_}
 use native.Mathlib.Omega.{arith}
 use mathlib.Core.Path.{_≡_, refl, sym, _∙_, ap, subst}

@@ -1,6 +1,6 @@
 -- What a list of calls tells (document 01, "What demand 3 counts"): one definition for each of its words.
--- Every list here, of calls, of calls with their answers, of what they tell, has the newest first: its tail is then all that went before, and what
--- goes before is all that a call's answer and a word about it depend on. A place is a call's ordinal in the list, from 1.
+-- Every list here, of calls, of events and of items, has the newest first, since a list's tail is then all that went before. A place is a call's
+-- ordinal in the list, from 1; what is told where the list starts has place 0.
 use Prim.Native.Nat.{ℕ, suc}
 use mathlib.Core.Bool.{Bool, false, cond, not, _&&_, _||_}
 use mathlib.Core.List.{List, [], _∷_}
@@ -50,11 +50,12 @@ abbrev pub add : ℕ → ℕ → List Told → List Item → List Item
 add q s [] h = h
 add q s (w ∷ ws) h = item q s w ∷ add q s ws h
 
--- what events tell, after what is told where the list starts, at place 0: nothing, where set-up left no transaction open
+-- what events tell, after what is told where the list starts: nothing, where set-up left it, since no transaction is open
 unfoldable pub told : List Item → List Event → List Item
 told start [] = start
 told start (e ∷ h) = add (suc (length h)) (sessionOf (e .call)) (tellsOf e) (told start h)
 
+-- what a list of calls tells
 abbrev pub history : List Item → Store → List Call → List Item
 history start σ ks = told start (events σ ks)
 

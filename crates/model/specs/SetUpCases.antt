@@ -81,12 +81,12 @@ pub record Cap : Type 0 where
   pub most : ℕ
 
 -- one cell of a class with a value; its session 0 runs
-abbrev cellOf : ℕ → ℕ → Store
-cellOf k v = filled (lending (v ∷ []) (k ∷ []) 1 1 1 2048 0) 0 16 0 0 (session 1 0 0)
+abbrev ofClass : ℕ → ℕ → Store
+ofClass k v = filled (lending (v ∷ []) (k ∷ []) 1 1 1 2048 0) 0 16 0 0 (session 1 0 0)
 
 -- what set-up answers to a value, and a write to it
 unfoldable pub judged : ℕ → ℕ → List ℕ
-judged k v = number (setUpAnswer (cellOf k v .lent)) ∷ number (reply (Write 0 0 v) (cellOf k 0)) ∷ []
+judged k v = number (setUpAnswer (ofClass k v .lent)) ∷ number (reply (Write 0 0 v) (ofClass k 0)) ∷ []
 
 abbrev cap : ℕ → ℕ → Cap
 cap k m = record { class = k; most = m }
