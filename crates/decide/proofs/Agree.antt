@@ -1,4 +1,4 @@
--- Past refusals 7 and 1 a call's plan is what its session decides from its own part; an advance's is decided at the entry that is due.
+-- Past refusals 7 and 1 a call's plan is what its session decides; an advance's is decided at the entry that is due.
 use mathlib.Core.Path.{_≡_, refl, sym, ap, _∙_}
 use mathlib.Core.Bool.{Bool, true, false, cond}
 use mathlib.Core.Option.{Option, none, some}
@@ -10,7 +10,7 @@ use lib.Dec.{leb, eqb}
 use lib.ListN.{length}
 use Rattle.model.specs.Search.{some?}
 use Rattle.model.specs.Buffers.{Buffers, Store, size, cellAt, entryAt, slotIn, entryOf, lookIn, targetIn, lockAt, lengthsMatch, lengthsFit}
-use Rattle.model.specs.Step.{logOf, recordOf, sessionOf, entriesFit, recordFits, guard, handled, releasing, advanceTarget, plan, planOf}
+use Rattle.model.specs.Step.{logOf, recordOf, sessionOf, entriesFit, recordFits, guard, handled, releaseAnswer, advanceTarget, plan, planOf}
 use Rattle.model.specs.declared.Session.{Session}
 use Rattle.model.specs.declared.Lock.{Lock}
 use Rattle.model.specs.declared.Call.{Call}
@@ -82,7 +82,7 @@ module _ (log : List ℕ) (x : Session) (c : ℕ) where
   unfolding handledOn
   handled-moves n = rw (ne-eqb (x .phase) 4 n)
 
-  pub handled-releases : x .phase ≡ 4 → handledOn log x c .answer ≡ releasing log c x
+  pub handled-releases : x .phase ≡ 4 → handledOn log x c .answer ≡ releaseAnswer log c x
   unfolding handledOn
   handled-releases e = rw (eq-eqb (x .phase) 4 e)
 

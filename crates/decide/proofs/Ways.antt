@@ -13,7 +13,7 @@ use lib.ListN.{length, getD}
 use Rattle.model.specs.Search.{some?, below}
 use Rattle.model.specs.Readers.{otherReaders}
 use Rattle.model.specs.Buffers.{idle, moveTo, cellAt, entryAt, slotIn, targetIn, cap}
-use Rattle.model.specs.Step.{claimed, newCell, sealTarget, promotePlan, known, entriesFit, recordFits, guard, readSlot, readPlan, writeSlot, writeCapped, writePlan, sealPlan, peekSlot, peekPlan, isLeft, handled, releasing}
+use Rattle.model.specs.Step.{claimed, newCell, sealTarget, promotePlan, known, entriesFit, recordFits, guard, readSlot, readPlan, writeSlot, writeCapped, writePlan, sealPlan, peekSlot, peekPlan, isLeft, handled, releaseAnswer}
 use Rattle.model.specs.declared.Session.{Session}
 use Rattle.model.specs.declared.Lock.{Lock}
 use Rattle.model.specs.declared.Answer.the-variants.{Moved, Committed}
@@ -163,7 +163,7 @@ module _ (n : ℕ) (log : List ℕ) (x : Session) where
     pub few : x .count ≤ 32
     few = let one = eqb-true (x .phase) 1 runs in record-entries whole (omega arith) .count
 
-    -- entries lie in the part
+    -- entries lie in the log
     pub room : length log ≡ 128 → 4 * x .count ≤ length log
     room h = let w = few in omega arith
 
@@ -293,14 +293,14 @@ module _ (log : List ℕ) (x : Session) (c k : ℕ) (t : found (x .count) k ≡ 
   left = rw add-one at (target-there log (x .count) (c + 1) k t)
 
   pub handle-next : k < x .count → y ≡ moveTo (x .phase) (c + 1) x → record { session = y; answer = Moved } ≡ handledOn log x c
-  unfolding handledOn handled releasing isLeft
+  unfolding handledOn handled releaseAnswer isLeft
   handle-next h e = rw (e, add-one, ← left, lt-ltb k (x .count) h) (test (eqb (x .phase) 4) (λ p. rw p) (λ p. rw p))
 
   module _ (h : x .count ≤ k) where
     pub handle-rests : x .phase ≡ 4 → y ≡ idle → record { session = y; answer = Committed } ≡ handledOn log x c
-    unfolding handledOn handled releasing isLeft
+    unfolding handledOn handled releaseAnswer isLeft
     handle-rests p e = simp (← left, le-ltb k (x .count) h, eq-eqb (x .phase) 4 p, e)
 
     pub handle-raises : (x .phase ≡ 4 → ⊥) → y ≡ moveTo (suc (x .phase)) 0 x → record { session = y; answer = Moved } ≡ handledOn log x c
-    unfolding handledOn handled releasing isLeft
+    unfolding handledOn handled releaseAnswer isLeft
     handle-raises p e = simp (← left, le-ltb k (x .count) h, ne-eqb (x .phase) 4 p, e)

@@ -6,7 +6,7 @@ use mathlib.Core.Option.{Option, none, some}
 use mathlib.Core.List.{List}
 use lib.Dec.{leb, eqb}
 use Rattle.model.specs.Buffers.{cellAt, entryAt}
-use Rattle.model.specs.Step.{require, entriesFit, promotePlan, handled, releasing}
+use Rattle.model.specs.Step.{require, entriesFit, promotePlan, handled, releaseAnswer}
 use Rattle.model.specs.declared.Session.{Session}
 use Rattle.model.specs.declared.Lock.{Lock}
 use Rattle.model.specs.declared.Answer.the-variants.{Moved}
@@ -38,4 +38,4 @@ advanceOn log x l s k =
 
 -- the record once cell c is handled, and the answer: before phase 4 always 103
 unfoldable pub handledOn : List ℕ → Session → ℕ → Handled
-handledOn log x c = record { session = handled log c x; answer = cond (eqb (x .phase) 4) (releasing log c x) Moved }
+handledOn log x c = record { session = handled log c x; answer = cond (eqb (x .phase) 4) (releaseAnswer log c x) Moved }

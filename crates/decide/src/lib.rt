@@ -1,5 +1,5 @@
 // What a call decides before it changes anything, with the order of refusals: 7, 1, 9, 2, 3, 8, 4, then 14 or 5, then 6.
-// A decision sees lengths and numbers, the session's own part of the log and one lock by value, so it serves any way of keeping locks.
+// A decision sees lengths and numbers, the session's log and one lock by value, so it serves any way of keeping locks.
 ghost use mathlib.Core.Path.{_≡_};
 ghost use mathlib.Core.Bool.{true, false};
 ghost use Prim.Native.Nat.{_+_, _*_, _<_, _≤_};

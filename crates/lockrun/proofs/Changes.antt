@@ -6,7 +6,7 @@ use Prim.Native.Nat.{ℕ, zero, suc, _<_, _≤_}
 use native.Mathlib.Nat.{not-suc-le-zero, le-of-suc-le-suc}
 use native.Mathlib.Omega.{arith}
 use lib.ListN.{length, getD, set, drop, length-set, replicate, drop-of-length-le}
-use Rattle.model.specs.Buffers.{free, logIn, cellAt, publishesIn, lockAt, setLock, lockOn, sweep, join, leave, withdraw}
+use Rattle.model.specs.Buffers.{free, logIn, cellAt, publishesIn, lockAt, setLock, onLock, sweep, join, leave, withdraw}
 use Rattle.model.specs.Step.{rolledBack, readsDropped}
 use Rattle.model.specs.declared.Lock.{Lock}
 use Rattle.model.proofs.Tools.{test}
@@ -45,13 +45,13 @@ unfolding setLock
 unzipped-set L c l = rw (each-set (λ l. l .readers) L c l, each-set (λ l. l .claimant) L c l, each-set (λ l. l .exclusive) L c l)
 
 -- a lock changed by f
-unzipped-on : (f : Lock → Lock) (L : List Lock) (c : ℕ) → unzipped (set L c (f (lockIn L c))) ≡ lockOn c f (unzipped L)
-unfolding lockOn
+unzipped-on : (f : Lock → Lock) (L : List Lock) (c : ℕ) → unzipped (set L c (f (lockIn L c))) ≡ onLock c f (unzipped L)
+unfolding onLock
 unzipped-on f L c = unzipped-set L c (f (lockIn L c)) ∙ ap (λ (l : Lock). setLock c (f l) (unzipped L)) (sym (unzipped-at L c))
 
 -- ---- all of a change
 
-pub joins : (W : List ℕ) (s c : ℕ) (L : List Lock) → unzipped (sweptBy W (Join s c) L) ≡ lockOn c (join s) (unzipped L)
+pub joins : (W : List ℕ) (s c : ℕ) (L : List Lock) → unzipped (sweptBy W (Join s c) L) ≡ onLock c (join s) (unzipped L)
 unfolding countOf swept cellOf changeOf
 joins W s c L = unzipped-on (join s) L c
 
@@ -59,7 +59,7 @@ module _ (W : List ℕ) (s m : ℕ) (L : List Lock) where
   withdraws-to : (k : ℕ) → unzipped (swept W (Withdraw s m) k L) ≡ rolledBack (logIn W s) k s (unzipped L)
   unfolding rolledBack swept sweep cellOf changeOf
   withdraws-to zero = refl
-  withdraws-to (suc k) = unzipped-on (withdraw s) (swept W (Withdraw s m) k L) (cellAt (logIn W s) k) ∙ ap (lockOn (cellAt (logIn W s) k) (withdraw s)) (withdraws-to k)
+  withdraws-to (suc k) = unzipped-on (withdraw s) (swept W (Withdraw s m) k L) (cellAt (logIn W s) k) ∙ ap (onLock (cellAt (logIn W s) k) (withdraw s)) (withdraws-to k)
 
   pub withdraws : unzipped (sweptBy W (Withdraw s m) L) ≡ rolledBack (logIn W s) m s (unzipped L)
   unfolding countOf
@@ -78,7 +78,7 @@ module _ (W : List ℕ) (s m : ℕ) (L : List Lock) where
     leaves-to (suc k) =
         test (publishesIn (logIn W s) m (cellAt (logIn W s) k))
         (λ e. let l = still k in rw e (ap unzipped (set-past (swept W (Leave s m) k L) 1024 _ (omega arith)) ∙ leaves-to k))
-        (λ e. rw e (unzipped-on (leave s) (swept W (Leave s m) k L) (cellAt (logIn W s) k) ∙ ap (lockOn (cellAt (logIn W s) k) (leave s)) (leaves-to k)))
+        (λ e. rw e (unzipped-on (leave s) (swept W (Leave s m) k L) (cellAt (logIn W s) k) ∙ ap (onLock (cellAt (logIn W s) k) (leave s)) (leaves-to k)))
 
     pub leaves : unzipped (sweptBy W (Leave s m) L) ≡ readsDropped (logIn W s) m s (unzipped L)
     unfolding readsDropped countOf

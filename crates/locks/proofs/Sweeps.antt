@@ -9,7 +9,7 @@ use native.Mathlib.Omega.{arith}
 use lib.ListN.{length, getD, set, length-set, replicate, getD-replicate, List·getD-eq-default}
 use lib.Seq.{getD-set-same, set-getD}
 use borrow.Author.Tests.{eq-eqb, ne-eqb}
-use Rattle.model.specs.Buffers.{Locks, cellAt, entryAt, slotIn, publishes, publishesIn, lockAt, setLock, lockOn, sweep, leave, vacate, withdraw}
+use Rattle.model.specs.Buffers.{Locks, cellAt, entryAt, slotIn, publishes, publishesIn, lockAt, setLock, onLock, sweep, leave, vacate, withdraw}
 use Rattle.model.specs.Step.{rolledBack}
 use Rattle.model.specs.Readers.{withoutReader}
 use Rattle.model.specs.Search.{some?, orElse, find}
@@ -27,8 +27,8 @@ use Rattle.locks.proofs.Digits.{no-member, marked-same, marked-other}
 getD-any : (l : List ℕ) (i d e : ℕ) → i < length l → getD l i d ≡ getD l i e
 getD-any l i d e h = sym (getD-set-same l i (getD l i d) e h) ∙ ap (λ (k : List ℕ). getD k i e) (set-getD l i d)
 
-pub leave-on : (R C E : List ℕ) (c s : ℕ) → locksOf (set R c (withoutReader s (getD R c 0))) C E ≡ lockOn c (leave s) (locksOf R C E)
-unfolding lockOn lockAt setLock leave
+pub leave-on : (R C E : List ℕ) (c s : ℕ) → locksOf (set R c (withoutReader s (getD R c 0))) C E ≡ onLock c (leave s) (locksOf R C E)
+unfolding onLock lockAt setLock leave
 leave-on R C E c s = rw (set-getD C c 16, set-getD E c 0)
 
 module _ (R C E : List ℕ) (c : ℕ) (eC : length C ≡ length R) (eE : length E ≡ length R) where
@@ -42,13 +42,13 @@ module _ (R C E : List ℕ) (c : ℕ) (eC : length C ≡ length R) (eE : length 
     lock-here = rw (getD-any C c 0 16 (omega arith))
 
     pub withdraw-own : (s : ℕ) → getD C c 0 ≡ s
-        → locksOf (set R c (withoutReader s (getD R c 0))) (set C c 16) (set E c 0) ≡ lockOn c (withdraw s) (locksOf R C E)
-    unfolding lockOn lockAt setLock withdraw vacate
+        → locksOf (set R c (withoutReader s (getD R c 0))) (set C c 16) (set E c 0) ≡ onLock c (withdraw s) (locksOf R C E)
+    unfolding onLock lockAt setLock withdraw vacate
     withdraw-own s e = rw (eq-eqb (getD C c 16) s (getD-any C c 16 0 (omega arith) ∙ e))
 
     pub withdraw-other : (s : ℕ) → (getD C c 0 ≡ s → ⊥)
-        → locksOf (set R c (withoutReader s (getD R c 0))) C E ≡ lockOn c (withdraw s) (locksOf R C E)
-    unfolding lockOn lockAt withdraw
+        → locksOf (set R c (withoutReader s (getD R c 0))) C E ≡ onLock c (withdraw s) (locksOf R C E)
+    unfolding onLock lockAt withdraw
     withdraw-other s n = rw (ne-eqb (getD C c 16) s (λ e. n (getD-any C c 0 16 (omega arith) ∙ e))) (leave-on R C E c s)
 
 -- the lock that is there, put again
@@ -68,7 +68,7 @@ module _ (log : List ℕ) (s : ℕ) (L : Locks) where
   unfolding rolledBack sweep
   roll-start = refl
 
-  pub roll-more : (i c : ℕ) (K M : Locks) → c ≡ cellAt log i → K ≡ rolledBack log i s L → M ≡ lockOn c (withdraw s) K
+  pub roll-more : (i c : ℕ) (K M : Locks) → c ≡ cellAt log i → K ≡ rolledBack log i s L → M ≡ onLock c (withdraw s) K
       → M ≡ rolledBack log (i + 1) s L
   unfolding rolledBack sweep
   roll-more i c K M e k m = rw (add-one, m, k, e)
@@ -154,14 +154,14 @@ module _ (log : List ℕ) (m i s : ℕ) (seen R₀ R : List ℕ) (li : i < m) (l
     unfolding sweep
     sweep-keeps h = rw (add-one, h)
 
-    sweep-leaves : publishesIn log m (cellAt log i) ≡ false → after ≡ lockOn (cellAt log i) (leave s) before
+    sweep-leaves : publishesIn log m (cellAt log i) ≡ false → after ≡ onLock (cellAt log i) (leave s) before
     unfolding sweep
     sweep-leaves h = rw (add-one, h)
 
     -- a cell seen was left before
     left-before : marked seen (cellAt log i) ≡ true → publishesIn log m (cellAt log i) ≡ false
-        → lockOn (cellAt log i) (leave s) before ≡ before
-    unfolding lockOn slotIn
+        → onLock (cellAt log i) (leave s) before ≡ before
+    unfolding onLock slotIn
     left-before t h =
         let c = cellAt log i in
         let long : Long (length R₀) (locksOf R₀ C E) = record { readers = refl; claimants = eC; exclusives = eE } in
@@ -184,4 +184,4 @@ module _ (log : List ℕ) (m i s : ℕ) (seen R₀ R : List ℕ) (li : i < m) (l
       (λ t.
       rw t
       (test (publishes (entryAt log i)) (λ p. rw p (e ∙ sym (sweep-keeps C E eC eE (first-here t ∙ p))))
-      (λ p. rw p (leave-on R C E c s ∙ ap (lockOn c (leave s)) e ∙ sym (sweep-leaves C E eC eE (first-here t ∙ p)))))))
+      (λ p. rw p (leave-on R C E c s ∙ ap (onLock c (leave s)) e ∙ sym (sweep-leaves C E eC eE (first-here t ∙ p)))))))

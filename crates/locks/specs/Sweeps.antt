@@ -8,7 +8,7 @@ use denote.Ref.{now}
 use Rattle.model.specs.Search.{below}
 use Rattle.model.specs.Readers.{member, withReader, withoutReader}
 use Rattle.model.specs.Slices.{Slice}
-use Rattle.model.specs.Buffers.{Locks, cellAt, entryAt, publishes, publishesIn, sweep, leave, withdraw}
+use Rattle.model.specs.Buffers.{Locks, cellAt, entryAt, publishes, publishesIn, sweep, leave}
 
 abbrev pub locksOf : List ℕ → List ℕ → List ℕ → Locks
 locksOf readers claimants exclusives = record { readers = readers; claimants = claimants; exclusives = exclusives }

@@ -5,7 +5,7 @@ ghost use Prim.Native.Nat.{_+_, _*_, _<_, _≤_};
 ghost use lib.Dec.{eqb};
 ghost use lib.ListN.{length, getD, set};
 ghost use Rattle.model.specs.Readers.{withReader, withoutReader, otherReaders};
-ghost use Rattle.model.specs.Buffers.{cellAt, publishes, lockAt, setLock, lockOn, join, leave, vacate, withdraw, claim, acquire};
+ghost use Rattle.model.specs.Buffers.{cellAt, publishes, lockAt, setLock, onLock, join, leave, vacate, withdraw, claim, acquire};
 ghost use Rattle.model.specs.Step.{rolledBack};
 ghost use Rattle.locks.specs.Sweeps.{Swept, DropsReads, marked, mark, locksBefore, locksAfter, DropsAt};
 use model::Lock;
@@ -151,7 +151,7 @@ fn withdraw_at(
     session: u8,
 )
     requires { ⌜ (session < 16) × (cell < length (now readers)) × (length (now claimants) ≡ length (now readers)) × (length (now exclusives) ≡ length (now readers)) ⌝ }
-    ensures { λ _. ⌜ locksAfter readers claimants exclusives ≡ lockOn cell (withdraw session) (locksBefore readers claimants exclusives) ⌝ }
+    ensures { λ _. ⌜ locksAfter readers claimants exclusives ≡ onLock cell (withdraw session) (locksBefore readers claimants exclusives) ⌝ }
 {
     leave_at(readers, cell, session);
     let c = cell as usize;

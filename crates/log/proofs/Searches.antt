@@ -14,7 +14,7 @@ use Rattle.model.proofs.Laws.{find-some}
 use Rattle.model.proofs.Tools.{same, which, and-false}
 use Rattle.log.specs.Slots.{found}
 
--- ---- the words of a part
+-- ---- the words of a log
 
 pub word-at : (log : List ℕ) (k j : ℕ) → word log k j ≡ getD log (4 * k + j) 0
 unfolding word

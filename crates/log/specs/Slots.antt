@@ -1,4 +1,4 @@
--- What the searches of one session's own part answer, in the model's terms.
+-- What the searches of one session's log answer, in the model's terms.
 use Prim.Native.Nat.{ℕ, zero, suc}
 use mathlib.Core.Bool.{Bool, cond, not, _&&_}
 use mathlib.Core.Option.{Option, none, some}

@@ -1,5 +1,5 @@
-// One session's own part of the log: 128 words, 32 entries of four words (document 01, "What the caller lends", Logs).
-// Entries are looked at where they lie; contracts are the model's definitions at session 0 of the part.
+// One session's log: 128 words, 32 entries of four words (document 01, "What the caller lends", Logs).
+// Entries are looked at where they lie; contracts are the model's definitions.
 ghost use mathlib.Core.Path.{_≡_};
 ghost use mathlib.Core.Bool.{true, false};
 ghost use Prim.Native.Nat.{_+_, _*_, _<_, _≤_};
@@ -175,7 +175,7 @@ pub fn update(log: &mut [u32], k: usize, value: u32)
     log[i + 1] = 1;
 }
 
-// Every word 0, of one part or of all.
+// Every word 0, of one log or of all.
 pub fn clear_words(s: &mut [u32])
     ensures { λ _. ⌜ now (s .exit) ≡ replicate (length (now (s .entry))) 0 ⌝ }
 {

@@ -11,7 +11,7 @@ use lib.Seq.{getD-set-same, getD-set-other}
 use borrow.Author.Tests.{eq-eqb, ne-eqb, leb-true, leb-false, le-leb, lt-leb}
 use Rattle.model.specs.declared.Session.{Session}
 use Rattle.model.specs.declared.Lock.{Lock}
-use Rattle.model.specs.Buffers.{Locks, Store, idle, moveTo, cellAt, slotIn, publishes, isPublished, publishesIn, targetIn, currentOf, lockAt, lockOn, vacate, claim, acquire}
+use Rattle.model.specs.Buffers.{Locks, Store, idle, moveTo, cellAt, slotIn, publishes, isPublished, publishesIn, targetIn, currentOf, lockAt, onLock, vacate, claim, acquire}
 use Rattle.model.specs.Isolation.{at}
 use Rattle.model.specs.Readers.{member, otherReaders}
 use Rattle.model.specs.Search.{find, tally}
@@ -80,16 +80,16 @@ promoting-holds σ t e ph w = rw (role-late σ t e 0 ph) (rw w (test (leb (recor
 -- ---- one lock changed
 
 module _ (n c : ℕ) (f : Lock → Lock) (L : Locks) (w : Long n L) where
-  on-long : Long n (lockOn c f L)
-  unfolding lockOn
+  on-long : Long n (onLock c f L)
+  unfolding onLock
   on-long = long-set n c (f (lockAt L c)) L w
 
-  on-same : c < n → lockAt (lockOn c f L) c ≡ f (lockAt L c)
-  unfolding lockOn
+  on-same : c < n → lockAt (onLock c f L) c ≡ f (lockAt L c)
+  unfolding onLock
   on-same h = lock-same n c (f (lockAt L c)) L w h
 
-  on-other : (d : ℕ) → (d ≡ c → ⊥) → lockAt (lockOn c f L) d ≡ lockAt L d
-  unfolding lockOn
+  on-other : (d : ℕ) → (d ≡ c → ⊥) → lockAt (onLock c f L) d ≡ lockAt L d
+  unfolding onLock
   on-other d h = lock-other c d (f (lockAt L c)) L h
 
 module _ {start : List ℕ} {σ : Store} {T : Ledger} (s : ℕ) (lt : s < 16) (I : Inv start σ T)
@@ -164,14 +164,14 @@ module _ {start : List ℕ} {σ : Store} {T : Ledger} (s : ℕ) (lt : s < 16) (I
 
   -- the values stay
   lock-cell : (f : Lock → Lock) (y : Session) → y .count ≤ 32
-      → let τ = change σ s (lockOn c f (σ .lent .locks)) (σ .lent .values) (σ .lent .logs) y in
+      → let τ = change σ s (onLock c f (σ .lent .locks)) (σ .lent .values) (σ .lent .logs) y in
       ((d : ℕ) → (d ≡ c → ⊥) → role τ d s ≡ role σ d s)
       → Locked (role τ c) (f (lockAt (σ .lent .locks) c)) → Valued (role τ c) (getD (σ .lent .values) c 0) (latest start (T .commits) c)
       → (u : Txn) → Link start (T .commits) (suc (T .place)) (y .next) (look τ s) u (y .phase)
       → Inv start τ (amended s u T)
   lock-cell f y k sp lo va u li =
       let w = I .shape .long in
-      one-cell (lockOn c f L₀) F₀ y (on-long (length start) c f L₀ w) (I .shape .values) k
+      one-cell (onLock c f L₀) F₀ y (on-long (length start) c f L₀ w) (I .shape .values) k
       (λ d n. (sp d n, on-other (length start) c f L₀ w d n, refl)) (rw (on-same (length start) c f L₀ w inn) lo) va u li
 
   -- ---- promotion
@@ -214,10 +214,10 @@ module _ {start : List ℕ} {σ : Store} {T : Ledger} (s : ℕ) (lt : s < 16) (I
         rw (prom .open′) (ne-eqb (suc (T .mine s .moved)) (tally (T .mine s .wrote) (length start)) (λ e. omega (arith, tally-here, tally-left more)))
 
     pub holds-more : {d : ℕ} → target σ s (suc c) ≡ some d
-        → Inv start (change σ s (lockOn c (acquire s) (σ .lent .locks)) (σ .lent .values) (σ .lent .logs) (moveTo 2 (suc c) (recordOf σ s)))
+        → Inv start (change σ s (onLock c (acquire s) (σ .lent .locks)) (σ .lent .values) (σ .lent .logs) (moveTo 2 (suc c) (recordOf σ s)))
         (amended s (advanced (length start) (T .place) (T .mine s)) T)
     holds-more {d} more =
-        let L = lockOn c (acquire s) L₀ in
+        let L = onLock c (acquire s) L₀ in
         let b = a L F₀ 2 (suc c) in
         let now : role (τ L F₀ 2 (suc c)) c s ≡ owning (currentOf (look σ s c)) = role-next L F₀ 2 (suc c) 0 c refl ∙ unfold late roleIn in rw (here, lt-leb (suc c) c (omega arith)) in
         lock-cell (acquire s) (moveTo 2 (suc c) x) (I .shape .counts s)
@@ -241,10 +241,10 @@ module _ {start : List ℕ} {σ : Store} {T : Ledger} (s : ℕ) (lt : s < 16) (I
 
     module _ (last : target σ s (suc c) ≡ none) where
       abbrev Lo : Locks
-      Lo = lockOn c (acquire s) L₀
+      Lo = onLock c (acquire s) L₀
 
       abbrev κ : Store
-      κ = change σ s (lockOn c (acquire s) (σ .lent .locks)) (σ .lent .values) (σ .lent .logs) (moveTo 3 0 (recordOf σ s))
+      κ = change σ s (onLock c (acquire s) (σ .lent .locks)) (σ .lent .values) (σ .lent .logs) (moveTo 3 0 (recordOf σ s))
 
       b : Acts (length start) σ s (moveTo 3 0 x) κ
       b = a Lo F₀ 3 0
@@ -268,7 +268,7 @@ module _ {start : List ℕ} {σ : Store} {T : Ledger} (s : ℕ) (lt : s < 16) (I
           (λ e. clash (member (lockAt (σ .lent .locks) c .readers) t) (I .locked c inn .readers t ∙ rw e at h) (lone t n))
           (λ ne. n (I .locked d (inside d w) .alone s t (ap owns (was d w ne)) h))
 
-      last-locked : (d : ℕ) → d < length start → Locked (role κ d) (lockAt (lockOn c (acquire s) (σ .lent .locks)) d)
+      last-locked : (d : ℕ) → d < length start → Locked (role κ d) (lockAt (onLock c (acquire s) (σ .lent .locks)) d)
       last-locked d ld =
           test (written σ s d)
           (λ w.
@@ -291,7 +291,7 @@ module _ {start : List ℕ} {σ : Store} {T : Ledger} (s : ℕ) (lt : s < 16) (I
       last-done = rw (prom .open′) (eq-eqb (suc (T .mine s .moved)) (tally (T .mine s .wrote) (length start)) (sym (tally-last last ∙ tally-here)))
 
       pub holds-last : let u = advanced (length start) (T .place) (T .mine s) in
-          Inv start (change σ s (lockOn c (acquire s) (σ .lent .locks)) (σ .lent .values) (σ .lent .logs) (moveTo 3 0 (recordOf σ s))) (joined s u (asCommit s (T .place) u) T)
+          Inv start (change σ s (onLock c (acquire s) (σ .lent .locks)) (σ .lent .values) (σ .lent .logs) (moveTo 3 0 (recordOf σ s))) (joined s u (asCommit s (T .place) u) T)
       holds-last =
           committing s I (frame b) (shaped b (I .shape .values) (on-long (length start) c (acquire s) L₀ (I .shape .long)) (I .shape .counts s))
           (advanced (length start) (T .place) (T .mine s)) (asCommit s (T .place) (advanced (length start) (T .place) (T .mine s))) refl
@@ -308,7 +308,7 @@ module _ {start : List ℕ} {σ : Store} {T : Ledger} (s : ℕ) (lt : s < 16) (I
   -- ---- waiting
 
   pub waits : recordOf σ s .phase ≡ 2 → (eqb (lockAt (σ .lent .locks) c .claimant) 16 || eqb (lockAt (σ .lent .locks) c .claimant) s) ≡ true
-      → Inv start (changeLocks σ (lockOn c (claim s) (σ .lent .locks))) (tick (calm T))
+      → Inv start (changeLocks σ (onLock c (claim s) (σ .lent .locks))) (tick (calm T))
   unfolding look role
   waits ph cl =
       let J = ticks (calms I) in
@@ -369,28 +369,28 @@ module _ {start : List ℕ} {σ : Store} {T : Ledger} (s : ℕ) (lt : s < 16) (I
       shown = role-here 2 ph ∙ unfold roleIn in refl
 
       release-any : (y : Session) → y .count ≤ 32
-          → let τ = change σ s (lockOn c (vacate s) (σ .lent .locks)) (σ .lent .values) (σ .lent .logs) y in
+          → let τ = change σ s (onLock c (vacate s) (σ .lent .locks)) (σ .lent .values) (σ .lent .logs) y in
           ((d : ℕ) → (d ≡ c → ⊥) → role τ d s ≡ role σ d s) → role τ c s ≡ out
           → (u : Txn) → Link start (T .commits) (suc (T .place)) (y .next) (look τ s) u (y .phase) → Inv start τ (amended s u T)
       release-any y k sp now u li =
-          let b = acts (I .shape) s lt (lockOn c (vacate s) L₀) F₀ y in
+          let b = acts (I .shape) s lt (onLock c (vacate s) L₀) F₀ y in
           lock-cell (vacate s) y k sp
           (vacates s (role-other (frame b) c) now (I .locked c inn) refl (I .locked c inn .owner s (ap owns shown) .0))
           (stays s (role-other (frame b) c) now (I .valued c inn) (λ f e. cc) (λ f e. cc) (sym (ap pends shown))) u li
 
-      pub releases-more : Inv start (change σ s (lockOn c (vacate s) (σ .lent .locks)) (σ .lent .values) (σ .lent .logs) (moveTo 4 (suc c) (recordOf σ s)))
+      pub releases-more : Inv start (change σ s (onLock c (vacate s) (σ .lent .locks)) (σ .lent .values) (σ .lent .logs) (moveTo 4 (suc c) (recordOf σ s)))
           (amended s (advanced (length start) (T .place) (T .mine s)) T)
       releases-more =
-          let L = lockOn c (vacate s) L₀ in
+          let L = onLock c (vacate s) L₀ in
           release-any (moveTo 4 (suc c) x) (I .shape .counts s)
           (λ d n. role-next L F₀ 4 (suc c) 2 d refl ∙ late-same 2 d n ∙ sym (role-late σ s d 2 ph))
           (role-next L F₀ 4 (suc c) 2 c refl ∙ unfold late roleIn in rw (here, lt-leb (suc c) c (omega arith)))
           (advanced (length start) (T .place) (T .mine s)) finished
 
       pub releases-last : target σ s (suc c) ≡ none
-          → Inv start (change σ s (lockOn c (vacate s) (σ .lent .locks)) (σ .lent .values) (σ .lent .logs) idle) (amended s (closed (T .mine s)) T)
+          → Inv start (change σ s (onLock c (vacate s) (σ .lent .locks)) (σ .lent .values) (σ .lent .logs) idle) (amended s (closed (T .mine s)) T)
       releases-last last =
-          let b = acts (I .shape) s lt (lockOn c (vacate s) L₀) F₀ idle in
+          let b = acts (I .shape) s lt (onLock c (vacate s) L₀) F₀ idle in
           release-any idle (omega arith)
           (λ d n. role-gone b refl d ∙ sym (role-late σ s d 2 ph ∙ unfold late roleIn in test (written σ s d) (λ w. rw (w, leb-last last d w n)) (λ w. rw w)))
           (role-gone b refl c) (closed (T .mine s)) refl

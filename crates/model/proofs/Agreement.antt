@@ -9,7 +9,7 @@ use lib.Dec.{eqb}
 use lib.ListN.{length}
 use borrow.Author.Tests.{ltb-true}
 use Rattle.model.specs.History.{Item, Name, cellsWritten, snapshot, movesIn, moveNumber, commit, committed}
-use Rattle.model.specs.Isolation.{All, Any, at, Commits, snapshotOf, commitOf, OwnCall}
+use Rattle.model.specs.Isolation.{All, Any, at, Commits, snapshotOf, commitOf, ToldAt}
 use Rattle.model.specs.Told.{Told, began, got, put, sealed, moved, ended, begins, seals, moves}
 use Rattle.model.proofs.Matching.{Stands}
 use Rattle.model.proofs.Tools.{test, clash, both-l}
@@ -43,10 +43,10 @@ move-any m (i ∷ t) h =
     (λ y. rw y (inr (move-any m t (rw y at h))))
 
 module _ (start : List ℕ) (h : List Item) (x : Name) (stands : All (Stands x) (at start h x)) where
-  pub snapshot-own : 0 < snapshotOf start h x → OwnCall start h x (snapshotOf start h x) seals × (x .place < snapshotOf start h x)
+  pub snapshot-own : 0 < snapshotOf start h x → ToldAt start h x (snapshotOf start h x) seals × (x .place < snapshotOf start h x)
   snapshot-own l = snapshot-any x (at start h x) stands l
 
-  pub commit-own : Commits start h x → OwnCall start h x (commitOf start h x) (λ w. cond (eqb (cellsWritten (length start) (at start h x)) 0) (seals w) (moves w))
+  pub commit-own : Commits start h x → ToldAt start h x (commitOf start h x) (λ w. cond (eqb (cellsWritten (length start) (at start h x)) 0) (seals w) (moves w))
   unfolding committed commit
   commit-own d =
       let t = at start h x in

@@ -16,13 +16,13 @@ use Rattle.model.specs.declared.Call.the-variants.{Begin, Read, Write, S
 use Rattle.model.specs.declared.Answer.{Answer}
 use Rattle.model.specs.declared.Plan.{Plan}
 use Rattle.model.specs.declared.Plan.the-variants.{Refuse, Start, Tell, Enter, Update, EnterUpdate, RollBack, Cancel, CommitReads, BeginPromotion, Wait, Acquire, Publish, Release, ShowStore, ShowLog}
-use Rattle.model.specs.Buffers.{Locks, Buffers, Store, idle, running, sessionAt, withSession, withEntry, moveTo, word, cellAt, entryAt, slotIn, entryOf, lookIn, targetIn, currentOf, appended, updated, lockAt, lockOn, join, cap, fits, allFit, lengthsFit, fresh, logIn, onLog, size}
+use Rattle.model.specs.Buffers.{Locks, Buffers, Store, idle, running, sessionAt, withSession, withEntry, moveTo, word, cellAt, entryAt, slotIn, entryOf, lookIn, targetIn, currentOf, appended, updated, lockAt, onLock, join, cap, fits, allFit, lengthsFit, fresh, logIn, onLog, size}
 use Rattle.model.specs.Caps.{capOf, GotWithin, WithinCaps}
 use Rattle.model.specs.History.{run, events, told, history, add}
 use Rattle.model.specs.Isolation.{All}
 use Rattle.model.specs.Readers.{otherReaders}
 use Rattle.model.specs.Search.{some?, find}
-use Rattle.model.specs.Step.{number, valueOf, handled, change, changeLogs, recordOf, after, releasing, answer, guard, known, claimed, readSlot, writeSlot, writeCapped, sealTarget, promotePlan, advanceTarget, peekSlot, plan, sessionOf, planOf, step, reply, setUpAnswer, setUp, logOf, admit}
+use Rattle.model.specs.Step.{number, valueOf, handled, change, changeLogs, recordOf, after, releaseAnswer, answer, guard, known, claimed, readSlot, writeSlot, writeCapped, sealTarget, promotePlan, advanceTarget, peekSlot, plan, sessionOf, planOf, step, reply, setUpAnswer, setUp, logOf, admit}
 use Rattle.model.specs.Told.{Told, ended, ending, tells, WhereGot}
 use Rattle.model.proofs.Demand3.{set-up-passed, set-up-fresh}
 use Rattle.model.proofs.Laws.{find-some, getD-sets-other, log-length, log-same, log-other, length-on, grown-word, grown-apart}
@@ -148,7 +148,7 @@ module _ {σ : Store} (I : Capped σ) (s : ℕ) where
         let m = recordOf σ s .count in
         let w = appended-within (capOf σ) (logOf σ s) m c v room (log-length (σ .lent .logs) s lt len) (I .stored c) in
         let g = on-within (capOf σ) s (σ .lent .logs) lt len (λ log. appended log m c v) (grown-whole s (σ .lent .logs) m c v lt len) in
-        change-keeps σ s (lockOn c (join s) (σ .lent .locks)) (σ .lent .values) (onLog s (λ log. appended log m c v) (σ .lent .logs)) (withEntry (recordOf σ s)) (I .stored)
+        change-keeps σ s (onLock c (join s) (σ .lent .locks)) (σ .lent .values) (onLog s (λ log. appended log m c v) (σ .lent .logs)) (withEntry (recordOf σ s)) (I .stored)
         (λ t j u. g t j (λ e. w j (λ _. subst (λ (i : ℕ). EntryWithin (capOf σ) (logOf σ i) j) e (I .logged t j u))) (λ _. I .logged t j u))
         (λ j u. g s j (λ _. w j (λ ne. I .logged s j (n, omega (arith, u .1)))) (λ ne. absurd (ne refl)))
 
@@ -300,7 +300,7 @@ module _ {σ : Store} (I : Capped σ) where
       (λ c _. (shrink-keeps I s _ (moveTo 2 0 x) (λ k u. (λ e. let w = eqb-true (x .phase) 1 h in omega arith, u .1)), tt)))
 
   keep-advance : (s : ℕ) → Kept (Advance s) (planOf (Advance s) σ)
-  unfolding planOf plan advanceTarget promotePlan after answer releasing
+  unfolding planOf plan advanceTarget promotePlan after answer releaseAnswer
   keep-advance s =
       let x = recordOf σ s in
       let call = Advance s in

@@ -9,7 +9,7 @@ use lib.ListN.{length, getD}
 use lib.Seq.{length-sets}
 use Rattle.model.specs.declared.Session.{Session}
 use Rattle.model.specs.declared.Lock.{Lock}
-use Rattle.model.specs.Buffers.{Locks, Store, idle, running, withEntry, Entry, cellAt, entryAt, slotIn, entryOf, lookIn, isDirty, appended, updated, lockAt, lockOn, join, withdraw, onLog}
+use Rattle.model.specs.Buffers.{Locks, Store, idle, running, withEntry, Entry, cellAt, entryAt, slotIn, entryOf, lookIn, isDirty, appended, updated, lockAt, onLock, join, withdraw, onLog}
 use Rattle.model.specs.History.{run}
 use Rattle.model.specs.Isolation.{at}
 use Rattle.model.specs.Search.{find}
@@ -200,7 +200,7 @@ module _ {start : List ℕ} {σ : Store} {T : Ledger} (s : ℕ) (lt : s < 16) (I
     v = getD (σ .lent .values) c 0
 
     abbrev pub ε : Store
-    ε = change σ s (lockOn c (join s) (σ .lent .locks)) (σ .lent .values) (onLog s (λ log. appended log (recordOf σ s .count) c (getD (σ .lent .values) c 0)) (σ .lent .logs)) (withEntry (recordOf σ s))
+    ε = change σ s (onLock c (join s) (σ .lent .locks)) (σ .lent .values) (onLog s (λ log. appended log (recordOf σ s .count) c (getD (σ .lent .values) c 0)) (σ .lent .logs)) (withEntry (recordOf σ s))
 
     whole : length (logOf σ s) ≡ 128
     whole = log-length (σ .lent .logs) s lt (I .shape .logs)
@@ -250,7 +250,7 @@ module _ {start : List ℕ} {σ : Store} {T : Ledger} (s : ℕ) (lt : s < 16) (I
     here = running-role ε s c (record { snapshot = v; current = v; dirty = false }) enter-phase enter-look
 
     pub enters : c < length start → lockAt (σ .lent .locks) c .claimant ≡ 16 → Inv start ε T
-    unfolding lockOn
+    unfolding onLock
     enters lc cl =
         let a = enter-acts in
         let w = I .shape .long in

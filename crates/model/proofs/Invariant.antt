@@ -133,7 +133,7 @@ pub record Inv (start : List ℕ) (σ : Store) (T : Ledger) : Type 0 where
   pub old : All (λ (k : Commit). k .place < T .place) (T .commits)
   pub just : Just σ (T .new) (T .commits)
 
--- session s acts: the otherReaders' records and notes stay
+-- session s acts: the other sessions' records and logs stay
 pub record Frame (s : ℕ) (σ τ : Store) : Type 0 where
   pub ses : (t : ℕ) → (t ≡ s → ⊥) → recordOf τ t ≡ recordOf σ t
   pub notes : (t : ℕ) → (t ≡ s → ⊥) → look τ t ≡ look σ t

@@ -13,7 +13,7 @@ use borrow.Author.Tests.{eqb-true, eq-eqb, ne-eqb, ltb-true, ltb-false}
 use Rattle.model.specs.declared.Session.{Session}
 use Rattle.model.specs.declared.Sessions.{Sessions}
 use Rattle.model.specs.declared.Lock.{Lock}
-use Rattle.model.specs.Buffers.{Locks, idle, sessionAt, withSession, logIn, onLog, word, cellAt, entryAt, slotIn, entryOf, lookIn, lockAt, setLock, lockOn, sweep, leave, vacate, withdraw}
+use Rattle.model.specs.Buffers.{Locks, idle, sessionAt, withSession, logIn, onLog, word, cellAt, entryAt, slotIn, entryOf, lookIn, lockAt, setLock, onLock, sweep, leave, vacate, withdraw}
 use Rattle.model.specs.Isolation.{at}
 use Rattle.model.specs.Readers.{odd, assign}
 use Rattle.model.specs.Search.{some?, orElse, find, lower, lowest, below, tally}
@@ -139,14 +139,14 @@ long-set n c l L w =
 
 module _ (at : ℕ → Bool) (f : Lock → Lock) (cell : ℕ → ℕ) (L : Locks) (n : ℕ) (w : Long n L) where
   pub long-sweep : (k : ℕ) → Long n (sweep at f cell k L)
-  unfolding sweep lockOn
+  unfolding sweep onLock
   long-sweep zero = w
   long-sweep (suc k) = split (Long n) (at (cell k)) (λ h. long-set n (cell k) _ (sweep at f cell k L) (long-sweep k)) (λ h. long-sweep k)
 
   module _ (idem : (l : Lock) → f (f l) ≡ f l) (c : ℕ) (lt : c < n) where
     -- the lock of a cell after a sweep
     pub lock-sweep : (k : ℕ) → lockAt (sweep at f cell k L) c ≡ cond (some? (find cell k c) && at c) (f (lockAt L c)) (lockAt L c)
-    unfolding sweep lockOn find orElse
+    unfolding sweep onLock find orElse
     lock-sweep zero = refl
     lock-sweep (suc k) =
         test (at (cell k))

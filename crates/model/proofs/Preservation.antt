@@ -19,7 +19,7 @@ use Rattle.model.specs.Isolation.{at}
 use Rattle.model.specs.Readers.{otherReaders}
 use Rattle.model.specs.Search.{some?, find, below, tally}
 use Rattle.model.specs.Told.{tells, ending}
-use Rattle.model.specs.Step.{rolledBack, handled, change, recordOf, after, releasing, answer, recordFits, guard, known, claimed, newCell, readSlot, writeSlot, writeCapped, sealTarget, promotePlan, advanceTarget, peekSlot, plan, sessionOf, planOf, step, reply, logOf, admit, entriesFit}
+use Rattle.model.specs.Step.{rolledBack, handled, change, recordOf, after, releaseAnswer, answer, recordFits, guard, known, claimed, newCell, readSlot, writeSlot, writeCapped, sealTarget, promotePlan, advanceTarget, peekSlot, plan, sessionOf, planOf, step, reply, logOf, admit, entriesFit}
 use Rattle.model.proofs.Advancing.{target-some, target-none, late, role-late, more-open, holds-more, last-done, holds-last, waits, publishes-more, publishes-last, releases-more, releases-last}
 use Rattle.model.proofs.Effects.{running-role, slot-none, slot-some, replaced, rolls, started, learns, enter-phase, enter-look, enter-slot, enters, notes}
 use Rattle.model.proofs.Invariant.{roleIn, roleOf, role, Running, Promoting, Finishing, Inv, calms, ticks}
@@ -343,7 +343,7 @@ module _ {first : List ℕ} {σ : Store} {T : Ledger} (I : Inv first σ T) where
           (λ d p. rw (handled-more σ s c p ph) (rw on-103 (publishes-more s lt I ins c tgt r ph)))
 
       keep-release : recordOf σ s .phase ≡ 4 → Kept (Advance s) (Release c)
-      unfolding observe tells ending after answer releasing target
+      unfolding observe tells ending after answer releaseAnswer target
       keep-release ph =
           which (target σ s (suc c))
           (λ p. rw (handled-idle σ s c p ph) (rw p (rw (amend-same s closed T (r .live) (and-not (T .mine s .done))) (releases-last s lt I ins c tgt r ph p))))

@@ -13,7 +13,7 @@ use Rattle.model.specs.declared.Answer.the-variants.{Done, Value, Moved,
 use Rattle.model.specs.Caps.{GotWithin, WithinCaps}
 use Rattle.model.specs.Computing.{computing, counting}
 use Rattle.model.specs.History.{event, Item, item, told, history, Name, name, transaction, wrote, valueWritten, cellsWritten, readsBeforeWriting}
-use Rattle.model.specs.Isolation.{All, Commits, snapshotOf, commitOf, OwnCall, CommitsTo, Last, lastCommit, noCommit, Isolated, Holds, firsts, HoldsAtCommit, Demand3}
+use Rattle.model.specs.Isolation.{All, Commits, snapshotOf, commitOf, ToldAt, CommitsTo, Last, lastCommit, noCommit, Isolated, Holds, firsts, HoldsAtCommit, Demand3}
 use Rattle.model.specs.Serial.{serialStep, serial, NoneOpen, ReadsSerially, Undisturbed, SeriallyEqual}
 use Rattle.model.specs.Told.{began, got, put, sealed, moved, seals, moves, ReadOf}
 use Rattle.model.specs.Words.{wroteThenRead, firstRead, midway, toldRunning, toldSealed}
@@ -30,16 +30,16 @@ abbrev committing : List Item
 committing = told [] wroteThenRead
 
 -- session 0's fourth call is an advance of its own, and its third is not
-pub own-call : OwnCall first committing (name 1 0) 4 moves
+pub told-at : ToldAt first committing (name 1 0) 4 moves
 unfolding wroteThenRead counting
-own-call = inl (refl, refl)
+told-at = inl (refl, refl)
 
-pub own-call-not : OwnCall first committing (name 1 0) 3 moves → ⊥
+pub told-at-not : ToldAt first committing (name 1 0) 3 moves → ⊥
 unfolding wroteThenRead counting
-own-call-not (inl e) = eqb-false 4 3 refl (e .0)
-own-call-not (inr (inl e)) = clash false (e .1) refl
-own-call-not (inr (inr (inl e))) = clash false (e .1) refl
-own-call-not (inr (inr (inr (inl e)))) = clash false (e .1) refl
+told-at-not (inl e) = eqb-false 4 3 refl (e .0)
+told-at-not (inr (inl e)) = clash false (e .1) refl
+told-at-not (inr (inr (inl e))) = clash false (e .1) refl
+told-at-not (inr (inr (inr (inl e)))) = clash false (e .1) refl
 
 -- session 0's commit, at place 4, is one to cell 1 and to no other, and before place 5 and not before place 4; the reader's is to no cell
 pub commits-to : CommitsTo first committing 1 5 (name 1 0)
@@ -96,9 +96,9 @@ last-commit-not = (stale, early)
 pub first-read-isolated : Isolated first (told [] firstRead)
 first-read-isolated =
     record {
-      snapshots = λ x d. subst (λ (x : Name). (x .place < snapshotOf first h x) × (snapshotOf first h x ≤ commitOf first h x) × OwnCall first h x (snapshotOf first h x) seals) (only x d)
+      snapshots = λ x d. subst (λ (x : Name). (x .place < snapshotOf first h x) × (snapshotOf first h x ≤ commitOf first h x) × ToldAt first h x (snapshotOf first h x) seals) (only x d)
           (unfold firstRead counting in (omega arith, omega arith, inr (inl (refl, refl))));
-      commits = λ x d. subst (λ (x : Name). OwnCall first h x (commitOf first h x) (λ w. cond (eqb (cellsWritten 2 (transaction x h)) 0) (seals w) (moves w))) (only x d)
+      commits = λ x d. subst (λ (x : Name). ToldAt first h x (commitOf first h x) (λ w. cond (eqb (cellsWritten 2 (transaction x h)) 0) (seals w) (moves w))) (only x d)
           (unfold firstRead counting in inr (inl (refl, refl)));
       reads = λ x d. subst (λ (x : Name). All (λ (r : ReadOf). Last first h (r .cell) (snapshotOf first h x) (r .value)) (readsBeforeWriting (transaction x h))) (only x d)
           (unfold firstRead counting in (noCommit (λ y c. clash false (subst (λ (x : Name). wrote (transaction x h) 1 ≡ true) (sym (only y (c .commits))) (c .wrote)) refl) refl, tt));

@@ -101,7 +101,7 @@ flip false h = refl
 pub unowned : {p : ℕ → Role} {l : Lock} → Locked p l → l .claimant ≡ 16 → (t : ℕ) → owns (p t) ≡ false
 unowned {p} g c t = flip (owns (p t)) (λ h. let w = g .owner t h in omega arith)
 
--- session s becomes X, the otherReaders stay
+-- session s becomes X, the other sessions stay what they are
 module _ {p q : ℕ → Role} (s : ℕ) (o : (t : ℕ) → (t ≡ s → ⊥) → q t ≡ p t) {X : Role} (b : q s ≡ X) where
   every : (P : ℕ → Role → Type 0) → P s X → ((t : ℕ) → (t ≡ s → ⊥) → P t (p t)) → (t : ℕ) → P t (q t)
   every P a f t = same t s (λ e. rw (e, b) a) (λ n. rw (o t n) (f t n))

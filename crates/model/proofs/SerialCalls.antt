@@ -20,7 +20,7 @@ use Rattle.model.specs.Isolation.{All}
 use Rattle.model.specs.Serial.{Serial, serialStep, Undisturbed}
 use Rattle.model.specs.Readers.{otherReaders}
 use Rattle.model.specs.Search.{some?, tally}
-use Rattle.model.specs.Step.{number, recordOf, releasing, answer, recordFits, guard, known, claimed, newCell, readSlot, writeSlot, writeCapped, sealTarget, promotePlan, advanceTarget, peekSlot, plan, sessionOf, planOf, reply, logOf, admit}
+use Rattle.model.specs.Step.{number, recordOf, releaseAnswer, answer, recordFits, guard, known, claimed, newCell, readSlot, writeSlot, writeCapped, sealTarget, promotePlan, advanceTarget, peekSlot, plan, sessionOf, planOf, reply, logOf, admit}
 use Rattle.model.specs.Told.{Told, ending, tells, begins, WhereGot}
 use Rattle.model.proofs.Advancing.{target-some}
 use Rattle.model.proofs.Effects.{slot-some}
@@ -193,7 +193,7 @@ module _ {start : List ℕ} {σ : Store} {T : Ledger} {z : Serial} (I : Inv star
       (λ _ _ _ alone. answered (Begin s) Done refl refl (tt, tt) (follows-tick (follows-start G s (alone .0 refl))))
 
   advance-fine : (s : ℕ) → Fine (Advance s) (planOf (Advance s) σ)
-  unfolding planOf plan advanceTarget promotePlan claimed answer releasing observe tells ending serialStep target
+  unfolding planOf plan advanceTarget promotePlan claimed answer releaseAnswer observe tells ending serialStep target
   advance-fine s =
       passing (Advance s) (leb 2 (recordOf σ s .phase)) (advanceTarget s (logOf σ s) (recordOf σ s) (lockAt (σ .lent .locks)) (targetIn (logOf σ s) (recordOf σ s .count) (recordOf σ s .next)))
       (λ lt k h.

@@ -1,4 +1,4 @@
--- Small histories to judge the claim by: four that must not pass, as a store without the method would tell them, in the order of the calls.
+-- Small histories to judge the claim by: four that must not pass, as a store without the method would answer; written in the order of the calls.
 use mathlib.Core.List.{List, [], _∷_, reverse}
 use Rattle.model.specs.declared.Call.the-variants.{Begin, Read, Write, Seal, Advance}
 use Rattle.model.specs.declared.Answer.the-variants.{Done, Value, Sealed, Moved, Committed}

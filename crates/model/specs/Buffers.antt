@@ -1,18 +1,19 @@
--- What the caller lends to every call, and how it is read and changed (document 01, "What the caller lends").
+-- What the caller lends to every call, and how it is read and changed (document 01, "What the caller lends"). Its words here: a figure is a value; of an
+-- entry the figure found is `snapshot`, the present figure `current`, written `dirty`; a lock's mark is `exclusive`.
 use Prim.Native.Nat.{ℕ, zero, suc, _+_, _*_}
-use mathlib.Core.Bool.{Bool, true, false, cond, not, _&&_}
+use mathlib.Core.Bool.{Bool, true, false, cond, _&&_}
 use mathlib.Core.Option.{Option, none, some}
 use mathlib.Core.List.{List, [], _∷_, _++_}
 use lib.Dec.{leb, ltb, eqb}
 use lib.ListN.{length, getD, set, take, drop, replicate}
 use lib.Seq.{sets}
-use Rattle.model.specs.Search.{find, lowest, below}
+use Rattle.model.specs.Search.{find, lowest}
 use Rattle.model.specs.Readers.{odd, withReader, withoutReader}
 use Rattle.model.specs.declared.Session.{Session}
 use Rattle.model.specs.declared.Sessions.{Sessions}
 use Rattle.model.specs.declared.Lock.{Lock}
 
--- the locks: for each cell a reader set, a claimant and a writer mark, each kind in a list of its own
+-- the locks: for each cell a reader set, a claimant and a writer mark, each kind in a list of its own (crate lockrun: as one run of records)
 pub record Locks : Type 0 where
   pub readers : List ℕ
   pub claimants : List ℕ
@@ -91,11 +92,12 @@ entryOf log (some k) = some (entryAt log k)
 unfoldable pub lookIn : List ℕ → ℕ → ℕ → Option Entry
 lookIn log m c = entryOf log (slotIn log m c)
 
--- what a running session calls written, and what counts as written from the seal on
+-- written, by its bit
 abbrev pub isDirty : Option Entry → Bool
 isDirty none = false
 isDirty (some e) = e .dirty
 
+-- what counts as written from the seal on: today the same
 unfoldable pub publishes : Entry → Bool
 publishes e = e .dirty
 
@@ -140,31 +142,35 @@ setLock c l L =
     }
 
 -- the locks with that of one cell changed
-unfoldable pub lockOn : ℕ → (Lock → Lock) → Locks → Locks
-lockOn c f L = setLock c (f (lockAt L c)) L
+unfoldable pub onLock : ℕ → (Lock → Lock) → Locks → Locks
+onLock c f L = setLock c (f (lockAt L c)) L
 
 -- the locks with those of the cells of k entries changed, where a cell passes a test
 unfoldable pub sweep : (ℕ → Bool) → (Lock → Lock) → (ℕ → ℕ) → ℕ → Locks → Locks
 sweep at f cell zero L = L
-sweep at f cell (suc k) L = let r = sweep at f cell k L in cond (at (cell k)) (lockOn (cell k) f r) r
+sweep at f cell (suc k) L = let r = sweep at f cell k L in cond (at (cell k)) (onLock (cell k) f r) r
 
--- a session joins and leaves the readers; it leaves with claim and mark gone; the same only where the claim is its own
+-- a session joins the readers
 unfoldable pub join : ℕ → Lock → Lock
 join s l = record { readers = withReader s (l .readers); claimant = l .claimant; exclusive = l .exclusive }
 
+-- it leaves them
 unfoldable pub leave : ℕ → Lock → Lock
 leave s l = record { readers = withoutReader s (l .readers); claimant = l .claimant; exclusive = l .exclusive }
 
+-- releasing: it leaves them, nobody is claimant, and the mark is 0
 unfoldable pub vacate : ℕ → Lock → Lock
 vacate s l = record { readers = withoutReader s (l .readers); claimant = 16; exclusive = 0 }
 
+-- rolling back: it leaves them, and claim and mark go where the claim is its own
 unfoldable pub withdraw : ℕ → Lock → Lock
 withdraw s l = cond (eqb (l .claimant) s) (vacate s l) (leave s l)
 
--- a session becomes claimant, and claimant with the mark
+-- it becomes claimant
 unfoldable pub claim : ℕ → Lock → Lock
 claim s l = record { readers = l .readers; claimant = s; exclusive = l .exclusive }
 
+-- it becomes claimant, with mark 1
 unfoldable pub acquire : ℕ → Lock → Lock
 acquire s l = record { readers = l .readers; claimant = s; exclusive = 1 }
 

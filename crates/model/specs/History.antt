@@ -50,7 +50,7 @@ abbrev pub add : ℕ → ℕ → List Told → List Item → List Item
 add q s [] h = h
 add q s (w ∷ ws) h = item q s w ∷ add q s ws h
 
--- what events tell, after what is told where the list starts: nothing, where set-up left it, since no transaction is open
+-- what events tell, after `start`: what was told before the first call, all of it at place 0; nothing (`[]`) from set-up on
 unfoldable pub told : List Item → List Event → List Item
 told start [] = start
 told start (e ∷ h) = add (suc (length h)) (sessionOf (e .call)) (tellsOf e) (told start h)
@@ -60,7 +60,8 @@ abbrev pub history : List Item → Store → List Call → List Item
 history start σ ks = told start (events σ ks)
 
 -- ---- Transaction: a begin answered 100 and that session's later calls, up to and with an answer 6 or 105 or an abandon answered 100,
--- else to the end of the list. Its name is the place and the session of its begin.
+-- else to the end of the list; here as what these calls tell. Its name is the place and the session of its begin: the session tells those apart
+-- that are open at the start, which share place 0.
 
 pub record Name : Type 0 where
   pub place : ℕ

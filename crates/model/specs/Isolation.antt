@@ -1,4 +1,5 @@
--- Demand 3, the claim: what must hold of the transactions that a list of calls and answers tells, and of the writer locks; and the same of code.
+-- Demand 3, the claim: the committed transactions of a list of calls have snapshot and commit places such that each read is the last commit's before the
+-- snapshot, and writers of one cell have spans that do not meet; a commit is the call with which all writer locks are held. And the same of code.
 use Prim.Native.Nat.{ℕ, suc, _≤_, _<_}
 use mathlib.Core.Path.{_≡_}
 use mathlib.Core.Logic.{_⊎_}
@@ -36,9 +37,9 @@ module _ (first : List ℕ) (h : List Item) where
   abbrev pub commitOf : Name → ℕ
   commitOf x = commit (length first) (at x)
 
-  -- the transaction has told something at place q that passes a test
-  abbrev pub OwnCall : Name → ℕ → (Told → Bool) → Type 0
-  OwnCall x q test = Any (λ (i : Item). (i .place ≡ q) × (test (i .told) ≡ true)) (at x)
+  -- the transaction has told, at place q, something that passes a test
+  abbrev pub ToldAt : Name → ℕ → (Told → Bool) → Type 0
+  ToldAt x q test = Any (λ (i : Item). (i .place ≡ q) × (test (i .told) ≡ true)) (at x)
 
   -- the transaction committed to cell c before place q
   pub record CommitsTo (c q : ℕ) (x : Name) : Type 0 where
@@ -53,9 +54,9 @@ module _ (first : List ℕ) (h : List Item) where
 
   pub record Isolated : Type 0 where
     -- the snapshot is the place of its own seal, after its begin and not after its commit
-    pub snapshots : (x : Name) → Commits x → (x .place < snapshotOf x) × (snapshotOf x ≤ commitOf x) × OwnCall x (snapshotOf x) seals
+    pub snapshots : (x : Name) → Commits x → (x .place < snapshotOf x) × (snapshotOf x ≤ commitOf x) × ToldAt x (snapshotOf x) seals
     -- the commit is the place of its own advance, or of that seal where it wrote no cell
-    pub commits : (x : Name) → Commits x → OwnCall x (commitOf x) (λ w. cond (eqb (cellsWritten (length first) (at x)) 0) (seals w) (moves w))
+    pub commits : (x : Name) → Commits x → ToldAt x (commitOf x) (λ w. cond (eqb (cellsWritten (length first) (at x)) 0) (seals w) (moves w))
     -- each read before writing is the last commit's before the snapshot
     pub reads : (x : Name) → Commits x → All (λ (r : ReadOf). Last (r .cell) (snapshotOf x) (r .value)) (readsBeforeWriting (at x))
     -- two writers of one cell have spans, from snapshot to commit, that do not meet
@@ -68,35 +69,32 @@ module _ (first : List ℕ) (h : List Item) where
 abbrev pub Holds : Store → ℕ → ℕ → Type 0
 Holds σ s c = (lockAt (σ .lent .locks) c .claimant ≡ s) × (lockAt (σ .lent .locks) c .exclusive ≡ 1)
 
--- the first m calls of a list
+-- the first m calls of a list, which has the newest first
 unfoldable pub firsts : ℕ → List Call → List Call
 firsts m [] = []
 firsts m (k ∷ ks) = cond (leb (suc (length ks)) m) (k ∷ ks) (firsts m ks)
 
--- of what is told where a list starts, the store there, and the list of calls
+-- of what is told where a list of calls starts, the store there, and the list, the newest first
 module _ (start : List Item) (σ : Store) (ks : List Call) where
-  -- what the transaction of a name tells, whether it is committed, and where
-  abbrev tale : Name → List Item
-  tale x = transaction x (history start σ ks)
+  abbrev values : List ℕ
+  values = σ .lent .values
 
-  abbrev isCommitted : Name → Bool
-  isCommitted x = committed (length (σ .lent .values)) (tale x)
-
-  abbrev commitPlace : Name → ℕ
-  commitPlace x = commit (length (σ .lent .values)) (tale x)
+  abbrev items : List Item
+  items = history start σ ks
 
   -- the transaction holds, in a store, the writer lock of each cell that it wrote
   abbrev pub HoldsAll : Store → Name → Type 0
-  HoldsAll τ x = (c : ℕ) → wrote (tale x) c ≡ true → Holds τ (x .session) c
+  HoldsAll τ x = (c : ℕ) → wrote (at values items x) c ≡ true → Holds τ (x .session) c
 
   pub record HoldsAtCommit : Type 0 where
     -- with its commit call a committed transaction holds all its writer locks
-    pub withThis : (x : Name) → isCommitted x ≡ true → HoldsAll (run σ (firsts (commitPlace x) ks)) x
-    -- and with no call from its begin on before, where it wrote a cell
-    pub notBefore : (x : Name) (m : ℕ) → isCommitted x ≡ true → x .place ≤ m → m < commitPlace x
-        → (c : ℕ) → wrote (tale x) c ≡ true → HoldsAll (run σ (firsts m ks)) x → ⊥
-    -- a transaction that is open, wrote a cell and is not committed does not hold them all in the store that the list leaves
-    pub notUncommitted : (x : Name) → isOpen (tale x) ≡ true → isCommitted x ≡ false → (c : ℕ) → wrote (tale x) c ≡ true → HoldsAll (run σ ks) x → ⊥
+    pub withThis : (x : Name) → Commits values items x → HoldsAll (run σ (firsts (commitOf values items x) ks)) x
+    -- and not before: one that wrote a cell does not hold them all after any earlier call from its begin on (an earlier transaction of its session may have)
+    pub notBefore : (x : Name) (m : ℕ) → Commits values items x → x .place ≤ m → m < commitOf values items x
+        → (c : ℕ) → wrote (at values items x) c ≡ true → HoldsAll (run σ (firsts m ks)) x → ⊥
+    -- one that is open, wrote a cell and is not committed does not hold them all in the store that the list leaves
+    pub notUncommitted : (x : Name) → isOpen (at values items x) ≡ true → committed (length values) (at values items x) ≡ false
+        → (c : ℕ) → wrote (at values items x) c ≡ true → HoldsAll (run σ ks) x → ⊥
 
 -- ---- demand 3
 
@@ -107,7 +105,7 @@ pub record Demand3 (start : List Item) (σ : Store) (calls : List Call) : Type 0
 
 -- ---- demand 3 of code
 
--- calls made one after the other by code that keeps its contract: each was answered, and left, what `effect` says of what the call before left
+-- calls made one after the other by code that keeps its contract, the newest first: each was answered, and left, what `effect` says of what the call before left
 pub data Ran (σ : Store) : List Call → List Event → Store → Type 0 where
   none : Ran σ [] [] σ
   then : {ks : List Call} {h : List Event} {x : Store} → Ran σ ks h x → (k : Call) (a : Answer) (y : Store) → outcome a y ≡ effect k x

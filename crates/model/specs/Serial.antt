@@ -21,7 +21,7 @@ pub record Serial : Type 0 where
   pub values : List ℕ
   pub draft : List ℕ
 
--- a begin makes the draft the values; a write changes the draft
+-- a begin copies the values to the draft; a write changes the draft
 abbrev pub drafted : Told → Serial → Serial
 drafted began z = record { values = z .values; draft = z .values }
 drafted (got c v) z = z
@@ -34,7 +34,7 @@ abbrev pub draftedBy : List Told → Serial → Serial
 draftedBy [] z = z
 draftedBy (w ∷ ws) z = drafted w (draftedBy ws z)
 
--- the last answer, 105, makes the values the draft
+-- the last answer, 105, copies the draft to the values; `ended` does not say whether the transaction committed
 unfoldable pub serialStep : Event → Serial → Serial
 serialStep e z = cond (eqb (number (e .answer)) 105) (record { values = z .draft; draft = z .draft }) (draftedBy (tellsOf e) z)
 

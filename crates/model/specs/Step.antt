@@ -1,5 +1,5 @@
--- The calls (document 01, "The steps" and "When a call is turned down"). A call is a plan, which holds every test and the order of refusals;
--- what it answers and what it leaves go by the plan alone.
+-- The calls (document 01, "The steps" and "When a call is turned down"). A call is a plan, which holds every test and the order of refusals, and what
+-- the plan does to the store, where one test is left: whether a written cell is left above the one that is handled.
 use Prim.Native.Nat.{ℕ, suc, _+_, _*_}
 use mathlib.Core.Bool.{Bool, true, cond, not, _&&_, _||_}
 use mathlib.Core.Option.{Option, none, some}
@@ -8,7 +8,7 @@ use lib.Dec.{leb, ltb, eqb}
 use lib.ListN.{getD, set}
 use Rattle.model.specs.Search.{some?, below}
 use Rattle.model.specs.Readers.{otherReaders}
-use Rattle.model.specs.Buffers.{Locks, Buffers, Store, size, idle, running, sessionAt, withSession, withEntry, moveTo, logIn, onLog, cellAt, entryAt, slotIn, lookIn, publishesIn, targetIn, currentOf, appended, updated, lockAt, lockOn, sweep, join, leave, vacate, withdraw, claim, acquire, cap, allFit, lengthsFit, fresh}
+use Rattle.model.specs.Buffers.{Locks, Buffers, Store, size, idle, running, sessionAt, withSession, withEntry, moveTo, logIn, onLog, cellAt, entryAt, slotIn, lookIn, publishesIn, targetIn, currentOf, appended, updated, lockAt, onLock, sweep, join, leave, vacate, withdraw, claim, acquire, cap, allFit, lengthsFit, fresh}
 use Rattle.model.specs.declared.Session.{Session}
 use Rattle.model.specs.declared.Lock.{Lock}
 use Rattle.model.specs.declared.Call.{Call}
@@ -59,17 +59,16 @@ unfoldable pub handled : List ℕ → ℕ → Session → Session
 unfolding isLeft
 handled log c x = cond (isLeft log c x) (moveTo (x .phase) (suc c) x) (cond (eqb (x .phase) 4) idle (moveTo (suc (x .phase)) 0 x))
 
--- the answer to a release: 105 where the session goes idle, else 103
-unfoldable pub releasing : List ℕ → ℕ → Session → Answer
+-- the answer then: in phases 2 and 3 it is 103; in phase 4 this, 105 where the session goes idle, else 103
+unfoldable pub releaseAnswer : List ℕ → ℕ → Session → Answer
 unfolding isLeft
-releasing log c x = cond (isLeft log c x) Moved Committed
+releaseAnswer log c x = cond (isLeft log c x) Moved Committed
 
--- the store with these locks, values, logs and record of session s
+-- the store with these locks, values, logs and record of session s; with these locks; with these logs
 abbrev pub change : Store → ℕ → Locks → List ℕ → List ℕ → Session → Store
 change σ s L vs W x =
     record { lent = record { values = vs; classes = σ .lent .classes; locks = L; logs = W }; sessions = withSession (σ .sessions) s x }
 
--- the store with these locks or logs and all records as before
 abbrev pub changeLocks : Store → Locks → Store
 changeLocks σ L =
     record { lent = record { values = σ .lent .values; classes = σ .lent .classes; locks = L; logs = σ .lent .logs }; sessions = σ .sessions }
@@ -77,6 +76,20 @@ changeLocks σ L =
 abbrev pub changeLogs : Store → List ℕ → Store
 changeLogs σ W =
     record { lent = record { values = σ .lent .values; classes = σ .lent .classes; locks = σ .lent .locks; logs = W }; sessions = σ .sessions }
+
+-- one of these changed: the locks, the values, the log of session s, the record of session s
+abbrev pub onLocks : (Locks → Locks) → Store → Store
+onLocks f σ = changeLocks σ (f (σ .lent .locks))
+
+abbrev pub onValues : (List ℕ → List ℕ) → Store → Store
+onValues f σ =
+    record { lent = record { values = f (σ .lent .values); classes = σ .lent .classes; locks = σ .lent .locks; logs = σ .lent .logs }; sessions = σ .sessions }
+
+abbrev pub onLogOf : ℕ → (List ℕ → List ℕ) → Store → Store
+onLogOf s f σ = changeLogs σ (onLog s f (σ .lent .logs))
+
+abbrev pub putRecord : ℕ → Session → Store → Store
+putRecord s x σ = change σ s (σ .lent .locks) (σ .lent .values) (σ .lent .logs) x
 
 -- the calling session's record, and its log
 abbrev pub recordOf : Store → ℕ → Session
@@ -103,47 +116,40 @@ does a σ = record { answer = a; shown = noWord; store = σ }
 abbrev pub shows : Part → Store → PlanEffect
 shows w σ = record { answer = Done; shown = w; store = σ }
 
--- of a plan of session s
+-- what a plan of session s does
 unfoldable pub planEffect : ℕ → Plan → Store → PlanEffect
 -- turned down: all as before
 planEffect s (Refuse k) σ = does (Refused k) σ
 -- begin: the session runs, with count 0 and next 0
-planEffect s Start σ = does Done (change σ s (σ .lent .locks) (σ .lent .values) (σ .lent .logs) running)
+planEffect s Start σ = does Done (putRecord s running σ)
 -- read: of a cell in the log nothing changes; a new one has the session among its readers, and an entry
 planEffect s (Tell v) σ = does (Value v) σ
 planEffect s (Enter c) σ =
-    does (Value (getD (σ .lent .values) c 0))
-    (change σ s (lockOn c (join s) (σ .lent .locks)) (σ .lent .values)
-    (onLog s (λ log. appended log (recordOf σ s .count) c (getD (σ .lent .values) c 0)) (σ .lent .logs)) (withEntry (recordOf σ s)))
+    let v = getD (σ .lent .values) c 0 in
+    does (Value v)
+    (putRecord s (withEntry (recordOf σ s)) (onLogOf s (λ log. appended log (recordOf σ s .count) c v) (onLocks (onLock c (join s)) σ)))
 -- write: the entry, which may be new, has the value and is written
-planEffect s (Update k v) σ = does Done (changeLogs σ (onLog s (λ log. updated log k v) (σ .lent .logs)))
+planEffect s (Update k v) σ = does Done (onLogOf s (λ log. updated log k v) σ)
 planEffect s (EnterUpdate c v) σ =
     does Done
-    (change σ s (lockOn c (join s) (σ .lent .locks)) (σ .lent .values)
-    (onLog s (λ log. updated log (recordOf σ s .count) v) (onLog s (λ log. appended log (recordOf σ s .count) c (getD (σ .lent .values) c 0)) (σ .lent .logs)))
-    (withEntry (recordOf σ s)))
+    (putRecord s (withEntry (recordOf σ s))
+    (onLogOf s (λ log. updated log (recordOf σ s .count) v)
+    (onLogOf s (λ log. appended log (recordOf σ s .count) c (getD (σ .lent .values) c 0)) (onLocks (onLock c (join s)) σ))))
 -- rolled back, on a conflict or by abandon: at each entry's cell the session is gone, and it is idle; log words stay
-planEffect s RollBack σ =
-    does (Refused 6) (change σ s (rolledBack (logOf σ s) (recordOf σ s .count) s (σ .lent .locks)) (σ .lent .values) (σ .lent .logs) idle)
-planEffect s Cancel σ =
-    does Done (change σ s (rolledBack (logOf σ s) (recordOf σ s .count) s (σ .lent .locks)) (σ .lent .values) (σ .lent .logs) idle)
+planEffect s RollBack σ = does (Refused 6) (putRecord s idle (onLocks (rolledBack (logOf σ s) (recordOf σ s .count) s) σ))
+planEffect s Cancel σ = does Done (putRecord s idle (onLocks (rolledBack (logOf σ s) (recordOf σ s .count) s) σ))
 -- seal: read locks go; with nothing written the session is idle, else it is in phase 2 with next 0; the log stays
-planEffect s CommitReads σ =
-    does Committed (change σ s (readsDropped (logOf σ s) (recordOf σ s .count) s (σ .lent .locks)) (σ .lent .values) (σ .lent .logs) idle)
+planEffect s CommitReads σ = does Committed (putRecord s idle (onLocks (readsDropped (logOf σ s) (recordOf σ s .count) s) σ))
 planEffect s BeginPromotion σ =
-    does Sealed
-    (change σ s (readsDropped (logOf σ s) (recordOf σ s .count) s (σ .lent .locks)) (σ .lent .values) (σ .lent .logs) (moveTo 2 0 (recordOf σ s)))
--- advance, phase 2: claimant, and with the mark where nobody else reads, when the cell is handled
-planEffect s (Wait c) σ = does Waiting (changeLocks σ (lockOn c (claim s) (σ .lent .locks)))
-planEffect s (Acquire c) σ =
-    does Moved (change σ s (lockOn c (acquire s) (σ .lent .locks)) (σ .lent .values) (σ .lent .logs) (handled (logOf σ s) c (recordOf σ s)))
+    does Sealed (putRecord s (moveTo 2 0 (recordOf σ s)) (onLocks (readsDropped (logOf σ s) (recordOf σ s .count) s) σ))
+-- advance, phase 2: where others read, the session becomes claimant and waits; else claimant with mark 1, and the cell is handled
+planEffect s (Wait c) σ = does Waiting (onLocks (onLock c (claim s)) σ)
+planEffect s (Acquire c) σ = does Moved (putRecord s (handled (logOf σ s) c (recordOf σ s)) (onLocks (onLock c (acquire s)) σ))
 -- advance, phase 3: the present value is put in the store; the cell is handled
-planEffect s (Publish c v) σ =
-    does Moved (change σ s (σ .lent .locks) (set (σ .lent .values) c v) (σ .lent .logs) (handled (logOf σ s) c (recordOf σ s)))
--- advance, phase 4: the lock is free of the session; the cell is handled
+planEffect s (Publish c v) σ = does Moved (putRecord s (handled (logOf σ s) c (recordOf σ s)) (onValues (λ vs. set vs c v) σ))
+-- advance, phase 4: the session leaves the readers, nobody is claimant, the mark is 0; the cell is handled
 planEffect s (Release c) σ =
-    does (releasing (logOf σ s) c (recordOf σ s))
-    (change σ s (lockOn c (vacate s) (σ .lent .locks)) (σ .lent .values) (σ .lent .logs) (handled (logOf σ s) c (recordOf σ s)))
+    does (releaseAnswer (logOf σ s) c (recordOf σ s)) (putRecord s (handled (logOf σ s) c (recordOf σ s)) (onLocks (onLock c (vacate s)) σ))
 -- peek: the store's word, or the present value's word of entry k; nothing changes
 planEffect s (ShowStore c) σ = shows (storeWord c) σ
 planEffect s (ShowLog k) σ = shows (logWord (128 * s + (4 * k + 2))) σ
@@ -160,11 +166,15 @@ unfoldable pub after : ℕ → Plan → Store → Store
 unfolding planEffect
 after s p σ = planEffect s p σ .store
 
--- ---- plans, with the order of refusals: 7, 1, 9, 2, 3, 8, 4, then 14 or 5, then 6
+-- ---- plans, with the order of refusals: 7 and 1 in `admit`, 9 and 2 in `guard`, 3 in `known`, 8 and 4 in `writePlan`, 14 in `peekSlot`, 5 and 6 in `newCell`
 
--- a test that must pass, what becomes of the call where it fails, and what else: tests read from top to bottom
+-- a test, what becomes of the call where it fails, and what where it passes
 abbrev pub require : {A : Type 0} → Bool → A → A → A
 require ok refused p = cond ok p refused
+
+-- wrong lengths are 7, then a session above 15 is 1
+abbrev pub admit : Buffers → ℕ → Plan → Plan
+admit B s p = require (lengthsFit B) (Refuse 7) (require (ltb s 16) (Refuse 1) p)
 
 -- refusal 9: phase at most 4; in phases 1 to 4 at most 32 entries, each of a cell below n; in phases 2 to 4 a written cell not below next
 unfoldable pub entriesFit : ℕ → List ℕ → Session → Bool
@@ -197,7 +207,7 @@ readSlot log x l c (some k) = Tell (entryAt log k .current)
 unfoldable pub readPlan : ℕ → List ℕ → Session → Lock → ℕ → Plan
 readPlan n log x l c = guard n log x (eqb (x .phase) 1) (known n c (readSlot log x l c (slotIn log (x .count) c)))
 
--- write: a class above 15 is 8, a value above the cap m is 4; a new cell is entered as by read; then the entry is updated
+-- write: a new cell is entered as by read, then the entry is updated; before that a value above the cap m is 4, and a class above 15 is 8
 unfoldable pub writeSlot : Session → Lock → ℕ → ℕ → Option ℕ → Plan
 writeSlot x l c v none = newCell x l (EnterUpdate c v)
 writeSlot x l c v (some k) = Update k v
@@ -222,7 +232,7 @@ unfoldable pub promotePlan : ℕ → ℕ → Lock → Plan
 promotePlan s c l =
     cond (claimed l && not (eqb (l .claimant) s)) RollBack (cond (eqb (otherReaders s (l .readers)) 0) (Acquire c) (Wait c))
 
--- advance at the lowest written cell not below next
+-- advance at the lowest written cell not below next, where there is one: where not, `guard` has refused by 9
 unfoldable pub advanceTarget : ℕ → List ℕ → Session → (ℕ → Lock) → Option ℕ → Plan
 advanceTarget s log x lock none = Refuse 9
 advanceTarget s log x lock (some c) =
@@ -262,10 +272,7 @@ sessionOf (Advance s) = s
 sessionOf (Abandon s) = s
 sessionOf (Peek s c) = s
 
--- wrong lengths are 7, a session above 15 is 1
-abbrev pub admit : Buffers → ℕ → Plan → Plan
-admit B s p = require (lengthsFit B) (Refuse 7) (require (ltb s 16) (Refuse 1) p)
-
+-- a call's plan in a store: 7 and 1, then the plan of what its session sees
 unfoldable pub planOf : Call → Store → Plan
 planOf k σ =
     admit (σ .lent) (sessionOf k)
@@ -288,7 +295,7 @@ setUpAnswer B = require (lengthsFit B) (Refused 7) (require (allFit (B .values) 
 unfoldable pub setUp : Store → Store
 setUp σ = require (lengthsFit (σ .lent)) σ (require (allFit (σ .lent .values) (σ .lent .classes)) σ (fresh (σ .lent)))
 
--- a call's whole effect: what it answers, and all that it leaves
+-- a call's answer and all that it leaves; what a peek is shown is `peekShows`
 pub record Outcome : Type 0 where
   pub answer : Answer
   pub store : Store

@@ -23,7 +23,7 @@ pub data Told : Type 0 where
 unfoldable pub ending : Answer → List Told
 ending a = cond (eqb (number a) 6 || eqb (number a) 105) (ended ∷ []) []
 
--- what a call with its answer tells, the newest first: a seal answered 105 tells the seal and then the end; a peek gets nothing as read does
+-- what a call with its answer tells, the newest first: a seal answered 105 tells the seal and then the end; a peek's word does not count as read
 unfoldable pub tells : Call → Answer → List Told
 tells (Begin s) a = cond (eqb (number a) 100) (began ∷ []) (ending a)
 tells (Read s c) a = cond (eqb (number a) 101) (got c (valueOf a) ∷ []) (ending a)

@@ -81,22 +81,32 @@ impl Answer {
     }
 }
 
-// What a call decides before it changes anything; specs/Step.antt says what each leaves and answers.
+// What a call decides before it changes anything; `planEffect` in specs/Step.antt says what each answers and leaves.
 pub enum Plan {
+    // the number of a refusal
     Refuse(u8),
     Start,
+    // a known cell's value
     Tell(u32),
+    // a new cell
     Enter(u32),
+    // an entry, and its value from now on
     Update(u32, u32),
+    // a new cell, and its value from now on
     EnterUpdate(u32, u32),
+    // on a conflict, 6
     RollBack,
+    // by abandon, 100
     Cancel,
     CommitReads,
     BeginPromotion,
+    // the cell of an advance
     Wait(u32),
     Acquire(u32),
+    // the cell, and the value that it gets
     Publish(u32, u32),
     Release(u32),
+    // a cell of the store, an entry of the log
     ShowStore(u32),
     ShowLog(u32),
 }

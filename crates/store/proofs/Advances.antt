@@ -10,7 +10,7 @@ use lib.ListN.{length, set}
 use Rattle.model.specs.Readers.{otherReaders}
 use Rattle.model.specs.Search.{below}
 use Rattle.model.specs.Buffers.{Locks, Store, size, idle, sessionAt, cellAt, entryAt, lockAt, setLock, claim, acquire, vacate}
-use Rattle.model.specs.Step.{outcome, effect, planOf, recordOf, logOf, handled, releasing, claimed, promotePlan, rolledBack}
+use Rattle.model.specs.Step.{outcome, effect, planOf, recordOf, logOf, handled, releaseAnswer, claimed, promotePlan, rolledBack}
 use Rattle.model.specs.declared.Session.{Session}
 use Rattle.model.specs.declared.Lock.{Lock}
 use Rattle.model.specs.declared.Call.the-variants.{Advance}
@@ -171,7 +171,7 @@ module _ {σ : Store} {s k c : ℕ} {l : Lock} {p : Plan} (w : Decided σ s k c 
     moves : (recordIn σ s .phase ≡ 4 → ⊥) → h .answer ≡ Moved
     moves n = rw (g, cut-is) (handled-moves (logOf σ s) (recordIn σ s) c n)
 
-    ends : recordIn σ s .phase ≡ 4 → h .answer ≡ releasing (logOf σ s) c (recordIn σ s)
+    ends : recordIn σ s .phase ≡ 4 → h .answer ≡ releaseAnswer (logOf σ s) c (recordIn σ s)
     ends n = rw (g, cut-is) (handled-releases (logOf σ s) (recordIn σ s) c n)
 
     pub leaves-acquired : (d : ℕ) → p ≡ Acquire d → (m : Lock) (L : Locks) → m ≡ acquire s l → L ≡ setLock c m (σ .lent .locks)

@@ -3,8 +3,8 @@ use mathlib.Core.Path.{_≡_, refl, _∙_}
 use Prim.Native.Nat.{ℕ}
 use mathlib.Core.List.{List}
 use lib.ListN.{getD, set}
-use Rattle.model.specs.Buffers.{Locks, Store, idle, running, withSession, withEntry, moveTo, lockAt, setLock, lockOn, join, claim, acquire, vacate, onLog, appended, updated}
-use Rattle.model.specs.Step.{outcome, effect, reply, step, planOf, sessionOf, recordOf, answer, after, logOf, rolledBack, readsDropped, handled, releasing}
+use Rattle.model.specs.Buffers.{Locks, Store, idle, running, withSession, withEntry, moveTo, lockAt, setLock, onLock, join, claim, acquire, vacate, onLog, appended, updated}
+use Rattle.model.specs.Step.{outcome, effect, reply, step, planOf, sessionOf, recordOf, answer, after, logOf, rolledBack, readsDropped, handled, releaseAnswer}
 use Rattle.model.specs.declared.Session.{Session}
 use Rattle.model.specs.declared.Lock.{Lock}
 use Rattle.model.specs.declared.Call.{Call}
@@ -19,8 +19,8 @@ unfolding outcomeOf effect reply step
 carries k σ p e = rw e
 
 -- the lock of a cell, changed by f and put back
-pub put-on : (f : Lock → Lock) (c : ℕ) (L M : Locks) (l m : Lock) → M ≡ setLock c m L → m ≡ f l → l ≡ lockAt L c → M ≡ lockOn c f L
-unfolding lockOn
+pub put-on : (f : Lock → Lock) (c : ℕ) (L M : Locks) (l m : Lock) → M ≡ setLock c m L → m ≡ f l → l ≡ lockAt L c → M ≡ onLock c f L
+unfolding onLock
 put-on f c L M l m e g h = rw (← h, ← g) e
 
 -- the store with these locks, values and logs, and record y in place s of the sixteen; or with all records as before
@@ -60,7 +60,7 @@ module _ (s : ℕ) (σ : Store) where
   carry-start y e = rw e
 
   -- a new cell's locks and entry
-  module _ (c v : ℕ) (L : Locks) (W : List ℕ) (y : Session) (found : v ≡ getD (σ .lent .values) c 0) (joined : L ≡ lockOn c (join s) (σ .lent .locks))
+  module _ (c v : ℕ) (L : Locks) (W : List ℕ) (y : Session) (found : v ≡ getD (σ .lent .values) c 0) (joined : L ≡ onLock c (join s) (σ .lent .locks))
       (entry : y ≡ withEntry (recordOf σ s)) where
     pub carry-enter : W ≡ onLog s (λ log. appended log (recordOf σ s .count) c v) (σ .lent .logs)
         → outcome (Value v) (leaves σ s L (σ .lent .values) W y) ≡ outcomeOf s (Enter c) σ
@@ -101,13 +101,13 @@ module _ (s : ℕ) (σ : Store) where
 
   -- ---- advance
 
-  pub carry-wait : (c : ℕ) (L : Locks) → L ≡ lockOn c (claim s) (σ .lent .locks) → outcome Waiting (keeps σ L (σ .lent .logs)) ≡ outcomeOf s (Wait c) σ
+  pub carry-wait : (c : ℕ) (L : Locks) → L ≡ onLock c (claim s) (σ .lent .locks) → outcome Waiting (keeps σ L (σ .lent .logs)) ≡ outcomeOf s (Wait c) σ
   unfolding outcomeOf answer after
   carry-wait c L l = rw l
 
   -- a handled cell's record y and answer a
   module _ (c : ℕ) (y : Session) (a : Answer) (record-is : y ≡ handled (logOf σ s) c (recordOf σ s)) where
-    pub carry-acquire : (L : Locks) → a ≡ Moved → L ≡ lockOn c (acquire s) (σ .lent .locks)
+    pub carry-acquire : (L : Locks) → a ≡ Moved → L ≡ onLock c (acquire s) (σ .lent .locks)
         → outcome a (leaves σ s L (σ .lent .values) (σ .lent .logs) y) ≡ outcomeOf s (Acquire c) σ
     unfolding outcomeOf answer after withSession
     carry-acquire L e l = rw (l, e, record-is)
@@ -117,7 +117,7 @@ module _ (s : ℕ) (σ : Store) where
     unfolding outcomeOf answer after withSession
     carry-publish v vs e w = rw (w, e, record-is)
 
-    pub carry-release : (L : Locks) → a ≡ releasing (logOf σ s) c (recordOf σ s) → L ≡ lockOn c (vacate s) (σ .lent .locks)
+    pub carry-release : (L : Locks) → a ≡ releaseAnswer (logOf σ s) c (recordOf σ s) → L ≡ onLock c (vacate s) (σ .lent .locks)
         → outcome a (leaves σ s L (σ .lent .values) (σ .lent .logs) y) ≡ outcomeOf s (Release c) σ
     unfolding outcomeOf answer after withSession
     carry-release L e l = rw (l, e, record-is)

@@ -6,7 +6,7 @@ use Prim.Native.Nat.{ℕ, _+_, _*_, _<_, _≤_}
 use native.Mathlib.Omega.{arith}
 use lib.Dec.{T, eqb}
 use lib.ListN.{length, getD, length-set}
-use Rattle.model.specs.Buffers.{Locks, Store, size, idle, sessionAt, withEntry, lockAt, lockOn, logIn, onLog, entryAt, join, appended, updated}
+use Rattle.model.specs.Buffers.{Locks, Store, size, idle, sessionAt, withEntry, lockAt, onLock, logIn, onLog, entryAt, join, appended, updated}
 use Rattle.model.specs.Step.{outcome, effect, plan, planOf, logOf, sessionOf, readPlan, writePlan, rolledBack}
 use Rattle.model.specs.declared.Session.{Session}
 use Rattle.model.specs.declared.Lock.{Lock}
@@ -116,7 +116,7 @@ module _ {σ : Store} {s c : ℕ} {l : Lock} {p : Plan} where
   pub read-told : OfRead Decided σ s c l p → (v : ℕ) → p ≡ Tell v → outcome (Value v) σ ≡ effect (Read s c) σ
   read-told d v e = carry-tell s σ v ∙ carries (Read s c) σ (Tell v) (sym e ∙ d .planned)
 
-  pub read-entered : OfRead New σ s c l p → (L : Locks) (P : List ℕ) (y : Session) → L ≡ lockOn c (join s) (σ .lent .locks)
+  pub read-entered : OfRead New σ s c l p → (L : Locks) (P : List ℕ) (y : Session) → L ≡ onLock c (join s) (σ .lent .locks)
       → P ≡ appended (cut (σ .lent .logs) s) (recordIn σ s .count) c (getD (σ .lent .values) c 0) → y ≡ withEntry (recordIn σ s)
       → outcome (Value (getD (σ .lent .values) c 0)) (leaves σ s L (σ .lent .values) (puts (σ .lent .logs) s P) y) ≡ effect (Read s c) σ
   unfolding sessionAt
@@ -181,7 +181,7 @@ module _ {σ : Store} {s c v : ℕ} {l : Lock} {p : Plan} where
           ap length (put-is (puts (σ .lent .logs) s P) s change Q q)
           ∙ length-on s (puts (σ .lent .logs) s P) low words-still change changed-long ∙ words-still ∙ sym words
 
-      pub write-entered : (L : Locks) (y : Session) → L ≡ lockOn c (join s) (σ .lent .locks) → y ≡ withEntry (recordIn σ s)
+      pub write-entered : (L : Locks) (y : Session) → L ≡ onLock c (join s) (σ .lent .locks) → y ≡ withEntry (recordIn σ s)
           → outcome Done (leaves σ s L (σ .lent .values) (puts (puts (σ .lent .logs) s P) s Q) y) ≡ effect (Write s c v) σ
       unfolding sessionAt
       write-entered L y g r =

@@ -7,7 +7,7 @@ use lib.ListN.{length, take, drop}
 use denote.Ref.{RefT, now}
 use Rattle.model.specs.Search.{below}
 use Rattle.model.specs.Slices.{Slice}
-use Rattle.model.specs.Buffers.{Store, size, withSession, cellAt, appended, lockAt, lockOn, join, lengthsFit}
+use Rattle.model.specs.Buffers.{Store, size, withSession, cellAt, appended, lockAt, onLock, join, lengthsFit}
 use Rattle.model.specs.Step.{Outcome, outcome, answer, after, recordOf, logOf, planOf, effect, setUpEffect, peekShows, Part, storeWord, logWord, noWord}
 use Rattle.model.specs.declared.Call.{Call}
 use Rattle.model.specs.declared.Call.the-variants.{Peek}
@@ -57,7 +57,7 @@ SetsUp values classes readers claimants exclusives logs ss r =
 -- a new cell's lock and entry k, which holds the value v
 abbrev pub Enters : Slice → Slice → Slice → Slice → ℕ → ℕ → ℕ → ℕ → Type 0
 Enters readers claimants exclusives log k s c v =
-    (locksAfter readers claimants exclusives ≡ lockOn c (join s) (locksBefore readers claimants exclusives))
+    (locksAfter readers claimants exclusives ≡ onLock c (join s) (locksBefore readers claimants exclusives))
     × (now (log .exit) ≡ appended (now (log .entry)) k c v)
 
 -- ---- an advance at entry k

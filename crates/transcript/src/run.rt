@@ -8,7 +8,6 @@ use crate::lines;
 use model::Call;
 use model::Session;
 use model::Sessions;
-ghost use mathlib.Core.Path.{_≡_};
 ghost use Prim.Native.Nat.{_+_, _≤_, _<_};
 ghost use lib.ListN.{length};
 ghost use Rattle.store.specs.Lent.{before};
