@@ -1,4 +1,4 @@
--- Where a transaction's snapshot and commit stand: at places of what it tells, after its begin.
+-- Where a transaction's snapshot and commit stand: at places of what it tells, the snapshot after its begin.
 use Prim.Native.Nat.{ℕ, suc, _<_}
 use native.Mathlib.Omega.{arith}
 use mathlib.Core.Path.{_≡_, refl}
@@ -10,29 +10,16 @@ use lib.ListN.{length}
 use borrow.Author.Tests.{ltb-true}
 use Rattle.model.specs.History.{Item, Name, cellsWritten, snapshot, movesIn, moveNumber, commit, committed}
 use Rattle.model.specs.Isolation.{All, Any, at, Commits, snapshotOf, commitOf, ToldAt}
-use Rattle.model.specs.Told.{Told, began, got, put, sealed, moved, ended, begins, seals, moves}
+use Rattle.model.specs.Told.{seals, moves}
 use Rattle.model.proofs.Matching.{Stands}
-use Rattle.model.proofs.Tools.{test, clash, both-l}
-
--- a seal is no begin
-after-begin : (x : Name) (i : Item) → Stands x i → seals (i .told) ≡ true → x .place < i .place
-after-begin x i (inr l) y = l
-after-begin x i (inl b) y = absurd (go (i .told) b y)
-  where
-    go : (w : Told) → begins w ≡ true → seals w ≡ true → ⊥
-    go began b y = clash false y refl
-    go (got c v) b y = clash false y refl
-    go (put c v) b y = clash false y refl
-    go sealed b y = clash false b refl
-    go moved b y = clash false y refl
-    go ended b y = clash false y refl
+use Rattle.model.proofs.Tools.{test, both-l}
 
 snapshot-any : (x : Name) (t : List Item) → All (Stands x) t → 0 < snapshot t
     → Any (λ (i : Item). (i .place ≡ snapshot t) × (seals (i .told) ≡ true)) t × (x .place < snapshot t)
 unfolding snapshot
 snapshot-any x [] a h = absurd (omega arith)
 snapshot-any x (i ∷ t) a h =
-    test (seals (i .told)) (λ y. rw y (inl (refl, refl), after-begin x i (a .0) y))
+    test (seals (i .told)) (λ y. rw y (inl (refl, refl), a .0 y))
     (λ y. rw y (let w = snapshot-any x t (a .1) (rw y at h) in (inr (w .0), w .1)))
 
 move-any : (m : ℕ) (t : List Item) → 0 < moveNumber m t → Any (λ (i : Item). (i .place ≡ moveNumber m t) × (moves (i .told) ≡ true)) t

@@ -8,7 +8,7 @@ use lib.Dec.{eqb}
 use borrow.Author.Tests.{eqb-true, eq-eqb, ne-eqb, not-true}
 use Rattle.model.specs.History.{Item, Name, name, extend, transaction, isOpen, wrote, valueWritten, readsBeforeWriting, snapshot, commit, committed}
 use Rattle.model.specs.Isolation.{All}
-use Rattle.model.specs.Told.{Told, began, got, put, sealed, moved, ended, begins, ends, ReadOf}
+use Rattle.model.specs.Told.{Told, began, got, put, sealed, moved, ended, begins, seals, ends, ReadOf}
 use Rattle.model.proofs.Invariant.{all-map}
 use Rattle.model.proofs.Ledger.{Txn, opened, Commit, Ledger, asCommit, amend, starts, note, hear}
 use Rattle.model.proofs.Tools.{same, test, clash, both-l, both-r, upd, upd-same, upd-other}
@@ -69,9 +69,9 @@ abbrev pub In : Name → List Commit → Type 0
 In x [] = ⊥
 In x (k ∷ ks) = (nameOf k ≡ x) ⊎ In x ks
 
--- what a transaction tells, it tells after its begin
+-- a transaction's seal stands after its begin; what else it tells may share the begin's place, as at a start
 abbrev pub Stands : Name → Item → Type 0
-Stands x i = (begins (i .told) ≡ true) ⊎ (x .place < i .place)
+Stands x i = seals (i .told) ≡ true → x .place < i .place
 
 pub record Matches (n : ℕ) (h : List Item) (T : Ledger) : Type 0 where
   pub open′ : (x : Name) → isOpen (transaction x h) ≡ true → T .mine (x .session) ≡ summary n (x .place) (transaction x h)
@@ -163,7 +163,7 @@ module _ {n : ℕ} {h : List Item} {T : Ledger} (M : Matches n h T) (s : ℕ) (w
         st : (x : Name) → Next x i h → All (Stands x) (transaction x (i ∷ h))
         st x (stays e _) = rw e (M .stands x)
         st x (grows e o _) = absurd (shut x e o)
-        st x (starts-here y _ _ _ e) = rw e (inl y, tt)
+        st x (starts-here _ _ _ _ e) = rw e ((λ z. absurd (clash (seals w) z (ap seals b))), tt)
 
   -- the open transaction of the session goes on
   module _ (l : T .mine s .live ≡ true) (b : begins w ≡ false) (fits : Fits (T .mine s) w) (late : 0 < T .place)
@@ -250,7 +250,7 @@ module _ {n : ℕ} {h : List Item} {T : Ledger} (M : Matches n h T) (s : ℕ) (w
 
         st : (x : Name) → Next x i h → All (Stands x) (transaction x (i ∷ h))
         st x (stays e _) = rw e (M .stands x)
-        st x (grows e o g) = rw g (inr (before x o), M .stands x)
+        st x (grows e o g) = rw g ((λ _. before x o), M .stands x)
         st x (starts-here y _ _ _ _) = absurd (clash (begins w) y b)
 
     -- with the commit that it may make
