@@ -19,6 +19,8 @@ pub mod Agreement
 pub mod Commits
 pub mod Writers
 pub mod Demand3
+pub mod Resuming
+pub mod Started
 pub mod Orders
 pub mod Cases
 pub mod Anomalies

@@ -20,7 +20,7 @@ name-is p s x a b = rw (a, b)
 pub cond-at {ℓ} : {A : Type ℓ} (b : Bool) (x y : A) → b ≡ true → cond b x y ≡ x
 cond-at b x y h = rw h
 
-cond-off {ℓ} : {A : Type ℓ} (b : Bool) (x y : A) → b ≡ false → cond b x y ≡ y
+pub cond-off {ℓ} : {A : Type ℓ} (b : Bool) (x y : A) → b ≡ false → cond b x y ≡ y
 cond-off b x y h = rw h
 
 -- ---- a transaction, and one thing more told

@@ -61,7 +61,7 @@ moveNumber-none m t h =
 
 -- ---- one thing more told
 
-build : (p : ℕ) (l : Bool) {r r′ : List ReadOf} {w w′ : ℕ → Bool} {v v′ : ℕ → ℕ} {s s′ m m′ : ℕ} {d d′ : Bool} {c c′ : ℕ}
+pub build : (p : ℕ) (l : Bool) {r r′ : List ReadOf} {w w′ : ℕ → Bool} {v v′ : ℕ → ℕ} {s s′ m m′ : ℕ} {d d′ : Bool} {c c′ : ℕ}
     → r ≡ r′ → w ≡ w′ → v ≡ v′ → s ≡ s′ → m ≡ m′ → d ≡ d′ → c ≡ c′
     → _≡_ {A = Txn} (record { began = p; live = l; reads = r; wrote = w; value = v; snap = s; moved = m; done = d; commit = c })
     (record { began = p; live = l; reads = r′; wrote = w′; value = v′; snap = s′; moved = m′; done = d′; commit = c′ })
@@ -80,7 +80,7 @@ module _ (n q s : ℕ) (t : List Item) where
   plain-commit w a b c = rw (a, b, c)
 
   -- not committed: the place is 0
-  not-yet : committed n t ≡ false → commit n t ≡ 0
+  pub not-yet : committed n t ≡ false → commit n t ≡ 0
   unfolding committed
   not-yet d = let w = ltb-false 0 (commit n t) d in omega arith
 
