@@ -5,7 +5,7 @@ use native.Mathlib.Omega.{arith}
 use mathlib.Core.Path.{_≡_, refl, subst}
 use mathlib.Core.Bool.{Bool, true, not, _&&_}
 use mathlib.Core.List.{List, [], _∷_, map, reverse}
-use lib.ListN.{replicate}
+use lib.ListN.{length, replicate}
 use Rattle.model.specs.declared.Call.{Call}
 use Rattle.model.specs.declared.Call.the-variants.{Begin, Read, Write, Seal, Advance}
 use Rattle.model.specs.declared.Answer.{Answer}
@@ -21,7 +21,7 @@ use Rattle.model.proofs.Demand3.{demand3-from}
 use Rattle.model.proofs.Ledger.{Ledger, blank, amend, starts, observe, ledger}
 use Rattle.model.proofs.Names.{committed-in}
 use Rattle.model.proofs.Resuming.{NoneSealed, by-sixteen, atStart, restart, openOf, openBelow, openItems, resumes}
-use Rattle.model.proofs.Runs.{inv-fresh, Ready, ready}
+use Rattle.model.proofs.Runs.{inv-fresh, Ready, ledger-of, ready}
 use Rattle.model.proofs.SerialExamples.{given}
 use Rattle.model.proofs.Tools.{clash, upd}
 
@@ -48,14 +48,65 @@ toldWith v = item 0 0 (put 0 4) ∷ item 0 0 (got 1 v) ∷ item 0 0 began ∷ []
 abbrev opening : List Call
 opening = Write 0 0 4 ∷ Read 0 1 ∷ Begin 0 ∷ []
 
-abbrev ledgered : Ledger
-ledgered = ledger 2 blank (fresh (given .lent)) opening
+abbrev setUpReady : Ready (fresh (given .lent)) [] blank
+setUpReady = ready (fresh (given .lent)) (inv-fresh (given .lent))
 
 record Led : Type 0 where
   store : run (fresh (given .lent)) opening ≡ started
-  items : openItems (history [] (fresh (given .lent)) opening) ledgered ≡ toldWith 5
+  items : openItems (history [] (fresh (given .lent)) opening) (ledger-of setUpReady opening) ≡ toldWith 5
+  records : length (run (fresh (given .lent)) opening .sessions .records) ≡ 16
   sixteen : below 2 (λ s. recordOf (run (fresh (given .lent)) opening) s .phase) 16 ≡ true
 
 led : Led
 unfolding started given openItems openBelow openOf atStart ledger observe amend starts upd computing counting
-led = record { store = refl; items = refl; sixteen = refl }
+led = record { store = refl; items = refl; records = refl; sixteen = refl }
+
+pub started-ready : Ready started (toldWith 5) (restart (ledger-of setUpReady opening))
+started-ready =
+    let T = ledger-of setUpReady opening in
+    subst (λ (σ : Store). Ready σ (toldWith 5) (restart T)) (led .store)
+    (subst (λ (h : List Item). Ready (run (fresh (given .lent)) opening) h (restart T)) (led .items)
+    (resumes setUpReady opening (by-sixteen (run (fresh (given .lent)) opening) (led .records) (led .sixteen))))
+
+pub started-demand3 : (calls : List Call) → Demand3 (toldWith 5) started calls
+started-demand3 = demand3-from started-ready
+
+-- ---- it commits
+
+-- session 1 reads the cell that session 0 has written, which waits for it
+unfoldable pub onward : List Call
+onward = Begin 1 ∷ Read 1 0 ∷ Seal 0 ∷ Advance 0 ∷ Seal 1 ∷ Advance 0 ∷ Advance 0 ∷ Advance 0 ∷ []
+
+-- all that is told then
+abbrev pub toldAfter : ℕ → List Item
+toldAfter v = history (toldWith v) started (reverse onward)
+
+pub onward-answers : map {B = Answer} (λ (e : Event). e .answer) (events started (reverse onward)) ≡ reverse (Done ∷ Value 3 ∷ Sealed ∷ Waiting ∷ Committed ∷ Moved ∷ Moved ∷ Committed ∷ [])
+unfolding started onward computing counting
+onward-answers = refl
+
+-- its snapshot is its seal, at place 3; its commit the second advance, at place 6; session 1's snapshot and commit are at place 5
+pub onward-commits : (snapshot (transaction (name 0 0) (toldAfter 5)) ≡ 3) × (commit 2 (transaction (name 0 0) (toldAfter 5)) ≡ 6)
+    × (readsBeforeWriting (transaction (name 0 0) (toldAfter 5)) ≡ record { cell = 1; value = 5 } ∷ [])
+    × (snapshot (transaction (name 1 1) (toldAfter 5)) ≡ 5) × (commit 2 (transaction (name 1 1) (toldAfter 5)) ≡ 5)
+    × (run started (reverse onward) .lent .values ≡ 4 ∷ 5 ∷ [])
+unfolding started onward computing counting
+onward-commits = (refl, refl, refl, refl, refl, refl)
+
+-- by the theorem: what it read before the start is the last commit's before its snapshot
+pub onward-read : Last (3 ∷ 5 ∷ []) (toldAfter 5) 1 3 5
+unfolding started onward computing counting
+onward-read = started-demand3 onward .isolated .reads (name 0 0) refl .0
+
+-- ---- with 6 told as read there is no ledger that makes it a start
+
+pub misread-refused : (T : Ledger) → Ready started (toldWith 6) T → ⊥
+unfolding started onward computing counting
+misread-refused T R = go (demand3-from R onward .isolated .reads (name 0 0) refl .0)
+  where
+    free : Name → Bool
+    free x = not (committed 2 (transaction x (toldAfter 6)) && wrote (transaction x (toldAfter 6)) 1)
+
+    go : Last (3 ∷ 5 ∷ []) (toldAfter 6) 1 3 6 → ⊥
+    go (noCommit _ e) = omega arith
+    go (lastCommit x c _ _) = clash (free x) (committed-in 2 free (toldAfter 6) refl x (c .commits)) (rw (c .commits, c .wrote))
