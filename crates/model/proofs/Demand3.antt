@@ -14,7 +14,7 @@ use Rattle.model.proofs.Runs.{inv-fresh, Ready, ready}
 use Rattle.model.proofs.Tools.{test}
 use Rattle.model.proofs.Writers.{writing, isolation}
 
--- demand 3 from any start that has the invariant
+-- demand 3 from any start: what set-up leaves, or a store with the invariant in which transactions run, none of them sealed or committed
 pub demand3-from : {σ : Store} {start : List Item} {T : Ledger} → Ready σ start T → (calls : List Call) → Demand3 start σ calls
 demand3-from R calls = record { isolated = isolation R (reverse calls); locks = writing R (reverse calls) }
 

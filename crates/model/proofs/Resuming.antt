@@ -3,21 +3,18 @@
 use Prim.Native.Nat.{ℕ, zero, suc, _≤_, _<_}
 use native.Mathlib.Omega.{arith}
 use mathlib.Core.Path.{_≡_, refl, sym, _∙_, ap, subst, fun-ext}
-use mathlib.Core.Logic.{_⊎_, inl, inr}
-use mathlib.Core.Bool.{Bool, true, false, cond, _&&_}
-use mathlib.Core.Option.{Option, none, some}
-use mathlib.Core.List.{List, [], _∷_, _++_, reverse}
+use mathlib.Core.Bool.{true, false, cond, _&&_}
+use mathlib.Core.List.{List, [], _∷_, _++_}
 use lib.Dec.{ltb, eqb}
-use lib.ListN.{length, getD, List·getD-eq-default}
+use lib.ListN.{length, List·getD-eq-default}
 use borrow.Author.Tests.{eq-eqb, ne-eqb, not-true, ltb-true, ltb-false}
-use Rattle.model.specs.declared.Session.{Session}
 use Rattle.model.specs.declared.Call.{Call}
-use Rattle.model.specs.Buffers.{Store, Entry, idle, sessionAt}
+use Rattle.model.specs.Buffers.{Store, idle, sessionAt}
 use Rattle.model.specs.History.{Item, item, run, history, Name, name, extend, transaction, isOpen, wrote, valueWritten, cellsWritten, readsBeforeWriting, snapshot, movesIn, moveNumber, commit, committed}
 use Rattle.model.specs.Isolation.{All, Demand3}
 use Rattle.model.specs.Search.{below}
 use Rattle.model.specs.Step.{recordOf}
-use Rattle.model.specs.Told.{Told, seals, moves, ends, readUnless}
+use Rattle.model.specs.Told.{Told, seals, moves, ends}
 use Rattle.model.proofs.Demand3.{demand3-from}
 use Rattle.model.proofs.Effects.{idle-out, running-role}
 use Rattle.model.proofs.Invariant.{roleOf, role, latest, all-map, Running, Link, Shape, Inv}

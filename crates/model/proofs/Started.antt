@@ -12,7 +12,7 @@ use Rattle.model.specs.declared.Answer.{Answer}
 use Rattle.model.specs.declared.Answer.the-variants.{Done, Value, Sealed, Moved, Waiting, Committed}
 use Rattle.model.specs.Buffers.{Store, idle, fresh}
 use Rattle.model.specs.Computing.{computing, counting}
-use Rattle.model.specs.History.{Event, run, events, Item, item, history, name, Name, transaction, wrote, valueWritten, readsBeforeWriting, snapshot, commit, committed}
+use Rattle.model.specs.History.{Event, run, events, Item, item, history, name, Name, transaction, wrote, readsBeforeWriting, snapshot, commit, committed}
 use Rattle.model.specs.Isolation.{Last, lastCommit, noCommit, Demand3}
 use Rattle.model.specs.Search.{below}
 use Rattle.model.specs.Step.{recordOf}
@@ -20,7 +20,7 @@ use Rattle.model.specs.Told.{began, got, put}
 use Rattle.model.proofs.Demand3.{demand3-from}
 use Rattle.model.proofs.Ledger.{Ledger, blank, amend, starts, observe, ledger}
 use Rattle.model.proofs.Names.{committed-in}
-use Rattle.model.proofs.Resuming.{NoneSealed, by-sixteen, atStart, restart, openOf, openBelow, openItems, resumes}
+use Rattle.model.proofs.Resuming.{by-sixteen, atStart, restart, openOf, openBelow, openItems, resumes}
 use Rattle.model.proofs.Runs.{inv-fresh, Ready, ledger-of, ready}
 use Rattle.model.proofs.SerialExamples.{given}
 use Rattle.model.proofs.Tools.{clash, upd}

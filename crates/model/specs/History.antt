@@ -50,7 +50,8 @@ abbrev pub add : ℕ → ℕ → List Told → List Item → List Item
 add q s [] h = h
 add q s (w ∷ ws) h = item q s w ∷ add q s ws h
 
--- what events tell, after `start`: what was told before the first call, all of it at place 0; nothing (`[]`) from set-up on
+-- what events tell, after `start`: what the transactions that are open before the first call have told, all of it at place 0; they run, none of them sealed
+-- or committed. Nothing (`[]`) from set-up on
 unfoldable pub told : List Item → List Event → List Item
 told start [] = start
 told start (e ∷ h) = add (suc (length h)) (sessionOf (e .call)) (tellsOf e) (told start h)
