@@ -151,7 +151,7 @@ again x (i ∷ h) = go (again x h) (next x i h)
     go r (grows s o e) = rw e (grown (transaction x h) (sym s) o r)
     go r (starts-here b _ s _ e) = rw e (unfold atStart transaction in rw (eq-eqb (i .session) (x .session) (sym s), b))
 
--- other sessions' things before it, and after it
+-- of two parts, the newer is other sessions', or the older has told nothing of it
 skips : (x : Name) (A B : List Item) → All (λ (i : Item). i .session ≡ x .session → ⊥) A → transaction x (A ++ B) ≡ transaction x B
 skips x [] B a = refl
 skips x (i ∷ A) B a = other-step x i (A ++ B) (a .0) ∙ skips x A B (a .1)
@@ -168,20 +168,22 @@ all-joined P (i ∷ A) B a b = (a .0, all-joined P A B (a .1) b)
 
 -- ---- each session idle or running
 
+-- past the sixteen a record reads as idle
 no-record : (σ : Store) (s : ℕ) → length (σ .sessions .records) ≡ 16 → 16 ≤ s → recordOf σ s ≡ idle
 unfolding sessionAt
 no-record σ s e l = List·getD-eq-default (σ .sessions .records) idle (omega (arith, e))
 
+-- no session is in phases 2 to 4
 abbrev pub NoneSealed : Store → Type 0
 NoneSealed σ = (s : ℕ) → recordOf σ s .phase ≤ 1
 
--- of any other number the record is idle
+-- it is enough to look at the sixteen
 pub by-sixteen : (σ : Store) → length (σ .sessions .records) ≡ 16 → below 2 (λ s. recordOf σ s .phase) 16 ≡ true → NoneSealed σ
 by-sixteen σ e b s =
     test (ltb s 16) (λ y. let w = below-is 2 (λ s. recordOf σ s .phase) 16 b s (ltb-true s 16 y) in omega arith)
     (λ y. rw (no-record σ s e (ltb-false s 16 y)) (omega arith))
 
--- in every start it is so: a sealed transaction has its snapshot after place 0, and a committed one is among the commits
+-- so it is in every start: a sealed transaction has its snapshot after place 0, and a committed one is among the commits
 pub ready-none-sealed : {φ : Store} {h : List Item} {T : Ledger} → Ready φ h T → NoneSealed φ
 ready-none-sealed {φ} {h} {T} R s = go (recordOf φ s .phase) (R .inv .link s)
   where
@@ -200,7 +202,7 @@ ready-none-sealed {φ} {h} {T} R s = go (recordOf φ s .phase) (R .inv .link s)
     go (suc (suc (suc (suc zero)))) l = absurd (finished (l .live) (l .done))
     go (suc (suc (suc (suc (suc k))))) l = absurd l
 
--- ---- a ledger to go on with, in which all that is open began at place 0
+-- ---- a ledger to go on with: what is open began at place 0, and nothing is committed
 
 abbrev pub fromStart : Txn → Txn
 fromStart t =
@@ -279,6 +281,7 @@ module _ (h : List Item) (T : Ledger) where
   unfolding openItems openOf
   one-of s l e = inside (name 0 s) 16 l ∙ ap (transaction (name 0 s)) (cond-at (T .mine s .live) _ _ e) ∙ again (name (T .mine s .began) s) h
 
+-- of a store with the invariant, its ledger to go on with keeps it and matches
 module _ {first : List ℕ} {σ : Store} {T : Ledger} (I : Inv first σ T) (u : NoneSealed σ) where
   none-pending : (c s : ℕ) → pends (role σ c s) ≡ false
   none-pending c s =
