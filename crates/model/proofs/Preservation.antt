@@ -317,9 +317,9 @@ module _ {first : List ℕ} {σ : Store} {T : Ledger} (I : Inv first σ T) where
     abbrev D : Bool
     D = advanced (length first) (T .place) (T .mine s) .done
 
-    keep-own : recordOf σ s .phase ≡ 2 → otherReaders s (lockAt (σ .lent .locks) c .readers) ≡ 0 → Kept (Advance s) (Acquire c)
+    keep-acquire : recordOf σ s .phase ≡ 2 → otherReaders s (lockAt (σ .lent .locks) c .readers) ≡ 0 → Kept (Advance s) (Acquire c)
     unfolding observe tells ending after answer
-    keep-own ph al =
+    keep-acquire ph al =
         let r : Promoting first (T .commits) (T .place) (recordOf σ s .next) (look σ s) (T .mine s) = rw ph at (I .link s) in
         which (target σ s (suc c))
         (λ p.
@@ -365,7 +365,7 @@ module _ {first : List ℕ} {σ : Store} {T : Ledger} (I : Inv first σ T) where
       split (Kept (Advance s)) (not (eqb (l .claimant) 16) && not (eqb (l .claimant) s))
       (λ _. ticks (roll-back s lt (r .live) (calm₂ s ph)))
       (λ cl. split (Kept (Advance s)) (eqb (otherReaders s (l .readers)) 0)
-      (λ z. keep-own s lt k two c tgt ph (eqb-true (otherReaders s (l .readers)) 0 z))
+      (λ z. keep-acquire s lt k two c tgt ph (eqb-true (otherReaders s (l .readers)) 0 z))
       (λ _. waits s lt I (ins s lt k two c tgt) c tgt ph (neither-other (eqb (l .claimant) 16) (eqb (l .claimant) s) cl))))
       (λ q. split (Kept (Advance s)) (eqb (recordOf σ s .phase) 3)
       (λ q′. let ph = eqb-true (recordOf σ s .phase) 3 q′ in unfold look in keep-publish s lt k two c tgt (rw ph at (I .link s)) ph)

@@ -125,9 +125,9 @@ planEffect s Start σ = does Done (putRecord s running σ)
 -- read: of a cell in the log nothing changes; a new one has the session among its readers, and an entry
 planEffect s (Tell v) σ = does (Value v) σ
 planEffect s (Enter c) σ =
-    let v = getD (σ .lent .values) c 0 in
-    does (Value v)
-    (putRecord s (withEntry (recordOf σ s)) (onLogOf s (λ log. appended log (recordOf σ s .count) c v) (onLocks (onLock c (join s)) σ)))
+    does (Value (getD (σ .lent .values) c 0))
+    (putRecord s (withEntry (recordOf σ s))
+    (onLogOf s (λ log. appended log (recordOf σ s .count) c (getD (σ .lent .values) c 0)) (onLocks (onLock c (join s)) σ)))
 -- write: the entry, which may be new, has the value and is written
 planEffect s (Update k v) σ = does Done (onLogOf s (λ log. updated log k v) σ)
 planEffect s (EnterUpdate c v) σ =
