@@ -1,16 +1,18 @@
 -- Past refusals 7 and 1 a call's plan is what its session decides; an advance's is decided at the entry that is due.
-use mathlib.Core.Path.{_≡_, refl, sym, ap, _∙_}
+use mathlib.Core.Path.{_≡_, refl}
 use mathlib.Core.Bool.{Bool, true, false, cond}
 use mathlib.Core.Option.{Option, none, some}
 use mathlib.Core.List.{List}
-use Prim.Native.Nat.{ℕ, zero, suc, _<_, _≤_}
+use Prim.Native.Nat.{ℕ, _<_, _≤_}
 use native.Mathlib.Omega.{arith}
 use borrow.Author.Tests.{lt-ltb, lt-leb, le-leb, eq-eqb, ne-eqb, leb-true, leb-false}
-use lib.Dec.{leb, eqb}
+use lib.Dec.{leb}
 use lib.ListN.{length}
 use Rattle.model.specs.Search.{some?}
-use Rattle.model.specs.Buffers.{Buffers, Store, size, cellAt, entryAt, slotIn, entryOf, lookIn, targetIn, lockAt, lengthsMatch, lengthsFit}
-use Rattle.model.specs.Step.{logOf, recordOf, sessionOf, entriesFit, recordFits, guard, handled, releaseAnswer, advanceTarget, plan, planOf}
+use Rattle.model.specs.Buffers.{Buffers, Store, size, cellAt, entryOf, lookIn, targetIn, lockAt, lengthsMatch, lengthsFit}
+use Rattle.model.specs.Plans.{entriesFit, recordFits, guard, advanceTarget, plan}
+use Rattle.model.specs.Effects.{logOf, recordOf, handled, releaseAnswer}
+use Rattle.model.specs.Step.{sessionOf, planOf}
 use Rattle.model.specs.declared.Session.{Session}
 use Rattle.model.specs.declared.Lock.{Lock}
 use Rattle.model.specs.declared.Call.{Call}

@@ -13,7 +13,8 @@ use lib.ListN.{length, getD}
 use Rattle.model.specs.Search.{some?, below}
 use Rattle.model.specs.Readers.{otherReaders}
 use Rattle.model.specs.Buffers.{idle, moveTo, cellAt, entryAt, slotIn, targetIn, cap}
-use Rattle.model.specs.Step.{claimed, newCell, sealTarget, promotePlan, known, entriesFit, recordFits, guard, readSlot, readPlan, writeSlot, writeCapped, writePlan, sealPlan, peekSlot, peekPlan, isLeft, handled, releaseAnswer}
+use Rattle.model.specs.Plans.{claimed, newCell, sealTarget, promotePlan, known, entriesFit, recordFits, guard, readSlot, readPlan, writeSlot, writeCapped, writePlan, sealPlan, peekSlot, peekPlan}
+use Rattle.model.specs.Effects.{isLeft, handled, releaseAnswer}
 use Rattle.model.specs.declared.Session.{Session}
 use Rattle.model.specs.declared.Lock.{Lock}
 use Rattle.model.specs.declared.Answer.the-variants.{Moved, Committed}

@@ -6,7 +6,8 @@ use mathlib.Core.Option.{Option, none, some}
 use mathlib.Core.List.{List}
 use lib.Dec.{leb, eqb}
 use Rattle.model.specs.Buffers.{cellAt, entryAt}
-use Rattle.model.specs.Step.{require, entriesFit, promotePlan, handled, releaseAnswer}
+use Rattle.model.specs.Plans.{require, entriesFit, promotePlan}
+use Rattle.model.specs.Effects.{handled, releaseAnswer}
 use Rattle.model.specs.declared.Session.{Session}
 use Rattle.model.specs.declared.Lock.{Lock}
 use Rattle.model.specs.declared.Answer.the-variants.{Moved}

@@ -6,7 +6,7 @@ ghost use Prim.Native.Nat.{_+_, _*_, _<_, _≤_};
 ghost use lib.ListN.{length};
 ghost use Rattle.model.specs.Search.{below};
 ghost use Rattle.model.specs.Buffers.{cellAt, cap, fits, allFit, lengthsMatch};
-ghost use Rattle.model.specs.Step.{newCell, promotePlan, entriesFit, recordFits, readPlan, writeCapped, writePlan, sealPlan, peekPlan};
+ghost use Rattle.model.specs.Plans.{newCell, promotePlan, entriesFit, recordFits, readPlan, writeCapped, writePlan, sealPlan, peekPlan};
 ghost use Rattle.decide.specs.Pieces.{tested, dueOn, advanceOn, handledOn};
 use model::Answer;
 use model::Lock;

@@ -3,7 +3,8 @@ use Prim.Native.Nat.{ℕ, _+_, _*_}
 use mathlib.Core.Path.{_≡_, sym, ap, _∙_}
 use Rattle.model.specs.declared.Answer.{Answer}
 use Rattle.model.specs.Buffers.{Store}
-use Rattle.model.specs.Step.{Outcome, outcome, number, valueOf, shown}
+use Rattle.model.specs.Effects.{number, valueOf, shown}
+use Rattle.model.specs.Step.{Outcome, outcome}
 use Rattle.model.specs.declared.Plan.{Plan}
 use Rattle.model.specs.declared.Plan.the-variants.{Refuse, ShowStore, ShowLog}
 use Rattle.exports.specs.InNumbers.{replied, inNumbers, at, placeOf}

@@ -1,15 +1,15 @@
 -- Demand 3 of lists of calls for C: what a call tells in numbers is an answer of the model with these numbers, so that the theorem for code that
 -- keeps its contract speaks of the calls for C.
 use Prim.Native.Nat.{ℕ}
-use mathlib.Core.Path.{_≡_, refl, sym, ap, _∙_}
+use mathlib.Core.Path.{_≡_, refl, sym, ap}
 use mathlib.Core.List.{List, [], _∷_, map, reverse}
 use Rattle.model.specs.declared.Call.{Call}
-use Rattle.model.specs.declared.Answer.{Answer}
 use Rattle.model.specs.Buffers.{Store}
 use Rattle.model.specs.History.{Event}
 use Rattle.model.specs.Isolation.{Ran}
 use Rattle.model.specs.Isolation as list
-use Rattle.model.specs.Step.{Outcome, outcome, number, valueOf, effect, setUpEffect}
+use Rattle.model.specs.Effects.{number, valueOf}
+use Rattle.model.specs.Step.{Outcome, outcome, effect, setUpEffect}
 use Rattle.model.proofs.Demand3.{demand3-of-code}
 use Rattle.exports.specs.InNumbers.{NumberReply, replied, inNumbers, Heard, heard, Called, none, then, Demand3InNumbers}
 

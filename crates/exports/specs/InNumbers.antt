@@ -7,7 +7,8 @@ use Rattle.model.specs.Buffers.{Store}
 use Rattle.model.specs.Slices.{Slice, Number}
 use Rattle.model.specs.History.{Event}
 use Rattle.model.specs.Isolation.{Demand3OfCode}
-use Rattle.model.specs.Step.{Outcome, number, valueOf, effect, setUpEffect, peekShows, Part, storeWord, logWord, noWord}
+use Rattle.model.specs.Effects.{number, valueOf, Part, storeWord, logWord, noWord}
+use Rattle.model.specs.Step.{Outcome, effect, setUpEffect, peekShows}
 use Rattle.model.specs.declared.Call.{Call}
 use Rattle.model.specs.declared.Sessions.{Sessions}
 use Rattle.store.specs.Lent.{before, afterwards}

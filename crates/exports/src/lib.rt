@@ -1,6 +1,6 @@
 // The calls for C: each is the store's own call, with the session records passed in and handed back by value and the answer as two numbers.
 ghost use mathlib.Core.Path.{_≡_};
-ghost use Rattle.model.specs.Step.{number, valueOf};
+ghost use Rattle.model.specs.Effects.{number, valueOf};
 ghost use Rattle.model.specs.declared.Call.the-variants.{Begin, Read, Write, Seal, Advance, Abandon, Peek};
 ghost use Rattle.exports.specs.InNumbers.{SetsUpInNumbers, TakesInNumbers, TellsPlace};
 use model::Answer;

@@ -7,7 +7,7 @@ use native.Mathlib.Nat.{not-suc-le-zero, le-of-suc-le-suc}
 use native.Mathlib.Omega.{arith}
 use lib.ListN.{length, getD, set, drop, length-set, replicate, drop-of-length-le}
 use Rattle.model.specs.Buffers.{free, logIn, cellAt, publishesIn, lockAt, setLock, onLock, sweep, join, leave, withdraw}
-use Rattle.model.specs.Step.{rolledBack, readsDropped}
+use Rattle.model.specs.Effects.{rolledBack, readsDropped}
 use Rattle.model.specs.declared.Lock.{Lock}
 use Rattle.model.proofs.Tools.{test}
 use Rattle.lockrun.specs.declared.Change.the-variants.{Join, Withdraw, Leave, Clear}

@@ -12,7 +12,9 @@ use denote.Ref.{RefT}
 use lib.Dec.{eqb}
 use lib.ListN.{length, getD, set, replicate, length-replicate, length-set}
 use Rattle.model.specs.Buffers.{Store, free, idle, running, sessionAt, withEntry, moveTo, logIn, entryAt, appended, updated, lengthsMatch}
-use Rattle.model.specs.Step.{planOf, sessionOf, recordOf, rolledBack, readsDropped, recordFits, readPlan, writePlan, sealPlan, peekPlan}
+use Rattle.model.specs.Plans.{recordFits, readPlan, writePlan, sealPlan, peekPlan}
+use Rattle.model.specs.Effects.{recordOf, rolledBack, readsDropped}
+use Rattle.model.specs.Step.{planOf, sessionOf}
 use Rattle.model.specs.declared.Session.{Session}
 use Rattle.model.specs.declared.Sessions.{Sessions}
 use Rattle.model.specs.declared.Lock.{Lock}

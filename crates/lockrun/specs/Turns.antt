@@ -6,7 +6,8 @@ use lib.Dec.{ltb}
 use lib.ListN.{length}
 use denote.Ref.{RefT, now}
 use Rattle.model.specs.Buffers.{sessionAt, cellAt, logIn, lengthsMatch}
-use Rattle.model.specs.Step.{require, outcome, effect, setUpEffect, planOf, peekShows}
+use Rattle.model.specs.Plans.{require}
+use Rattle.model.specs.Step.{outcome, effect, setUpEffect, planOf, peekShows}
 use Rattle.model.specs.declared.Lock.{Lock}
 use Rattle.model.specs.declared.Sessions.{Sessions}
 use Rattle.model.specs.declared.Reply.{Reply}

@@ -10,7 +10,7 @@ use lib.ListN.{length, getD, set, length-set, replicate, getD-replicate, List·g
 use lib.Seq.{getD-set-same, set-getD}
 use borrow.Author.Tests.{eq-eqb, ne-eqb}
 use Rattle.model.specs.Buffers.{Locks, cellAt, entryAt, slotIn, publishes, publishesIn, lockAt, setLock, onLock, sweep, leave, vacate, withdraw}
-use Rattle.model.specs.Step.{rolledBack}
+use Rattle.model.specs.Effects.{rolledBack}
 use Rattle.model.specs.Readers.{withoutReader}
 use Rattle.model.specs.Search.{some?, orElse, find}
 use Rattle.model.specs.declared.Lock.{Lock}

@@ -15,7 +15,7 @@ use Rattle.model.specs.Buffers.{Locks, Store, idle, moveTo, cellAt, slot
 use Rattle.model.specs.Isolation.{at}
 use Rattle.model.specs.Readers.{member, otherReaders}
 use Rattle.model.specs.Search.{find, tally}
-use Rattle.model.specs.Step.{change, changeLocks, recordOf, logOf}
+use Rattle.model.specs.Effects.{change, changeLocks, recordOf, logOf}
 use Rattle.model.proofs.Effects.{Acts, ses-same, frame, look-mine, role-gone, shaped, link-mine, locked-still, valued-still, look-is, slot-none, acts, amended, joined}
 use Rattle.model.proofs.Invariant.{roleIn, roleOf, role, latest, Promoting, Finishing, Link, just-off, Inv, role-other, quiet, committing, calms, ticks}
 use Rattle.model.proofs.Laws.{find-some, Low, lowest-is, Long, lock-same, lock-other, long-set, tally-flat, tally-more}

@@ -22,7 +22,9 @@ use Rattle.model.specs.History.{run, events, told, history, add}
 use Rattle.model.specs.Isolation.{All}
 use Rattle.model.specs.Readers.{otherReaders}
 use Rattle.model.specs.Search.{some?, find}
-use Rattle.model.specs.Step.{number, valueOf, handled, change, changeLogs, recordOf, after, releaseAnswer, answer, guard, known, claimed, readSlot, writeSlot, writeCapped, sealTarget, promotePlan, advanceTarget, peekSlot, plan, sessionOf, planOf, step, reply, setUpAnswer, setUp, logOf, admit}
+use Rattle.model.specs.Plans.{guard, known, claimed, readSlot, writeSlot, writeCapped, sealTarget, promotePlan, advanceTarget, peekSlot, plan, admit}
+use Rattle.model.specs.Effects.{number, valueOf, handled, change, changeLogs, recordOf, after, releaseAnswer, answer, logOf}
+use Rattle.model.specs.Step.{sessionOf, planOf, step, reply, setUpAnswer, setUp}
 use Rattle.model.specs.Told.{Told, ended, ending, tells, WhereGot}
 use Rattle.model.proofs.Demand3.{set-up-passed, set-up-fresh}
 use Rattle.model.proofs.Laws.{find-some, getD-sets-other, log-length, log-same, log-other, length-on, grown-word, grown-apart}

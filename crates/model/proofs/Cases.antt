@@ -4,9 +4,9 @@ use mathlib.Core.Path.{_≡_, refl}
 use mathlib.Core.List.{List, [], _∷_, map}
 use lib.ListN.{replicate}
 use Rattle.model.specs.Computing.{computing}
-use Rattle.model.specs.Step.{Part}
-use Rattle.model.specs.Cases.{storeWith, Result, Case, actual, expected, steps, refusals, order, Phased, answered, phases, damaged, Peeked, handed, parts}
-use Rattle.model.specs.SetUpCases.{Lending, Started, startedBy, startsBy, lendings, Cap, judged, caps}
+use Rattle.model.specs.Effects.{Part}
+use Rattle.model.specs.Cases.{storeWith, Result, actual, expected, steps, refusals, order, Phased, answered, phases, damaged, Peeked, handed, parts}
+use Rattle.model.specs.SetUpCases.{Started, startedBy, startsBy, lendings, Cap, judged, caps}
 
 -- the answer, in numbers, and every lent word and record
 pub steps-hold : map {B = Result} actual steps ≡ map {B = Result} expected steps

@@ -8,7 +8,8 @@ use Rattle.model.specs.declared.Answer.{Answer}
 use Rattle.model.specs.Buffers.{Buffers, Store, allFit, lengthsFit, fresh}
 use Rattle.model.specs.History.{Event, run, events, Item}
 use Rattle.model.specs.Isolation.{Demand3, Ran, none, then, Demand3OfCode}
-use Rattle.model.specs.Step.{Outcome, outcome, number, effect, setUpEffect, step, reply, setUpAnswer, setUp}
+use Rattle.model.specs.Effects.{number}
+use Rattle.model.specs.Step.{Outcome, outcome, effect, setUpEffect, step, reply, setUpAnswer, setUp}
 use Rattle.model.proofs.Ledger.{Ledger}
 use Rattle.model.proofs.Runs.{inv-fresh, Ready, ready}
 use Rattle.model.proofs.Tools.{test}

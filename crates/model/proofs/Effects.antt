@@ -13,7 +13,7 @@ use Rattle.model.specs.Buffers.{Locks, Store, idle, running, withEntry, 
 use Rattle.model.specs.History.{run}
 use Rattle.model.specs.Isolation.{at}
 use Rattle.model.specs.Search.{find}
-use Rattle.model.specs.Step.{rolledBack, change, changeLogs, recordOf, logOf}
+use Rattle.model.specs.Effects.{rolledBack, change, changeLogs, recordOf, logOf}
 use Rattle.model.proofs.Invariant.{roleIn, roleOf, role, Running, Link, Shape, just-map, Inv, Frame, role-other, assemble, quiet}
 use Rattle.model.proofs.Laws.{Long, lock-same, lock-other, long-set, long-sweep, lock-sweep, withdraw-withdraw, log-length, log-same, log-other, length-on, grown-find, grown-new, grown-old, changed-old, changed-new, session-same, session-other, length-records}
 use Rattle.model.proofs.Ledger.{Txn, opened, saw, wroteTo, Commit, Ledger, blank}

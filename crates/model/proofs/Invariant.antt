@@ -12,7 +12,7 @@ use Rattle.model.specs.declared.Session.{Session}
 use Rattle.model.specs.Buffers.{Store, Entry, isDirty, publishes, isPublished, currentOf, lockAt}
 use Rattle.model.specs.Isolation.{All, Holds}
 use Rattle.model.specs.Search.{tally}
-use Rattle.model.specs.Step.{recordOf}
+use Rattle.model.specs.Effects.{recordOf}
 use Rattle.model.specs.Told.{ReadOf}
 use Rattle.model.proofs.Laws.{Long}
 use Rattle.model.proofs.Ledger.{Txn, Commit, Ledger, tick, calm, valueBefore, Fair, Lawful}

@@ -19,7 +19,9 @@ use Rattle.model.specs.Isolation.{at}
 use Rattle.model.specs.Readers.{otherReaders}
 use Rattle.model.specs.Search.{some?, find, below, tally}
 use Rattle.model.specs.Told.{tells, ending}
-use Rattle.model.specs.Step.{rolledBack, handled, change, recordOf, after, releaseAnswer, answer, recordFits, guard, known, claimed, newCell, readSlot, writeSlot, writeCapped, sealTarget, promotePlan, advanceTarget, peekSlot, plan, sessionOf, planOf, step, reply, logOf, admit, entriesFit}
+use Rattle.model.specs.Plans.{recordFits, guard, known, claimed, newCell, readSlot, writeSlot, writeCapped, sealTarget, promotePlan, advanceTarget, peekSlot, plan, admit, entriesFit}
+use Rattle.model.specs.Effects.{rolledBack, handled, change, recordOf, after, releaseAnswer, answer, logOf}
+use Rattle.model.specs.Step.{sessionOf, planOf, step, reply}
 use Rattle.model.proofs.Advancing.{target-some, target-none, late, role-late, more-open, holds-more, last-done, holds-last, waits, publishes-more, publishes-last, releases-more, releases-last}
 use Rattle.model.proofs.Effects.{running-role, slot-none, slot-some, replaced, rolls, started, learns, enter-phase, enter-look, enter-slot, enters, notes}
 use Rattle.model.proofs.Invariant.{roleIn, roleOf, role, Running, Promoting, Finishing, Inv, calms, ticks}

@@ -13,7 +13,7 @@ use Rattle.model.specs.Buffers.{Store, idle, sessionAt}
 use Rattle.model.specs.History.{Item, item, run, history, Name, name, extend, transaction, isOpen, wrote, valueWritten, cellsWritten, readsBeforeWriting, snapshot, movesIn, moveNumber, commit, committed}
 use Rattle.model.specs.Isolation.{All, Demand3}
 use Rattle.model.specs.Search.{below}
-use Rattle.model.specs.Step.{recordOf}
+use Rattle.model.specs.Effects.{recordOf}
 use Rattle.model.specs.Told.{Told, seals, moves, ends}
 use Rattle.model.proofs.Demand3.{demand3-from}
 use Rattle.model.proofs.Effects.{idle-out, running-role}

@@ -12,7 +12,8 @@ use Rattle.model.specs.Buffers.{Buffers, Store, size, idle, sessionAt, l
 use Rattle.model.specs.History.{Item, add, run, events, told, history, transaction}
 use Rattle.model.specs.Isolation.{All}
 use Rattle.model.specs.Readers.{odd, member}
-use Rattle.model.specs.Step.{recordOf, sessionOf, reply}
+use Rattle.model.specs.Effects.{recordOf}
+use Rattle.model.specs.Step.{sessionOf, reply}
 use Rattle.model.specs.Told.{Told, tells}
 use Rattle.model.proofs.Effects.{idle-out}
 use Rattle.model.proofs.Invariant.{role, latest, all-map, Inv}

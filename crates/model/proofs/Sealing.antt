@@ -12,7 +12,7 @@ use Rattle.model.specs.Buffers.{Locks, Store, idle, moveTo, Entry, cellA
 use Rattle.model.specs.Told.{ReadOf}
 use Rattle.model.specs.Isolation.{All, at}
 use Rattle.model.specs.Search.{find, tally}
-use Rattle.model.specs.Step.{readsDropped, change, recordOf, logOf}
+use Rattle.model.specs.Effects.{readsDropped, change, recordOf, logOf}
 use Rattle.model.proofs.Effects.{Acts, ses-same, frame, look-mine, role-gone, shaped, link-mine, unknown, running-role, look-is, slot-none, slot-some, acts, amended, joined}
 use Rattle.model.proofs.Invariant.{roleIn, roleOf, role, latest, before-latest, all-map, Running, Inv, Frame, role-other, quiet, committing}
 use Rattle.model.proofs.Laws.{Long, long-sweep, lock-sweep, leave-leave, tally-more}

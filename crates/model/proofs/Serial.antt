@@ -10,7 +10,8 @@ use Rattle.model.specs.Buffers.{Store, fresh}
 use Rattle.model.specs.Serial.{serial, NoneOpen, OneAtATime, ReadsSerially, Undisturbed, SeriallyEqual}
 use Rattle.model.specs.History.{Event, run, events, name, history, transaction, isOpen}
 use Rattle.model.specs.Isolation.{All}
-use Rattle.model.specs.Step.{number, reply, setUpAnswer, setUp}
+use Rattle.model.specs.Effects.{number}
+use Rattle.model.specs.Step.{reply, setUpAnswer, setUp}
 use Rattle.model.specs.Told.{tells}
 use Rattle.model.proofs.Demand3.{set-up-fresh}
 use Rattle.model.proofs.Invariant.{latest, all-map, Inv}

@@ -20,7 +20,9 @@ use Rattle.model.specs.Isolation.{All}
 use Rattle.model.specs.Serial.{Serial, serialStep, Undisturbed}
 use Rattle.model.specs.Readers.{otherReaders}
 use Rattle.model.specs.Search.{some?, tally}
-use Rattle.model.specs.Step.{number, recordOf, releaseAnswer, answer, recordFits, guard, known, claimed, newCell, readSlot, writeSlot, writeCapped, sealTarget, promotePlan, advanceTarget, peekSlot, plan, sessionOf, planOf, reply, logOf, admit}
+use Rattle.model.specs.Plans.{recordFits, guard, known, claimed, newCell, readSlot, writeSlot, writeCapped, sealTarget, promotePlan, advanceTarget, peekSlot, plan, admit}
+use Rattle.model.specs.Effects.{number, recordOf, releaseAnswer, answer, logOf}
+use Rattle.model.specs.Step.{sessionOf, planOf, reply}
 use Rattle.model.specs.Told.{Told, ending, tells, begins, WhereGot}
 use Rattle.model.proofs.Advancing.{target-some}
 use Rattle.model.proofs.Effects.{slot-some}

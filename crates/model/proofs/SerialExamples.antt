@@ -13,7 +13,8 @@ use Rattle.model.specs.Computing.{computing, counting}
 use Rattle.model.specs.History.{Event, tellsOf, run, events, told}
 use Rattle.model.specs.Isolation.{All}
 use Rattle.model.specs.Serial.{serialStep, serial, OneAtATime, SeriallyEqual}
-use Rattle.model.specs.Step.{number, setUpAnswer, setUp}
+use Rattle.model.specs.Effects.{number}
+use Rattle.model.specs.Step.{setUpAnswer, setUp}
 use Rattle.model.specs.Told.{Told, begins}
 use Rattle.model.proofs.Names.{noneOpen, none-open, open-none}
 use Rattle.model.proofs.Serial.{serially-equal}

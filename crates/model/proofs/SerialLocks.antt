@@ -9,7 +9,7 @@ use mathlib.Core.List.{List}
 use lib.ListN.{length, getD}
 use Rattle.model.specs.Buffers.{Store, Entry, slotIn, isDirty, currentOf, lockAt}
 use Rattle.model.specs.Readers.{otherReaders}
-use Rattle.model.specs.Step.{recordOf}
+use Rattle.model.specs.Effects.{recordOf}
 use Rattle.model.proofs.Effects.{unknown, idle-out, running-role, slot-none}
 use Rattle.model.proofs.Invariant.{role, latest, Running, Link, Inv}
 use Rattle.model.proofs.Ledger.{Ledger}

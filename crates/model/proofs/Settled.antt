@@ -16,7 +16,9 @@ use Rattle.model.specs.declared.Plan.the-variants.{Refuse, Start}
 use Rattle.model.specs.Buffers.{Store, size}
 use Rattle.model.specs.History.{Item, add, Name, name, transaction, isOpen}
 use Rattle.model.specs.Isolation.{All}
-use Rattle.model.specs.Step.{number, valueOf, recordOf, answer, guard, plan, sessionOf, planOf, reply, logOf, admit}
+use Rattle.model.specs.Plans.{guard, plan, admit}
+use Rattle.model.specs.Effects.{number, valueOf, recordOf, answer, logOf}
+use Rattle.model.specs.Step.{sessionOf, planOf, reply}
 use Rattle.model.specs.Told.{Told, began, got, put, sealed, moved, ended, ending, tells, begins}
 use Rattle.model.proofs.Invariant.{Inv}
 use Rattle.model.proofs.Ledger.{Ledger, calm, amend, starts, hear, hears, observe}

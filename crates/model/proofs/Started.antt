@@ -15,7 +15,7 @@ use Rattle.model.specs.Computing.{computing, counting}
 use Rattle.model.specs.History.{Event, run, events, Item, item, history, name, Name, transaction, wrote, readsBeforeWriting, snapshot, commit, committed}
 use Rattle.model.specs.Isolation.{Last, lastCommit, noCommit, Demand3}
 use Rattle.model.specs.Search.{below}
-use Rattle.model.specs.Step.{recordOf}
+use Rattle.model.specs.Effects.{recordOf}
 use Rattle.model.specs.Told.{began, got, put}
 use Rattle.model.proofs.Demand3.{demand3-from}
 use Rattle.model.proofs.Ledger.{Ledger, blank, amend, starts, observe, ledger}

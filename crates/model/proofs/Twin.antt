@@ -8,7 +8,9 @@ use Rattle.model.specs.declared.Answer.the-variants.{Done}
 use Rattle.model.specs.declared.Plan.{Plan}
 use Rattle.model.specs.declared.Plan.the-variants.{Refuse, ShowStore, ShowLog}
 use Rattle.model.specs.Buffers.{Store, entryAt, slotIn}
-use Rattle.model.specs.Step.{number, recordOf, answer, noWord, shown, peekShows, peekSlot, plan, planOf, reply, logOf}
+use Rattle.model.specs.Plans.{peekSlot, plan}
+use Rattle.model.specs.Effects.{number, recordOf, answer, noWord, shown, logOf}
+use Rattle.model.specs.Step.{peekShows, planOf, reply}
 use Rattle.model.proofs.Preservation.{choose, running-cell}
 use Rattle.model.proofs.Tools.{split}
 

@@ -4,7 +4,7 @@ use mathlib.Core.Path.{_≡_, refl}
 use mathlib.Core.Bool.{Bool}
 use mathlib.Core.Option.{Option, none, some}
 use Rattle.model.specs.Buffers.{Store, Entry, slotIn, lookIn, isDirty, publishes, isPublished, targetIn}
-use Rattle.model.specs.Step.{recordOf, logOf}
+use Rattle.model.specs.Effects.{recordOf, logOf}
 
 unfoldable pub slot : Store → ℕ → ℕ → Option ℕ
 slot σ s c = slotIn (logOf σ s) (recordOf σ s .count) c

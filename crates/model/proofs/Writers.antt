@@ -13,7 +13,8 @@ use Rattle.model.specs.declared.Answer.{Answer}
 use Rattle.model.specs.Buffers.{Locks, Store, lockAt}
 use Rattle.model.specs.History.{Item, add, run, history, Name, transaction, isOpen, wrote, commit, committed}
 use Rattle.model.specs.Isolation.{All, at, Isolated, Holds, firsts, HoldsAtCommit}
-use Rattle.model.specs.Step.{number, recordOf, sessionOf, reply}
+use Rattle.model.specs.Effects.{number, recordOf}
+use Rattle.model.specs.Step.{sessionOf, reply}
 use Rattle.model.specs.Told.{Told, began, got, put, sealed, moved, ended, ending, tells, writes}
 use Rattle.model.proofs.Advancing.{late, role-late}
 use Rattle.model.proofs.Commits.{pick, all-both, isolated}

@@ -9,7 +9,8 @@ use Rattle.model.specs.declared.Call.{Call}
 use Rattle.model.specs.declared.Call.the-variants.{Begin, Read, Write, Seal, Advance, Abandon, Peek}
 use Rattle.model.specs.declared.Answer.{Answer}
 use Rattle.model.specs.Buffers.{Store}
-use Rattle.model.specs.Step.{number, valueOf, sessionOf, Part, storeWord, logWord, noWord, shown, planOf, step, reply}
+use Rattle.model.specs.Effects.{number, valueOf, Part, storeWord, logWord, noWord, shown}
+use Rattle.model.specs.Step.{sessionOf, planOf, step, reply}
 
 -- ---- what a row is given and leaves
 

@@ -4,7 +4,9 @@ use lib.Count.{ones, onesIn}
 use Rattle.model.specs.Search.{orElse, find, lower, lowest, below, tally}
 use Rattle.model.specs.Readers.{odd, assign, otherReaders}
 use Rattle.model.specs.Buffers.{size, sessionAt, withSession, logIn, onLog, word, cellAt, entryAt, slotIn, entryOf, lookIn, publishes, publishesIn, targetIn, appended, updated, lockAt, setLock, onLock, sweep, join, leave, vacate, withdraw, claim, acquire, caps, cap, fits, allFit, lengthsMatch, lengthsFit, fresh}
-use Rattle.model.specs.Step.{rolledBack, readsDropped, isLeft, handled, releaseAnswer, planEffect, answer, shown, after, entriesFit, recordFits, guard, known, claimed, newCell, readSlot, writeSlot, writeCapped, sealTarget, promotePlan, advanceTarget, advancePlan, peekSlot, readPlan, writePlan, sealPlan, peekPlan, plan, planOf, step, reply, setUpAnswer, setUp}
+use Rattle.model.specs.Plans.{entriesFit, recordFits, guard, known, claimed, newCell, readSlot, writeSlot, writeCapped, sealTarget, promotePlan, advanceTarget, advancePlan, peekSlot, readPlan, writePlan, sealPlan, peekPlan, plan}
+use Rattle.model.specs.Effects.{rolledBack, readsDropped, isLeft, handled, releaseAnswer, planEffect, answer, shown, after}
+use Rattle.model.specs.Step.{planOf, step, reply, setUpAnswer, setUp}
 use Rattle.model.specs.Told.{ending, tells}
 use Rattle.model.specs.History.{run, events, told, transaction, wrote, valueWritten, readsBeforeWriting, snapshot, movesIn, moveNumber, commit, committed}
 

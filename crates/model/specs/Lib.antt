@@ -1,6 +1,8 @@
 pub mod Search
 pub mod Readers
 pub mod Buffers
+pub mod Plans
+pub mod Effects
 pub mod Step
 pub mod Told
 pub mod History

@@ -11,7 +11,7 @@ use Rattle.model.specs.declared.Answer.{Answer}
 use Rattle.model.specs.Buffers.{Store}
 use Rattle.model.specs.History.{Event, tellsOf, run, events, Item, told, history, Name, transaction, isOpen}
 use Rattle.model.specs.Isolation.{All}
-use Rattle.model.specs.Step.{number}
+use Rattle.model.specs.Effects.{number}
 use Rattle.model.specs.Told.{Told, began, got, put, sealed, moved, ended, begins, WhereGot}
 
 -- ---- the serial store

@@ -8,7 +8,8 @@ use lib.ListN.{replicate}
 use Rattle.model.specs.declared.Session.{Session}
 use Rattle.model.specs.declared.Call.the-variants.{Begin, Write}
 use Rattle.model.specs.Buffers.{Store}
-use Rattle.model.specs.Step.{number, reply, setUpAnswer, setUp}
+use Rattle.model.specs.Effects.{number}
+use Rattle.model.specs.Step.{reply, setUpAnswer, setUp}
 use Rattle.model.specs.Cases.{session, Result, result}
 
 -- ---- set-up

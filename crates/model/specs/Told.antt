@@ -7,7 +7,7 @@ use lib.Dec.{eqb}
 use Rattle.model.specs.declared.Call.{Call}
 use Rattle.model.specs.declared.Call.the-variants.{Begin, Read, Write, Seal, Advance, Abandon, Peek}
 use Rattle.model.specs.declared.Answer.{Answer}
-use Rattle.model.specs.Step.{number, valueOf}
+use Rattle.model.specs.Effects.{number, valueOf}
 
 -- began: a begin answered 100; got: a read of a cell answered 101, with the value; put: a write to a cell answered 100, with the value;
 -- sealed: a seal answered 102 or 105; moved: an advance answered 103; ended: an answer 6 or 105, or an abandon answered 100

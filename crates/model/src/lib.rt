@@ -4,7 +4,7 @@ ghost use mathlib.Core.Path.{_≡_};
 ghost use Prim.Native.Nat.{suc, _<_};
 ghost use lib.ListN.{replicate};
 ghost use Rattle.model.specs.Buffers.{idle, running, withEntry, moveTo};
-ghost use Rattle.model.specs.Step.{number, valueOf};
+ghost use Rattle.model.specs.Effects.{number, valueOf};
 
 // A session's record: phase (0 idle, 1 running, 2 promoting, 3 publishing, 4 releasing), entry count, next cell.
 #[repr(C)]
@@ -81,7 +81,7 @@ impl Answer {
     }
 }
 
-// What a call decides before it changes anything; `planEffect` in specs/Step.antt says what each answers and leaves.
+// What a call decides before it changes anything; `planEffect` in specs/Effects.antt says what each answers and leaves.
 pub enum Plan {
     // the number of a refusal
     Refuse(u8),

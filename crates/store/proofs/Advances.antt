@@ -10,7 +10,9 @@ use lib.ListN.{length, set}
 use Rattle.model.specs.Readers.{otherReaders}
 use Rattle.model.specs.Search.{below}
 use Rattle.model.specs.Buffers.{Locks, Store, size, idle, sessionAt, cellAt, entryAt, lockAt, setLock, claim, acquire, vacate}
-use Rattle.model.specs.Step.{outcome, effect, planOf, recordOf, logOf, handled, releaseAnswer, claimed, promotePlan, rolledBack}
+use Rattle.model.specs.Plans.{claimed, promotePlan}
+use Rattle.model.specs.Effects.{recordOf, logOf, handled, releaseAnswer, rolledBack}
+use Rattle.model.specs.Step.{outcome, effect, planOf}
 use Rattle.model.specs.declared.Session.{Session}
 use Rattle.model.specs.declared.Lock.{Lock}
 use Rattle.model.specs.declared.Call.the-variants.{Advance}

@@ -4,7 +4,8 @@ use Prim.Native.Nat.{ℕ}
 use mathlib.Core.List.{List}
 use lib.ListN.{getD, set}
 use Rattle.model.specs.Buffers.{Locks, Store, idle, running, withSession, withEntry, moveTo, lockAt, setLock, onLock, join, claim, acquire, vacate, onLog, appended, updated}
-use Rattle.model.specs.Step.{outcome, effect, reply, step, planOf, sessionOf, recordOf, answer, after, logOf, rolledBack, readsDropped, handled, releaseAnswer}
+use Rattle.model.specs.Effects.{recordOf, answer, after, logOf, rolledBack, readsDropped, handled, releaseAnswer}
+use Rattle.model.specs.Step.{outcome, effect, reply, step, planOf, sessionOf}
 use Rattle.model.specs.declared.Session.{Session}
 use Rattle.model.specs.declared.Lock.{Lock}
 use Rattle.model.specs.declared.Call.{Call}

@@ -1,6 +1,6 @@
 -- What a read and a write can decide, with what each decision says of the cell and the record.
 use mathlib.Core.Path.{_≡_, refl}
-use mathlib.Core.Bool.{cond, not}
+use mathlib.Core.Bool.{not}
 use mathlib.Core.Option.{some}
 use mathlib.Core.List.{List}
 use Prim.Native.Nat.{ℕ, _<_}
@@ -9,8 +9,8 @@ use borrow.Author.Tests.{ltb-true, eqb-true}
 use lib.ListN.{getD}
 use lib.Dec.{T, leb, ltb, eqb}
 use Rattle.model.specs.Buffers.{entryAt, slotIn, cap}
-use Rattle.model.specs.Step
-use Rattle.model.specs.Step.{newCell, claimed, recordFits, readSlot, readPlan, writeSlot, writeCapped, writePlan, guard}
+use Rattle.model.specs.Plans
+use Rattle.model.specs.Plans.{newCell, claimed, recordFits, readSlot, readPlan, writeSlot, writeCapped, writePlan, guard}
 use Rattle.model.specs.declared.Session.{Session}
 use Rattle.model.specs.declared.Lock.{Lock}
 use Rattle.model.specs.declared.Plan.{Plan}
@@ -31,8 +31,8 @@ module _ (n : ℕ) (log : List ℕ) (x : Session) (l : Lock) (c : ℕ) where
   -- past the tests, and with no entry of the cell
   module _ (known : ℕ → Plan) (new : Plan) where
     past : (p : Plan) → (Entries n log x → c < n → Choice n log x c known new p)
-        → Choice n log x c known new (guard n log x (eqb (x .phase) 1) (Step.known n c p))
-    unfolding guard Step.known
+        → Choice n log x c known new (guard n log x (eqb (x .phase) 1) (Plans.known n c p))
+    unfolding guard Plans.known
     past p f =
         split (Choice n log x c known new) (recordFits n log x)
         (λ w.

@@ -7,7 +7,9 @@ use native.Mathlib.Omega.{arith}
 use lib.Dec.{T, eqb}
 use lib.ListN.{length, getD, length-set}
 use Rattle.model.specs.Buffers.{Locks, Store, size, idle, sessionAt, withEntry, lockAt, onLock, logIn, onLog, entryAt, join, appended, updated}
-use Rattle.model.specs.Step.{outcome, effect, plan, planOf, logOf, sessionOf, readPlan, writePlan, rolledBack}
+use Rattle.model.specs.Plans.{plan, readPlan, writePlan}
+use Rattle.model.specs.Effects.{logOf, rolledBack}
+use Rattle.model.specs.Step.{outcome, effect, planOf, sessionOf}
 use Rattle.model.specs.declared.Session.{Session}
 use Rattle.model.specs.declared.Lock.{Lock}
 use Rattle.model.specs.declared.Call.{Call}

@@ -9,7 +9,9 @@ use native.Mathlib.Nat.{mod-eq-of-lt, mod-lt, zero-lt-suc}
 use native.Mathlib.Omega.{arith}
 use lib.Seq.{set-getD}
 use Rattle.model.specs.Buffers.{Locks, Store, sessionAt, withSession, withEntry, moveTo, appended, updated}
-use Rattle.model.specs.Step.{Outcome, outcome, recordFits, readPlan, writePlan, sealPlan, rolledBack}
+use Rattle.model.specs.Plans.{recordFits, readPlan, writePlan, sealPlan}
+use Rattle.model.specs.Effects.{rolledBack}
+use Rattle.model.specs.Step.{Outcome, outcome}
 use Rattle.model.specs.declared.Session.{Session}
 use Rattle.model.specs.declared.Sessions.{Sessions}
 use Rattle.model.specs.declared.Answer.{Answer}

@@ -1,5 +1,5 @@
 -- A session's log, as the code takes it out of the logs and puts it back.
-use mathlib.Core.Path.{_≡_, sym, ap, _∙_}
+use mathlib.Core.Path.{_≡_, sym, _∙_}
 use mathlib.Core.List.{List, _++_}
 use Prim.Native.Nat.{ℕ, _+_, _*_, _-_, _<_, _≤_}
 use native.Mathlib.Omega.{arith}
@@ -7,7 +7,7 @@ use lib.ListN.{length, getD, take, drop}
 use mir.Syntax.{w64}
 use mir.Val.{Fits}
 use Rattle.model.specs.Buffers.{Locks, Store, idle, logIn, onLog}
-use Rattle.model.specs.Step.{logOf, rolledBack, readsDropped}
+use Rattle.model.specs.Effects.{logOf, rolledBack, readsDropped}
 use Rattle.model.specs.declared.Session.{Session}
 use Rattle.model.proofs.Laws.{log-length}
 use Rattle.locks.specs.Sweeps.{locksOf, Swept, DropsReads}

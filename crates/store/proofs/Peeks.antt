@@ -13,7 +13,9 @@ use denote.Ref.{RefT}
 use lib.Dec.{T, ltb, eqb}
 use lib.ListN.{length, take, drop, length-take, length-drop}
 use Rattle.model.specs.Buffers.{Store, size, sessionAt, entryAt, slotIn, lengthsFit}
-use Rattle.model.specs.Step.{outcome, effect, planOf, recordOf, recordFits, guard, known, peekSlot, plan, shown, peekShows, peekPlan, logOf}
+use Rattle.model.specs.Plans.{recordFits, guard, known, peekSlot, plan, peekPlan}
+use Rattle.model.specs.Effects.{recordOf, shown, logOf}
+use Rattle.model.specs.Step.{outcome, effect, planOf, peekShows}
 use Rattle.model.specs.declared.Call.the-variants.{Peek}
 use Rattle.model.specs.declared.Answer.the-variants.{Done, Refused}
 use Rattle.model.specs.declared.Plan.{Plan}

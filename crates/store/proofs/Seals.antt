@@ -8,7 +8,8 @@ use borrow.Author.Tests.{eqb-true}
 use lib.Dec.{eqb}
 use lib.ListN.{length}
 use Rattle.model.specs.Buffers.{Store, size, idle, sessionAt, moveTo, targetIn}
-use Rattle.model.specs.Step.{outcome, effect, plan, planOf, sealTarget, recordFits, sealPlan, guard}
+use Rattle.model.specs.Plans.{plan, sealTarget, recordFits, sealPlan, guard}
+use Rattle.model.specs.Step.{outcome, effect, planOf}
 use Rattle.model.specs.declared.Session.{Session}
 use Rattle.model.specs.declared.Call.the-variants.{Seal}
 use Rattle.model.specs.declared.Answer.the-variants.{Sealed, Committed, Refused}

@@ -5,7 +5,9 @@ use Prim.Native.Nat.{ℕ}
 use lib.Dec.{eqb}
 use lib.ListN.{length}
 use Rattle.model.specs.Buffers.{Locks, Store, size, idle, running, sessionAt}
-use Rattle.model.specs.Step.{outcome, effect, plan, recordFits, rolledBack}
+use Rattle.model.specs.Plans.{plan, recordFits}
+use Rattle.model.specs.Effects.{rolledBack}
+use Rattle.model.specs.Step.{outcome, effect}
 use Rattle.model.specs.declared.Session.{Session}
 use Rattle.model.specs.declared.Call.the-variants.{Begin, Abandon}
 use Rattle.model.specs.declared.Answer.the-variants.{Done, Refused}

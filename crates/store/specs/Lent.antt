@@ -8,7 +8,8 @@ use denote.Ref.{RefT, now}
 use Rattle.model.specs.Search.{below}
 use Rattle.model.specs.Slices.{Slice}
 use Rattle.model.specs.Buffers.{Store, size, withSession, cellAt, appended, lockAt, onLock, join, lengthsFit}
-use Rattle.model.specs.Step.{Outcome, outcome, answer, after, recordOf, logOf, planOf, effect, setUpEffect, peekShows, Part, storeWord, logWord, noWord}
+use Rattle.model.specs.Effects.{answer, after, recordOf, logOf, Part, storeWord, logWord, noWord}
+use Rattle.model.specs.Step.{Outcome, outcome, planOf, effect, setUpEffect, peekShows}
 use Rattle.model.specs.declared.Call.{Call}
 use Rattle.model.specs.declared.Call.the-variants.{Peek}
 use Rattle.model.specs.declared.Sessions.{Sessions}

@@ -6,7 +6,7 @@ use denote.Enum.Declared.{tagOf}
 use types.Run.{OneOf, miss}
 use Rattle.model.specs.declared.Answer.{Answer}
 use Rattle.model.specs.declared.Answer.the-variants.{Done, Value, Sealed, Moved, Waiting, Committed, Refused}
-use Rattle.model.specs.Step.{number}
+use Rattle.model.specs.Effects.{number}
 use Rattle.model.proofs.Answer.{the-type}
 use Rattle.transcript.specs.Lines.{word, space, newline, answerWords}
 

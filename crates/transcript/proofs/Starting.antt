@@ -11,7 +11,8 @@ use borrow.Author.Tests.{le-leb, lt-leb, eq-eqb, ne-eqb}
 use Rattle.model.specs.declared.Answer.{Answer}
 use Rattle.model.specs.declared.Sessions.{Sessions}
 use Rattle.model.specs.Buffers.{Store, size, lengthsFit, fresh}
-use Rattle.model.specs.Step.{number, Outcome, outcome, setUpAnswer, setUp, setUpEffect}
+use Rattle.model.specs.Effects.{number}
+use Rattle.model.specs.Step.{Outcome, outcome, setUpAnswer, setUp, setUpEffect}
 use Rattle.model.proofs.Demand3.{set-up-fresh}
 use Rattle.model.proofs.Tools.{test}
 use Rattle.store.specs.Lent.{storeOf}

@@ -4,7 +4,7 @@ use Prim.Native.Nat.{ℕ, suc}
 use mathlib.Core.List.{List, [], _∷_, _++_}
 use Rattle.model.specs.declared.Answer.{Answer}
 use Rattle.model.specs.declared.Answer.the-variants.{Done, Value, Sealed, Moved, Waiting, Committed, Refused}
-use Rattle.model.specs.Step.{number}
+use Rattle.model.specs.Effects.{number}
 use Rattle.model.specs.History.{Event}
 use Rattle.transcript.specs.Decimal.{decimal}
 use Rattle.transcript.specs.Items.{Item, cell, asked, refused}

@@ -9,7 +9,8 @@ use lib.ListN.{length, replicate}
 use Rattle.model.specs.declared.Answer.{Answer}
 use Rattle.model.specs.declared.Call.{Call}
 use Rattle.model.specs.Buffers.{Store, idle}
-use Rattle.model.specs.Step.{number, setUpAnswer, setUp}
+use Rattle.model.specs.Effects.{number}
+use Rattle.model.specs.Step.{setUpAnswer, setUp}
 use Rattle.model.specs.History.{run, events}
 use Rattle.transcript.specs.Items.{Item, itemsAt, values, classes, later, calls}
 use Rattle.transcript.specs.Lines.{sizeLine, setUpLine, answerLines, cellLines, endLine}

@@ -1,7 +1,7 @@
 -- Each return is a case of the model's `newCell`.
 use native.Mathlib.Omega.{arith}
 use borrow.Author.Tests.{lt-ltb, le-ltb, eq-eqb, ne-eqb}
-use Rattle.model.specs.Step.{newCell, claimed}
+use Rattle.model.specs.Plans.{newCell, claimed}
 use Rattle.decide.proofs.new_cell.Statement.{statement}
 use Rattle.decide.proofs.new_cell.Tie as tie
 

@@ -1,6 +1,6 @@
 -- Each return is a way through `peekOn`.
 use borrow.Author.Needs.{needs}
-use Rattle.model.specs.Step.{guard, peekPlan}
+use Rattle.model.specs.Plans.{guard, peekPlan}
 use Rattle.decide.proofs.Ways.{turned, room, inside, peek-outside, peek-new, peek-written, peek-read}
 use Rattle.decide.proofs.peek.Statement.{statement}
 use Rattle.decide.proofs.peek.Tie as tie

@@ -1,6 +1,6 @@
 -- Each return is a way through `readOn`: the tests' number, the cell outside, known, or new.
 use borrow.Author.Needs.{needs}
-use Rattle.model.specs.Step.{guard, readPlan}
+use Rattle.model.specs.Plans.{guard, readPlan}
 use Rattle.decide.proofs.Ways.{turned, room, inside, read-outside, read-known, read-new}
 use Rattle.decide.proofs.read.Statement.{statement}
 use Rattle.decide.proofs.read.Tie as tie

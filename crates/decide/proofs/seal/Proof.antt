@@ -1,6 +1,6 @@
 -- Each return is a way through `sealOn`.
 use borrow.Author.Needs.{needs}
-use Rattle.model.specs.Step.{guard, sealPlan}
+use Rattle.model.specs.Plans.{guard, sealPlan}
 use Rattle.decide.proofs.Ways.{turned, room, seal-writes, seal-reads}
 use Rattle.decide.proofs.seal.Statement.{statement}
 use Rattle.decide.proofs.seal.Tie as tie

@@ -1,6 +1,6 @@
 -- Each return is a way through `writeOn`: the tests' number, the cell outside, an odd class, or what the cap leaves.
 use borrow.Author.Needs.{needs}
-use Rattle.model.specs.Step.{guard, writePlan}
+use Rattle.model.specs.Plans.{guard, writePlan}
 use Rattle.decide.proofs.Ways.{turned, few, write-outside, write-odd, write-class}
 use Rattle.decide.proofs.write.Statement.{statement}
 use Rattle.decide.proofs.write.Tie as tie

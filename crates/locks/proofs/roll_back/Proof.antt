@@ -4,7 +4,7 @@ use mathlib.Core.Path.{refl, _∙_, _≡_}
 use native.Mathlib.Omega.{arith}
 use lib.ListN.{length}
 use Rattle.model.specs.Buffers.{cellAt}
-use Rattle.model.specs.Step.{rolledBack}
+use Rattle.model.specs.Effects.{rolledBack}
 use Rattle.model.proofs.Laws.{below-is}
 use Rattle.locks.specs.Sweeps.{locksOf}
 use Rattle.locks.proofs.Sweeps.{roll-start, roll-more}
