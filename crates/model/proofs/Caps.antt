@@ -14,6 +14,7 @@ use Rattle.model.specs.declared.Session.{Session}
 use Rattle.model.specs.declared.Call.{Call}
 use Rattle.model.specs.declared.Call.the-variants.{Begin, Read, Write, Seal, Advance, Abandon, Peek}
 use Rattle.model.specs.declared.Answer.{Answer}
+use Rattle.model.specs.declared.Answer.the-variants.{Moved, Committed, Refused}
 use Rattle.model.specs.declared.Plan.{Plan}
 use Rattle.model.specs.declared.Plan.the-variants.{Refuse, Start, Tell, Enter, Update, EnterUpdate, RollBack, Cancel, CommitReads, BeginPromotion, Wait, Acquire, Publish, Release, ShowStore, ShowLog}
 use Rattle.model.specs.Buffers.{Locks, Buffers, Store, idle, running, sessionAt, withSession, withEntry, moveTo, word, cellAt, entryAt, slotIn, entryOf, lookIn, targetIn, currentOf, appended, updated, lockAt, onLock, join, cap, fits, allFit, lengthsFit, fresh, logIn, onLog, size}
@@ -22,14 +23,16 @@ use Rattle.model.specs.History.{run, events, told, history, add}
 use Rattle.model.specs.Isolation.{All}
 use Rattle.model.specs.Readers.{otherReaders}
 use Rattle.model.specs.Search.{some?, find}
-use Rattle.model.specs.Plans.{guard, known, claimed, readSlot, writeSlot, writeCapped, sealTarget, promotePlan, advanceTarget, peekSlot, plan, admit}
-use Rattle.model.specs.Effects.{number, valueOf, handled, change, changeLogs, recordOf, after, releaseAnswer, answer, logOf}
+use Rattle.model.specs.Plans.{guard, known, claimed, readSlot, writeSlot, writeCapped, sealTarget, promotePlan, advanceTarget, plan, admit}
+use Rattle.model.specs.Effects.{number, isLeft, handled, change, changeLogs, recordOf, after, releaseAnswer, answer, logOf}
 use Rattle.model.specs.Step.{sessionOf, planOf, step, reply, setUpAnswer, setUp}
-use Rattle.model.specs.Told.{Told, ended, ending, tells, WhereGot}
+use Rattle.model.specs.Told.{Told, began, got, put, sealed, moved, ended, ending, tells, WhereGot}
 use Rattle.model.proofs.Demand3.{set-up-passed, set-up-fresh}
 use Rattle.model.proofs.Laws.{find-some, getD-sets-other, log-length, log-same, log-other, length-on, grown-word, grown-apart}
-use Rattle.model.proofs.Preservation.{choose, guarded, cell-known, cell-new}
+use Rattle.model.proofs.Passing.{choose, guarded, cell-known, cell-new}
+use Rattle.model.proofs.Quiet.{Quiet, peeks}
 use Rattle.model.proofs.Runs.{first, history-step}
+use Rattle.model.proofs.Telling.{tells-any}
 use Rattle.model.proofs.Tools.{same, split, test, which, clash, both-l, both-r, and-false}
 
 -- ---- the invariant
@@ -177,152 +180,123 @@ fitting P B s x fit p r f =
     (λ h. guarded P B s x fit p (r 7) (r 1) (r 9) (r 2) (λ lt _ q. f (logs-long B h) lt q))
     (λ h. rw h (r 7))
 
--- a read's value is within the bound of its cell
-abbrev Bounded : (ℕ → ℕ) → Call → ℕ → Type 0
-Bounded bound (Begin s) v = Unit
-Bounded bound (Read s c) v = v ≤ bound c
-Bounded bound (Write s c w) v = Unit
-Bounded bound (Seal s) v = Unit
-Bounded bound (Advance s) v = Unit
-Bounded bound (Abandon s) v = Unit
-Bounded bound (Peek s c) v = Unit
-
-bounded-zero : (bound : ℕ → ℕ) (k : Call) → Bounded bound k 0
-bounded-zero bound (Begin s) = tt
-bounded-zero bound (Read s c) = omega arith
-bounded-zero bound (Write s c v) = tt
-bounded-zero bound (Seal s) = tt
-bounded-zero bound (Advance s) = tt
-bounded-zero bound (Abandon s) = tt
-bounded-zero bound (Peek s c) = tt
-
--- so is what the call tells
+-- a value told is within the bound of its cell
 abbrev TellsWithin : (ℕ → ℕ) → List Told → Type 0
 TellsWithin bound ws = All (WhereGot (λ c v. v ≤ bound c)) ws
 
-bounded-tells : (bound : ℕ → ℕ) (k : Call) (a : Answer) → Bounded bound k (valueOf a) → TellsWithin bound (tells k a)
-unfolding tells ending
-bounded-tells bound k a b = go k b
+-- a refusal's value, 0, is
+refused-within : (bound : ℕ → ℕ) (r : ℕ) (k : Call) → TellsWithin bound (tells k (Refused r))
+unfolding ending
+refused-within bound r =
+    tells-any (TellsWithin bound) (Refused r) (split (TellsWithin bound) (eqb r 6 || eqb r 105) (λ _. (tt, tt)) (λ _. tt)) (λ w _ g. (none-above w g, tt)) (λ _. (tt, (tt, tt)))
   where
-    P : List Told → Type 0
-    P = TellsWithin bound
-
-    end : P (cond (eqb (number a) 6 || eqb (number a) 105) (ended ∷ []) [])
-    end = split P (eqb (number a) 6 || eqb (number a) 105) (λ _. (tt, tt)) (λ _. tt)
-
-    go : (k : Call) → Bounded bound k (valueOf a) → P (tells k a)
-    go (Begin s) b = split P (eqb (number a) 100) (λ _. (tt, tt)) (λ _. end)
-    go (Read s c) b = split P (eqb (number a) 101) (λ _. (b, tt)) (λ _. end)
-    go (Write s c v) b = split P (eqb (number a) 100) (λ _. (tt, tt)) (λ _. end)
-    go (Seal s) b = split P (eqb (number a) 102) (λ _. (tt, tt)) (λ _. split P (eqb (number a) 105) (λ _. (tt, (tt, tt))) (λ _. end))
-    go (Advance s) b = split P (eqb (number a) 103) (λ _. (tt, tt)) (λ _. end)
-    go (Abandon s) b = split P (eqb (number a) 100) (λ _. (tt, tt)) (λ _. end)
-    go (Peek s c) b = end
+    none-above : (w : Told) → WhereGot (λ c v. v ≡ 0) w → WhereGot (λ c v. v ≤ bound c) w
+    none-above began g = tt
+    none-above (got c v) g = omega arith
+    none-above (put c v) g = tt
+    none-above sealed g = tt
+    none-above moved g = tt
+    none-above ended g = tt
 
 module _ {σ : Store} (I : Capped σ) where
   -- what a plan leaves and what it answers are within the caps
-  abbrev Kept : Call → Plan → Type 0
-  Kept k p = Capped (after (sessionOf k) p σ) × Bounded (capOf σ) k (valueOf (answer (sessionOf k) p σ))
+  abbrev CapsKept : Call → Plan → Type 0
+  CapsKept k p = Capped (after (sessionOf k) p σ) × TellsWithin (capOf σ) (tells k (answer (sessionOf k) p σ))
 
-  keep-refusal : (k : Call) (m : ℕ) → Kept k (Refuse m)
+  keep-refusal : (k : Call) (m : ℕ) → CapsKept k (Refuse m)
   unfolding after answer
-  keep-refusal k m = (I, bounded-zero (capOf σ) k)
+  keep-refusal k m = (I, refused-within (capOf σ) m k)
 
-  keep-rollback : (k : Call) → Kept k RollBack
+  keep-rollback : (k : Call) → CapsKept k RollBack
   unfolding after answer
-  keep-rollback k = (idle-keeps I (sessionOf k) _, bounded-zero (capOf σ) k)
+  keep-rollback k = (idle-keeps I (sessionOf k) _, refused-within (capOf σ) 6 k)
+
+  keep-quiet : (k : Call) (p : Plan) → Quiet k σ p → CapsKept k p
+  keep-quiet k p q = rw (q .told, q .left) (I, tt)
 
   -- a call of a running session on a cell
   on-cell : (k : Call) (c : ℕ) (p : Plan) → let s = sessionOf k in
-      (length (σ .lent .logs) ≡ 2048 → s < 16 → (recordOf σ s .phase ≡ 0 → ⊥) → Kept k p)
-      → Kept k (admit (σ .lent) s (guard (size (σ .lent)) (logOf σ s) (recordOf σ s) (eqb (recordOf σ s .phase) 1) (known (size (σ .lent)) c p)))
+      (length (σ .lent .logs) ≡ 2048 → s < 16 → (recordOf σ s .phase ≡ 0 → ⊥) → CapsKept k p)
+      → CapsKept k (admit (σ .lent) s (guard (size (σ .lent)) (logOf σ s) (recordOf σ s) (eqb (recordOf σ s .phase) 1) (known (size (σ .lent)) c p)))
   on-cell k c p f =
       let s = sessionOf k in
-      fitting (Kept k) (σ .lent) s (recordOf σ s) (eqb (recordOf σ s .phase) 1) (known (size (σ .lent)) c p) (keep-refusal k)
-      (λ len lt h. cell-known (Kept k) (size (σ .lent)) c p (keep-refusal k 3) (λ _. f len lt (λ e. let w = eqb-true (recordOf σ s .phase) 1 h in omega arith)))
+      fitting (CapsKept k) (σ .lent) s (recordOf σ s) (eqb (recordOf σ s .phase) 1) (known (size (σ .lent)) c p) (keep-refusal k)
+      (λ len lt h. cell-known (CapsKept k) (size (σ .lent)) c p (keep-refusal k 3) (λ _. f len lt (λ e. let w = eqb-true (recordOf σ s .phase) 1 h in omega arith)))
 
-  keep-read : (s c : ℕ) → Kept (Read s c) (planOf (Read s c) σ)
-  unfolding planOf plan readSlot after answer lookIn entryOf
+  keep-read : (s c : ℕ) → CapsKept (Read s c) (planOf (Read s c) σ)
+  unfolding planOf plan readSlot after answer lookIn entryOf tells ending
   keep-read s c =
       on-cell (Read s c) c (readSlot (logOf σ s) (recordOf σ s) (lockAt (σ .lent .locks) c) c (slotIn (logOf σ s) (recordOf σ s .count) c))
       (λ len lt n.
-      choose (Kept (Read s c)) (readSlot (logOf σ s) (recordOf σ s) (lockAt (σ .lent .locks) c) c) (slotIn (logOf σ s) (recordOf σ s .count) c)
-      (λ _. cell-new (Kept (Read s c)) (recordOf σ s) (lockAt (σ .lent .locks) c) (Enter c) (keep-refusal (Read s c) 5) (λ _. keep-rollback (Read s c))
-      (λ room _. (enter-keeps I s n len lt room c, I .stored c)))
-      (λ j p. (I, rw p at (current-within I s n c))))
+      choose (CapsKept (Read s c)) (readSlot (logOf σ s) (recordOf σ s) (lockAt (σ .lent .locks) c) c) (slotIn (logOf σ s) (recordOf σ s .count) c)
+      (λ _. cell-new (CapsKept (Read s c)) (recordOf σ s) (lockAt (σ .lent .locks) c) (Enter c) (keep-refusal (Read s c) 5) (λ _. keep-rollback (Read s c))
+      (λ room _. (enter-keeps I s n len lt room c, (I .stored c, tt))))
+      (λ j p. (I, (rw p at (current-within I s n c), tt))))
 
-  keep-write : (s c v : ℕ) → Kept (Write s c v) (planOf (Write s c v) σ)
-  unfolding planOf plan writeCapped writeSlot after answer slotIn
+  keep-write : (s c v : ℕ) → CapsKept (Write s c v) (planOf (Write s c v) σ)
+  unfolding planOf plan writeCapped writeSlot after answer slotIn tells ending
   keep-write s c v =
       let k = getD (σ .lent .classes) c 0 in
       let call = Write s c v in
       let m = recordOf σ s .count in
       on-cell call c (cond (ltb k 16) (writeCapped (logOf σ s) (recordOf σ s) (lockAt (σ .lent .locks) c) c v (cap k)) (Refuse 8))
       (λ len lt n.
-      split (Kept call) (ltb k 16)
-      (λ _. split (Kept call) (leb v (cap k))
+      split (CapsKept call) (ltb k 16)
+      (λ _. split (CapsKept call) (leb v (cap k))
       (λ h.
       let le : v ≤ capOf σ c = leb-true v (cap k) h in
-      choose (Kept call) (writeSlot (recordOf σ s) (lockAt (σ .lent .locks) c) c v) (slotIn (logOf σ s) m c)
-      (λ _. cell-new (Kept call) (recordOf σ s) (lockAt (σ .lent .locks) c) (EnterUpdate c v) (keep-refusal call 5) (λ _. keep-rollback call)
+      choose (CapsKept call) (writeSlot (recordOf σ s) (lockAt (σ .lent .locks) c) c v) (slotIn (logOf σ s) m c)
+      (λ _. cell-new (CapsKept call) (recordOf σ s) (lockAt (σ .lent .locks) c) (EnterUpdate c v) (keep-refusal call 5) (λ _. keep-rollback call)
       (λ room _.
       let u = getD (σ .lent .values) c 0 in
-      (update-keeps (enter-keeps I s n len lt room c) s m v lt (entered-length s (σ .lent .logs) m c u lt len) (rw (entered-cell s (σ .lent .logs) m c u lt len room) le), tt)))
-      (λ j p. (update-keeps I s j v lt len (rw (find-some (cellAt (logOf σ s)) c m p .1) le), tt)))
+      (update-keeps (enter-keeps I s n len lt room c) s m v lt (entered-length s (σ .lent .logs) m c u lt len) (rw (entered-cell s (σ .lent .logs) m c u lt len room) le), (tt, tt))))
+      (λ j p. (update-keeps I s j v lt len (rw (find-some (cellAt (logOf σ s)) c m p .1) le), (tt, tt))))
       (λ _. keep-refusal call 4))
       (λ _. keep-refusal call 8))
 
-  keep-peek : (s c : ℕ) → Kept (Peek s c) (planOf (Peek s c) σ)
-  unfolding planOf plan peekSlot after answer
-  keep-peek s c =
-      on-cell (Peek s c) c (peekSlot (logOf σ s) c (slotIn (logOf σ s) (recordOf σ s .count) c))
-      (λ _ _ _.
-      choose (Kept (Peek s c)) (peekSlot (logOf σ s) c) (slotIn (logOf σ s) (recordOf σ s .count) c) (λ _. keep-refusal (Peek s c) 14)
-      (λ k _. split (Kept (Peek s c)) (entryAt (logOf σ s) k .dirty) (λ _. (I, tt)) (λ _. (I, tt))))
-
-  keep-begin : (s : ℕ) → Kept (Begin s) (planOf (Begin s) σ)
-  unfolding planOf plan after answer
+  keep-begin : (s : ℕ) → CapsKept (Begin s) (planOf (Begin s) σ)
+  unfolding planOf plan after answer tells ending
   keep-begin s =
-      fitting (Kept (Begin s)) (σ .lent) s (recordOf σ s) (eqb (recordOf σ s .phase) 0) Start (keep-refusal (Begin s))
-      (λ _ _ _. (shrink-keeps I s (σ .lent .locks) running (λ k u. absurd (omega (arith, u .1))), tt))
+      fitting (CapsKept (Begin s)) (σ .lent) s (recordOf σ s) (eqb (recordOf σ s .phase) 0) Start (keep-refusal (Begin s))
+      (λ _ _ _. (shrink-keeps I s (σ .lent .locks) running (λ k u. absurd (omega (arith, u .1))), (tt, tt)))
 
-  keep-abandon : (s : ℕ) → Kept (Abandon s) (planOf (Abandon s) σ)
-  unfolding planOf plan after answer
+  keep-abandon : (s : ℕ) → CapsKept (Abandon s) (planOf (Abandon s) σ)
+  unfolding planOf plan after answer tells ending
   keep-abandon s =
-      fitting (Kept (Abandon s)) (σ .lent) s (recordOf σ s) (eqb (recordOf σ s .phase) 1 || eqb (recordOf σ s .phase) 2) Cancel (keep-refusal (Abandon s))
-      (λ _ _ _. (idle-keeps I s _, tt))
+      fitting (CapsKept (Abandon s)) (σ .lent) s (recordOf σ s) (eqb (recordOf σ s .phase) 1 || eqb (recordOf σ s .phase) 2) Cancel (keep-refusal (Abandon s))
+      (λ _ _ _. (idle-keeps I s _, (tt, tt)))
 
-  keep-seal : (s : ℕ) → Kept (Seal s) (planOf (Seal s) σ)
-  unfolding planOf plan sealTarget after answer
+  keep-seal : (s : ℕ) → CapsKept (Seal s) (planOf (Seal s) σ)
+  unfolding planOf plan sealTarget after answer tells ending
   keep-seal s =
       let x = recordOf σ s in
-      fitting (Kept (Seal s)) (σ .lent) s x (eqb (x .phase) 1) (sealTarget (targetIn (logOf σ s) (x .count) 0)) (keep-refusal (Seal s))
+      fitting (CapsKept (Seal s)) (σ .lent) s x (eqb (x .phase) 1) (sealTarget (targetIn (logOf σ s) (x .count) 0)) (keep-refusal (Seal s))
       (λ _ _ h.
-      choose (Kept (Seal s)) sealTarget (targetIn (logOf σ s) (x .count) 0) (λ _. (idle-keeps I s _, tt))
-      (λ c _. (shrink-keeps I s _ (moveTo 2 0 x) (λ k u. (λ e. let w = eqb-true (x .phase) 1 h in omega arith, u .1)), tt)))
+      choose (CapsKept (Seal s)) sealTarget (targetIn (logOf σ s) (x .count) 0) (λ _. (idle-keeps I s _, (tt, (tt, tt))))
+      (λ c _. (shrink-keeps I s _ (moveTo 2 0 x) (λ k u. (λ e. let w = eqb-true (x .phase) 1 h in omega arith, u .1)), (tt, tt))))
 
-  keep-advance : (s : ℕ) → Kept (Advance s) (planOf (Advance s) σ)
-  unfolding planOf plan advanceTarget promotePlan after answer releaseAnswer
+  keep-advance : (s : ℕ) → CapsKept (Advance s) (planOf (Advance s) σ)
+  unfolding planOf plan advanceTarget promotePlan after answer releaseAnswer tells ending
   keep-advance s =
       let x = recordOf σ s in
       let call = Advance s in
-      fitting (Kept call) (σ .lent) s x (leb 2 (x .phase)) (advanceTarget s (logOf σ s) x (lockAt (σ .lent .locks)) (targetIn (logOf σ s) (x .count) (x .next))) (keep-refusal call)
+      fitting (CapsKept call) (σ .lent) s x (leb 2 (x .phase)) (advanceTarget s (logOf σ s) x (lockAt (σ .lent .locks)) (targetIn (logOf σ s) (x .count) (x .next))) (keep-refusal call)
       (λ _ _ h.
       let n : x .phase ≡ 0 → ⊥ = λ e. let w = leb-true 2 (x .phase) h in omega arith in
-      choose (Kept call) (advanceTarget s (logOf σ s) x (lockAt (σ .lent .locks))) (targetIn (logOf σ s) (x .count) (x .next)) (λ _. keep-refusal call 9)
+      choose (CapsKept call) (advanceTarget s (logOf σ s) x (lockAt (σ .lent .locks))) (targetIn (logOf σ s) (x .count) (x .next)) (λ _. keep-refusal call 9)
       (λ c _.
       let handle-keeps : (L : Locks) → Capped (change σ s L (σ .lent .values) (σ .lent .logs) (handled (logOf σ s) c x)) =
       λ L. shrink-keeps I s L (handled (logOf σ s) c x) (handled-in-use (logOf σ s) c x n) in
-      split (Kept call) (eqb (x .phase) 2)
+      split (CapsKept call) (eqb (x .phase) 2)
       (λ _.
       let l = lockAt (σ .lent .locks) c in
-      split (Kept call) (claimed l && not (eqb (l .claimant) s)) (λ _. keep-rollback call)
-      (λ _. split (Kept call) (eqb (otherReaders s (l .readers)) 0) (λ _. (handle-keeps _, tt))
+      split (CapsKept call) (claimed l && not (eqb (l .claimant) s)) (λ _. keep-rollback call)
+      (λ _. split (CapsKept call) (eqb (otherReaders s (l .readers)) 0) {x = Acquire c} {y = Wait c} (λ _. (handle-keeps _, (tt, tt)))
       (λ _. (record { stored = I .stored; logged = I .logged }, tt))))
-      (λ _. split (Kept call) (eqb (x .phase) 3) (λ _. (publish-keeps I s n c _ (current-within I s n c), tt))
-      (λ _. (handle-keeps _, tt)))))
+      (λ _. split (CapsKept call) (eqb (x .phase) 3) {x = Publish c (currentOf (lookIn (logOf σ s) (x .count) c))} {y = Release c} (λ _. (publish-keeps I s n c _ (current-within I s n c), (tt, tt)))
+      (λ _. (handle-keeps _, split (λ (a : Answer). TellsWithin (capOf σ) (tells (Advance s) a)) (isLeft (logOf σ s) c x) {x = Moved} {y = Committed} (λ _. (tt, tt)) (λ _. (tt, tt)))))))
 
-  keep : (k : Call) → Kept k (planOf k σ)
+  keep : (k : Call) → CapsKept k (planOf k σ)
   unfolding planOf
   keep (Begin s) = keep-begin s
   keep (Read s c) = keep-read s c
@@ -330,15 +304,15 @@ module _ {σ : Store} (I : Capped σ) where
   keep (Seal s) = keep-seal s
   keep (Advance s) = keep-advance s
   keep (Abandon s) = keep-abandon s
-  keep (Peek s c) = keep-peek s c
+  keep (Peek s c) = keep-quiet (Peek s c) _ (peeks σ s c)
 
   pub keeps-capped : (k : Call) → Capped (step k σ)
   unfolding step
   keeps-capped k = keep k .0
 
-  pub answers-within : (k : Call) → Bounded (capOf σ) k (valueOf (reply k σ))
+  pub tells-within : (k : Call) → TellsWithin (capOf σ) (tells k (reply k σ))
   unfolding reply
-  answers-within k = keep k .1
+  tells-within k = keep k .1
 
 -- ---- classes never change
 
@@ -384,7 +358,7 @@ module _ {σ : Store} (I : Capped σ) where
       subst (All (GotWithin σ)) (sym (history-step [] σ k ks))
       (more (got-within ks) (tells k (reply k (run σ ks)))
       (subst (λ (bound : ℕ → ℕ). TellsWithin bound (tells k (reply k (run σ ks)))) (fun-ext (cap-run σ ks))
-      (bounded-tells (capOf (run σ ks)) k (reply k (run σ ks)) (answers-within (capped-run ks) k))))
+      (tells-within (capped-run ks) k)))
     where
       more : All (GotWithin σ) (history [] σ ks) → (ws : List Told) → TellsWithin (capOf σ) ws
           → All (GotWithin σ) (add (suc (length ks)) (sessionOf k) ws (history [] σ ks))

@@ -1,5 +1,8 @@
 pub mod Tools
 pub mod Laws
+pub mod Passing
+pub mod Telling
+pub mod Quiet
 pub mod Sets
 pub mod Roles
 pub mod View

@@ -3,23 +3,21 @@ use Prim.Native.Nat.{ℕ, suc, _≤_, _<_}
 use native.Mathlib.Omega.{arith}
 use mathlib.Core.Path.{_≡_, refl, sym, _∙_, ap}
 use mathlib.Core.Bool.{Bool, true, false, cond, not, _&&_, _||_}
-use mathlib.Core.Option.{Option, none, some}
+use mathlib.Core.Option.{none, some}
 use mathlib.Core.List.{List, _∷_}
 use lib.Dec.{leb, ltb, eqb}
 use lib.ListN.{length, getD}
-use borrow.Author.Tests.{eqb-true, eqb-false, eq-eqb, ne-eqb, ltb-true, leb-true, not-true, not-false}
-use Rattle.model.specs.declared.Session.{Session}
-use Rattle.model.specs.declared.Lock.{Lock}
+use borrow.Author.Tests.{eqb-true, eqb-false, eq-eqb, ne-eqb, leb-true}
 use Rattle.model.specs.declared.Call.{Call}
 use Rattle.model.specs.declared.Call.the-variants.{Begin, Read, Write, Seal, Advance, Abandon, Peek}
 use Rattle.model.specs.declared.Plan.{Plan}
 use Rattle.model.specs.declared.Plan.the-variants.{Refuse, Start, Enter, EnterUpdate, RollBack, Cancel, Acquire, Publish, Release}
-use Rattle.model.specs.Buffers.{Buffers, Store, size, idle, moveTo, Entry, cellAt, entryAt, slotIn, isPublished, targetIn, currentOf, lockAt, cap, fits, lengthsFit, logIn}
+use Rattle.model.specs.Buffers.{Store, size, idle, moveTo, Entry, cellAt, entryAt, slotIn, isPublished, targetIn, currentOf, lockAt, cap}
 use Rattle.model.specs.Isolation.{at}
 use Rattle.model.specs.Readers.{otherReaders}
 use Rattle.model.specs.Search.{some?, find, below, tally}
 use Rattle.model.specs.Told.{tells, ending}
-use Rattle.model.specs.Plans.{recordFits, guard, known, claimed, newCell, readSlot, writeSlot, writeCapped, sealTarget, promotePlan, advanceTarget, peekSlot, plan, admit, entriesFit}
+use Rattle.model.specs.Plans.{recordFits, guard, known, claimed, newCell, readSlot, writeSlot, writeCapped, sealTarget, promotePlan, advanceTarget, plan, admit, entriesFit}
 use Rattle.model.specs.Effects.{rolledBack, handled, change, recordOf, after, releaseAnswer, answer, logOf}
 use Rattle.model.specs.Step.{sessionOf, planOf, step, reply}
 use Rattle.model.proofs.Advancing.{target-some, target-none, late, role-late, more-open, holds-more, last-done, holds-last, waits, publishes-more, publishes-last, releases-more, releases-last}
@@ -27,6 +25,8 @@ use Rattle.model.proofs.Effects.{running-role, slot-none, slot-some, re
 use Rattle.model.proofs.Invariant.{roleIn, roleOf, role, Running, Promoting, Finishing, Inv, calms, ticks}
 use Rattle.model.proofs.Laws.{find-some, below-is, tally-flat, tally-more}
 use Rattle.model.proofs.Ledger.{Txn, closed, saw, wroteTo, sealedAt, advanced, Commit, Ledger, tick, calm, asCommit, amend, starts, observe}
+use Rattle.model.proofs.Passing.{choose, guarded, running-cell, cell-new}
+use Rattle.model.proofs.Quiet.{Quiet, peeks}
 use Rattle.model.proofs.Roles.{pends, flip}
 use Rattle.model.proofs.Sealing.{wrote-is, promotes, rests}
 use Rattle.model.proofs.Tools.{split, test, which, nothing, clash, both-l, both-r, upd, upd-same, upd-twice}
@@ -45,11 +45,6 @@ not-now a b p = rw p
 long-done : (a b : Bool) → b ≡ true → (a && not b) ≡ false
 long-done true b q = rw q
 long-done false b q = refl
-
--- an option, with what it came to, under a function that matches on it
-pub choose {ℓ κ μ} : {A : Type ℓ} {B : Type κ} (P : B → Type μ) (F : Option A → B) (o : Option A) → (o ≡ none → P (F none)) → ((a : A) → o ≡ some a → P (F (some a))) → P (F o)
-choose P F none f g = f refl
-choose P F (some a) f g = g a refl
 
 cond-true {ℓ} : {A : Type ℓ} (b : Bool) (x y : A) → b ≡ true → cond b x y ≡ x
 cond-true true x y h = refl
@@ -106,37 +101,6 @@ amend-commit-closed s u k T l =
     ∙ ap (λ (m : ℕ → Txn). record { place = T .place; mine = m; commits = k ∷ T .commits; new = true })
     (ap (λ (t : Txn). upd (upd (T .mine) s u) s (closed t)) (upd-same (T .mine) s u) ∙ upd-twice (T .mine) s u (closed u))
 
--- ---- what a call that is not turned down has passed
-
-pub guarded {ℓ} : (P : Plan → Type ℓ) (B : Buffers) (s : ℕ) (x : Session) (fits : Bool) (p : Plan) → P (Refuse 7) → P (Refuse 1) → P (Refuse 9) → P (Refuse 2)
-    → (s < 16 → recordFits (size B) (logIn (B .logs) s) x ≡ true → fits ≡ true → P p) → P (admit B s (guard (size B) (logIn (B .logs) s) x fits p))
-unfolding guard
-guarded P B s x fits p a b c d f =
-    split P (lengthsFit B)
-    (λ _. split P (ltb s 16) (λ l. split P (recordFits (size B) (logIn (B .logs) s) x) (λ k. split P fits (λ h. f (ltb-true s 16 l) k h) (λ _. d)) (λ _. c)) (λ _. b))
-    (λ _. a)
-
--- a cell below n
-pub cell-known {ℓ} : (P : Plan → Type ℓ) (n c : ℕ) (p : Plan) → P (Refuse 3) → (c < n → P p) → P (known n c p)
-unfolding known
-cell-known P n c p r3 f = split P (ltb c n) (λ l. f (ltb-true c n l)) (λ _. r3)
-
--- a call of a running session on a cell
-pub running-cell {ℓ} : (P : Plan → Type ℓ) (B : Buffers) (s : ℕ) (x : Session) (c : ℕ) (p : Plan) → P (Refuse 7) → P (Refuse 1) → P (Refuse 9) → P (Refuse 2) → P (Refuse 3)
-    → (s < 16 → x .phase ≡ 1 → c < size B → P p) → P (admit B s (guard (size B) (logIn (B .logs) s) x (eqb (x .phase) 1) (known (size B) c p)))
-running-cell P B s x c p r7 r1 r9 r2 r3 f =
-    guarded P B s x (eqb (x .phase) 1) (known (size B) c p) r7 r1 r9 r2 (λ lt _ h. cell-known P (size B) c p r3 (f lt (eqb-true (x .phase) 1 h)))
-
--- a cell that is not in the log
-pub cell-new {ℓ} : (P : Plan → Type ℓ) (x : Session) (l : Lock) (p : Plan) → P (Refuse 5) → ((l .claimant ≡ 16 → ⊥) → P RollBack)
-    → (x .count < 32 → l .claimant ≡ 16 → P p) → P (newCell x l p)
-unfolding newCell claimed
-cell-new P x l p r5 r6 f =
-    split P (ltb (x .count) 32)
-    (λ n. split P (not (eqb (l .claimant) 16)) (λ q. r6 (eqb-false (l .claimant) 16 (not-true (eqb (l .claimant) 16) q)))
-    (λ q. f (ltb-true (x .count) 32 n) (eqb-true (l .claimant) 16 (not-false (eqb (l .claimant) 16) q))))
-    (λ _. r5)
-
 module _ {start : List ℕ} {σ : Store} {T : Ledger} (I : Inv start σ T) (s : ℕ) (k : recordFits (size (σ .lent)) (logOf σ s) (recordOf σ s) ≡ true) where
   pub inside : (recordOf σ s .phase ≡ 0 → ⊥) → (c : ℕ) (e : Entry) → look σ s c ≡ some e → c < length start
   unfolding entriesFit recordFits size
@@ -185,8 +149,8 @@ module _ (σ : Store) (s c : ℕ) where
 -- ---- the calls
 
 module _ {first : List ℕ} {σ : Store} {T : Ledger} (I : Inv first σ T) where
-  abbrev Kept : Call → Plan → Type 0
-  Kept k p = Inv first (after (sessionOf k) p σ) (observe (length first) k (answer (sessionOf k) p σ) T)
+  abbrev InvKept : Call → Plan → Type 0
+  InvKept k p = Inv first (after (sessionOf k) p σ) (observe (length first) k (answer (sessionOf k) p σ) T)
 
   -- a call that tells nothing
   stays : Inv first σ (tick (calm T))
@@ -203,16 +167,16 @@ module _ {first : List ℕ} {σ : Store} {T : Ledger} (I : Inv first σ T) where
   unfolding late roleIn
   calm₂ s ph c = rw (role-late σ s c 0 ph) (test (written σ s c) (λ w. rw w (test (leb (recordOf σ s .next) c) (λ b. rw b) (λ b. rw b))) (λ w. rw w))
 
-  keep-begin : (s : ℕ) → Kept (Begin s) (planOf (Begin s) σ)
+  keep-begin : (s : ℕ) → InvKept (Begin s) (planOf (Begin s) σ)
   unfolding planOf plan observe tells ending after answer starts
   keep-begin s =
-      guarded (Kept (Begin s)) (σ .lent) s (recordOf σ s) (eqb (recordOf σ s .phase) 0) Start stays stays stays stays
+      guarded (InvKept (Begin s)) (σ .lent) s (recordOf σ s) (eqb (recordOf σ s .phase) 0) Start stays stays stays stays
       (λ lt k h. started s lt I (eqb-true (recordOf σ s .phase) 0 h))
 
-  keep-abandon : (s : ℕ) → Kept (Abandon s) (planOf (Abandon s) σ)
+  keep-abandon : (s : ℕ) → InvKept (Abandon s) (planOf (Abandon s) σ)
   unfolding planOf plan observe tells ending after answer
   keep-abandon s =
-      guarded (Kept (Abandon s)) (σ .lent) s (recordOf σ s) (eqb (recordOf σ s .phase) 1 || eqb (recordOf σ s .phase) 2) Cancel stays stays stays stays
+      guarded (InvKept (Abandon s)) (σ .lent) s (recordOf σ s) (eqb (recordOf σ s .phase) 1 || eqb (recordOf σ s .phase) 2) Cancel stays stays stays stays
       (λ lt k h.
       test (eqb (recordOf σ s .phase) 1)
       (λ q. let ph = eqb-true (recordOf σ s .phase) 1 q in let r : Running (look σ s) (T .mine s) = rw ph at (I .link s) in ticks (roll-back s lt (r .live) (calm₁ s ph)))
@@ -223,38 +187,34 @@ module _ {first : List ℕ} {σ : Store} {T : Ledger} (I : Inv first σ T) where
 
   -- a call of a running session on a cell: 7, 1, 9, 2 and 3 leave all as before
   on-cell : (k : Call) (c : ℕ) (p : Plan) → let s = sessionOf k in
-      Kept k (Refuse 7) → Kept k (Refuse 1) → Kept k (Refuse 9) → Kept k (Refuse 2) → Kept k (Refuse 3)
-      → (s < 16 → recordOf σ s .phase ≡ 1 → c < length first → Kept k p)
-      → Kept k (admit (σ .lent) s (guard (size (σ .lent)) (logOf σ s) (recordOf σ s) (eqb (recordOf σ s .phase) 1) (known (size (σ .lent)) c p)))
+      InvKept k (Refuse 7) → InvKept k (Refuse 1) → InvKept k (Refuse 9) → InvKept k (Refuse 2) → InvKept k (Refuse 3)
+      → (s < 16 → recordOf σ s .phase ≡ 1 → c < length first → InvKept k p)
+      → InvKept k (admit (σ .lent) s (guard (size (σ .lent)) (logOf σ s) (recordOf σ s) (eqb (recordOf σ s .phase) 1) (known (size (σ .lent)) c p)))
   unfolding size
   on-cell k c p r7 r1 r9 r2 r3 f =
-      running-cell (Kept k) (σ .lent) (sessionOf k) (recordOf σ (sessionOf k)) c p r7 r1 r9 r2 r3 (λ lt ph l. f lt ph (omega (arith, I .shape .values)))
+      running-cell (InvKept k) (σ .lent) (sessionOf k) (recordOf σ (sessionOf k)) c p r7 r1 r9 r2 r3 (λ lt ph l. f lt ph (omega (arith, I .shape .values)))
 
-  keep-peek : (s c : ℕ) → Kept (Peek s c) (planOf (Peek s c) σ)
-  unfolding planOf plan observe tells ending after answer peekSlot
-  keep-peek s c =
-      on-cell (Peek s c) c (peekSlot (logOf σ s) c (slotIn (logOf σ s) (recordOf σ s .count) c)) stays stays stays stays stays
-      (λ _ _ _.
-      choose (Kept (Peek s c)) (peekSlot (logOf σ s) c) (slotIn (logOf σ s) (recordOf σ s .count) c) (λ _. stays)
-      (λ k _. split (Kept (Peek s c)) (entryAt (logOf σ s) k .dirty) (λ _. stays) (λ _. stays)))
+  keep-quiet : (k : Call) (p : Plan) → Quiet k σ p → InvKept k p
+  unfolding observe
+  keep-quiet k p q = rw (q .told, q .left) stays
 
   pub runs : (s : ℕ) → recordOf σ s .phase ≡ 1 → Running (look σ s) (T .mine s)
   runs s ph = rw ph at (I .link s)
 
   -- a cell that is not in the log
   new-cell : (k : Call) (c : ℕ) (p : Plan) → let s = sessionOf k in
-      Kept k (Refuse 5) → Kept k RollBack
-      → (recordOf σ s .count < 32 → lockAt (σ .lent .locks) c .claimant ≡ 16 → Kept k p)
-      → Kept k (newCell (recordOf σ s) (lockAt (σ .lent .locks) c) p)
-  new-cell k c p r5 r6 f = cell-new (Kept k) (recordOf σ (sessionOf k)) (lockAt (σ .lent .locks) c) p r5 (λ _. r6) f
+      InvKept k (Refuse 5) → InvKept k RollBack
+      → (recordOf σ s .count < 32 → lockAt (σ .lent .locks) c .claimant ≡ 16 → InvKept k p)
+      → InvKept k (newCell (recordOf σ s) (lockAt (σ .lent .locks) c) p)
+  new-cell k c p r5 r6 f = cell-new (InvKept k) (recordOf σ (sessionOf k)) (lockAt (σ .lent .locks) c) p r5 (λ _. r6) f
 
-  keep-read : (s c : ℕ) → Kept (Read s c) (planOf (Read s c) σ)
+  keep-read : (s c : ℕ) → InvKept (Read s c) (planOf (Read s c) σ)
   unfolding planOf plan observe tells ending after answer readSlot slot
   keep-read s c =
       on-cell (Read s c) c (readSlot (logOf σ s) (recordOf σ s) (lockAt (σ .lent .locks) c) c (slotIn (logOf σ s) (recordOf σ s .count) c)) stays stays stays stays stays
       (λ lt ph lc.
       let r = runs s ph in
-      choose (Kept (Read s c)) (readSlot (logOf σ s) (recordOf σ s) (lockAt (σ .lent .locks) c) c) (slot σ s c)
+      choose (InvKept (Read s c)) (readSlot (logOf σ s) (recordOf σ s) (lockAt (σ .lent .locks) c) c) (slot σ s c)
       (λ p. new-cell (Read s c) c (Enter c) stays (ticks (roll-back s lt (r .live) (calm₁ s ph)))
       (λ room cl.
       rw (amend-same s (saw c (getD (σ .lent .values) c 0)) T (r .live) (and-not (T .mine s .done)))
@@ -263,16 +223,16 @@ module _ {first : List ℕ} {σ : Store} {T : Ledger} (I : Inv first σ T) where
       rw (amend-same s (saw c (entryAt (logOf σ s) j .current)) T (r .live) (and-not (T .mine s .done)))
       (ticks (learns s lt I c (entryAt (logOf σ s) j) ph (slot-some σ s c p)))))
 
-  keep-write : (s c v : ℕ) → Kept (Write s c v) (planOf (Write s c v) σ)
+  keep-write : (s c v : ℕ) → InvKept (Write s c v) (planOf (Write s c v) σ)
   unfolding planOf plan observe tells ending after answer writeCapped writeSlot slot
   keep-write s c v =
       let k = getD (σ .lent .classes) c 0 in
       on-cell (Write s c v) c (cond (ltb k 16) (writeCapped (logOf σ s) (recordOf σ s) (lockAt (σ .lent .locks) c) c v (cap k)) (Refuse 8)) stays stays stays stays stays
       (λ lt ph lc.
       let r = runs s ph in
-      split (Kept (Write s c v)) (ltb k 16)
-      (λ _. split (Kept (Write s c v)) (leb v (cap k))
-      (λ _. choose (Kept (Write s c v)) (writeSlot (recordOf σ s) (lockAt (σ .lent .locks) c) c v) (slot σ s c)
+      split (InvKept (Write s c v)) (ltb k 16)
+      (λ _. split (InvKept (Write s c v)) (leb v (cap k))
+      (λ _. choose (InvKept (Write s c v)) (writeSlot (recordOf σ s) (lockAt (σ .lent .locks) c) c v) (slot σ s c)
       (λ p. new-cell (Write s c v) c (EnterUpdate c v) stays (ticks (roll-back s lt (r .live) (calm₁ s ph)))
       (λ room cl.
       rw (amend-same s (wroteTo c v) T (r .live) (and-not (T .mine s .done)))
@@ -290,16 +250,16 @@ module _ {first : List ℕ} {σ : Store} {T : Ledger} (I : Inv first σ T) where
   unfolding tally
   none-written s lt ph ins p = tally-flat (T .mine s .wrote) 0 (length first) (omega arith) (λ c _ _. wrote-is s lt I ph ins c ∙ none-targeted s p c)
 
-  keep-seal : (s : ℕ) → Kept (Seal s) (planOf (Seal s) σ)
+  keep-seal : (s : ℕ) → InvKept (Seal s) (planOf (Seal s) σ)
   unfolding planOf plan observe tells ending after answer target sealTarget
   keep-seal s =
-      guarded (Kept (Seal s)) (σ .lent) s (recordOf σ s) (eqb (recordOf σ s .phase) 1) (sealTarget (targetIn (logOf σ s) (recordOf σ s .count) 0)) stays stays stays stays
+      guarded (InvKept (Seal s)) (σ .lent) s (recordOf σ s) (eqb (recordOf σ s .phase) 1) (sealTarget (targetIn (logOf σ s) (recordOf σ s .count) 0)) stays stays stays stays
       (λ lt k h.
       let ph = eqb-true (recordOf σ s .phase) 1 h in
       let r = runs s ph in
       let non : recordOf σ s .phase ≡ 0 → ⊥ = λ e. omega arith in
       let ins = inside I s k non in
-      choose (Kept (Seal s)) sealTarget (target σ s 0)
+      choose (InvKept (Seal s)) sealTarget (target σ s 0)
       (λ p.
       let d : (sealedAt (length first) (T .place) (T .mine s) .done && not (T .mine s .done)) ≡ true = rw (eq-eqb (tally (T .mine s .wrote) (length first)) 0 (none-written s lt ph ins p), r .open′) in
       rw (amend-commit s (sealedAt (length first) (T .place)) T (r .live) d)
@@ -319,7 +279,7 @@ module _ {first : List ℕ} {σ : Store} {T : Ledger} (I : Inv first σ T) where
     abbrev D : Bool
     D = advanced (length first) (T .place) (T .mine s) .done
 
-    keep-acquire : recordOf σ s .phase ≡ 2 → otherReaders s (lockAt (σ .lent .locks) c .readers) ≡ 0 → Kept (Advance s) (Acquire c)
+    keep-acquire : recordOf σ s .phase ≡ 2 → otherReaders s (lockAt (σ .lent .locks) c .readers) ≡ 0 → InvKept (Advance s) (Acquire c)
     unfolding observe tells ending after answer
     keep-acquire ph al =
         let r : Promoting first (T .commits) (T .place) (recordOf σ s .next) (look σ s) (T .mine s) = rw ph at (I .link s) in
@@ -337,39 +297,39 @@ module _ {first : List ℕ} {σ : Store} {T : Ledger} (I : Inv first σ T) where
       on-103 : amend s (advanced (length first) (T .place)) (calm T) ≡ replaced s (advanced (length first) (T .place) (T .mine s)) T
       on-103 = amend-same s (advanced (length first) (T .place)) T (r .live) (long-done D (T .mine s .done) (r .done))
 
-      keep-publish : recordOf σ s .phase ≡ 3 → Kept (Advance s) (Publish c (currentOf (look σ s c)))
+      keep-publish : recordOf σ s .phase ≡ 3 → InvKept (Advance s) (Publish c (currentOf (look σ s c)))
       unfolding observe tells ending after answer
       keep-publish ph =
           which (target σ s (suc c))
           (λ p. rw (handled-rise σ s c p ph (λ e. omega arith)) (rw on-103 (publishes-last s lt I ins c tgt r ph p)))
           (λ d p. rw (handled-more σ s c p ph) (rw on-103 (publishes-more s lt I ins c tgt r ph)))
 
-      keep-release : recordOf σ s .phase ≡ 4 → Kept (Advance s) (Release c)
+      keep-release : recordOf σ s .phase ≡ 4 → InvKept (Advance s) (Release c)
       unfolding observe tells ending after answer releaseAnswer target
       keep-release ph =
           which (target σ s (suc c))
           (λ p. rw (handled-idle σ s c p ph) (rw p (rw (amend-same s closed T (r .live) (and-not (T .mine s .done))) (releases-last s lt I ins c tgt r ph p))))
           (λ d p. rw (handled-more σ s c p ph) (rw p (rw on-103 (releases-more s lt I ins c tgt r ph))))
 
-  keep-advance : (s : ℕ) → Kept (Advance s) (planOf (Advance s) σ)
+  keep-advance : (s : ℕ) → InvKept (Advance s) (planOf (Advance s) σ)
   unfolding planOf plan observe tells ending after answer advanceTarget promotePlan claimed target
   keep-advance s =
-      guarded (Kept (Advance s)) (σ .lent) s (recordOf σ s) (leb 2 (recordOf σ s .phase)) (advanceTarget s (logOf σ s) (recordOf σ s) (lockAt (σ .lent .locks)) (targetIn (logOf σ s) (recordOf σ s .count) (recordOf σ s .next))) stays stays stays stays
+      guarded (InvKept (Advance s)) (σ .lent) s (recordOf σ s) (leb 2 (recordOf σ s .phase)) (advanceTarget s (logOf σ s) (recordOf σ s) (lockAt (σ .lent .locks)) (targetIn (logOf σ s) (recordOf σ s .count) (recordOf σ s .next))) stays stays stays stays
       (λ lt k h.
       let two = leb-true 2 (recordOf σ s .phase) h in
-      choose (Kept (Advance s)) (advanceTarget s (logOf σ s) (recordOf σ s) (lockAt (σ .lent .locks))) (target σ s (recordOf σ s .next)) (λ _. stays)
+      choose (InvKept (Advance s)) (advanceTarget s (logOf σ s) (recordOf σ s) (lockAt (σ .lent .locks))) (target σ s (recordOf σ s .next)) (λ _. stays)
       (λ c tgt.
-      split (Kept (Advance s)) (eqb (recordOf σ s .phase) 2)
+      split (InvKept (Advance s)) (eqb (recordOf σ s .phase) 2)
       (λ q.
       let ph = eqb-true (recordOf σ s .phase) 2 q in
       let r : Promoting first (T .commits) (T .place) (recordOf σ s .next) (look σ s) (T .mine s) = rw ph at (I .link s) in
       let l = lockAt (σ .lent .locks) c in
-      split (Kept (Advance s)) (not (eqb (l .claimant) 16) && not (eqb (l .claimant) s))
+      split (InvKept (Advance s)) (not (eqb (l .claimant) 16) && not (eqb (l .claimant) s))
       (λ _. ticks (roll-back s lt (r .live) (calm₂ s ph)))
-      (λ cl. split (Kept (Advance s)) (eqb (otherReaders s (l .readers)) 0)
+      (λ cl. split (InvKept (Advance s)) (eqb (otherReaders s (l .readers)) 0)
       (λ z. keep-acquire s lt k two c tgt ph (eqb-true (otherReaders s (l .readers)) 0 z))
       (λ _. waits s lt I (ins s lt k two c tgt) c tgt ph (neither-other (eqb (l .claimant) 16) (eqb (l .claimant) s) cl))))
-      (λ q. split (Kept (Advance s)) (eqb (recordOf σ s .phase) 3)
+      (λ q. split (InvKept (Advance s)) (eqb (recordOf σ s .phase) 3)
       (λ q′. let ph = eqb-true (recordOf σ s .phase) 3 q′ in unfold look in keep-publish s lt k two c tgt (rw ph at (I .link s)) ph)
       (λ q′.
       let a = eqb-false (recordOf σ s .phase) 2 q in
@@ -385,4 +345,4 @@ module _ {first : List ℕ} {σ : Store} {T : Ledger} (I : Inv first σ T) where
   keep (Seal s) = keep-seal s
   keep (Advance s) = keep-advance s
   keep (Abandon s) = keep-abandon s
-  keep (Peek s c) = keep-peek s c
+  keep (Peek s c) = keep-quiet (Peek s c) _ (peeks σ s c)

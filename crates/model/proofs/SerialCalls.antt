@@ -1,18 +1,18 @@
 -- Each call meets the serial store's step: a call on a store whose ledger the serial store follows is answered as the serial store has it, and the
 -- serial store goes on to follow. By the plan of the call: each plan's answer is one piece of news, and nobody else is in the way of any.
-use Prim.Native.Nat.{ℕ, suc, _≤_, _<_}
+use Prim.Native.Nat.{ℕ, suc, _<_}
 use native.Mathlib.Omega.{arith}
 use mathlib.Core.Path.{_≡_, refl, sym, _∙_}
 use mathlib.Core.Bool.{Bool, true, false, cond, not, _&&_, _||_}
 use mathlib.Core.Option.{none}
-use mathlib.Core.List.{List, []}
+use mathlib.Core.List.{List}
 use lib.Dec.{leb, ltb, eqb}
 use lib.ListN.{length, getD}
-use borrow.Author.Tests.{eqb-true, eqb-false, eq-eqb, ne-eqb, ltb-true, leb-true, not-true}
+use borrow.Author.Tests.{eqb-true, eqb-false, eq-eqb, leb-true, not-true}
 use Rattle.model.specs.declared.Call.{Call}
 use Rattle.model.specs.declared.Call.the-variants.{Begin, Read, Write, Seal, Advance, Abandon, Peek}
 use Rattle.model.specs.declared.Answer.{Answer}
-use Rattle.model.specs.declared.Answer.the-variants.{Done, Value, Sealed, Moved, Committed, Refused}
+use Rattle.model.specs.declared.Answer.the-variants.{Done, Value, Sealed, Moved, Committed}
 use Rattle.model.specs.declared.Plan.{Plan}
 use Rattle.model.specs.declared.Plan.the-variants.{Refuse, Start, Enter, EnterUpdate, Cancel}
 use Rattle.model.specs.Buffers.{Store, size, entryAt, slotIn, targetIn, lockAt, cap}
@@ -20,7 +20,7 @@ use Rattle.model.specs.Isolation.{All}
 use Rattle.model.specs.Serial.{Serial, serialStep, Undisturbed}
 use Rattle.model.specs.Readers.{otherReaders}
 use Rattle.model.specs.Search.{some?, tally}
-use Rattle.model.specs.Plans.{recordFits, guard, known, claimed, newCell, readSlot, writeSlot, writeCapped, sealTarget, promotePlan, advanceTarget, peekSlot, plan, admit}
+use Rattle.model.specs.Plans.{recordFits, guard, known, claimed, newCell, readSlot, writeSlot, writeCapped, sealTarget, promotePlan, advanceTarget, plan, admit}
 use Rattle.model.specs.Effects.{number, recordOf, releaseAnswer, answer, logOf}
 use Rattle.model.specs.Step.{sessionOf, planOf, reply}
 use Rattle.model.specs.Told.{Told, ending, tells, begins, WhereGot}
@@ -28,7 +28,9 @@ use Rattle.model.proofs.Advancing.{target-some}
 use Rattle.model.proofs.Effects.{slot-some}
 use Rattle.model.proofs.Invariant.{latest, Promoting, Finishing, Inv}
 use Rattle.model.proofs.Ledger.{closed, saw, sealedAt, advanced, Ledger, calm, starts, observe}
-use Rattle.model.proofs.Preservation.{choose, guarded, running-cell, cell-new, inside, inside-wrote, phase-le, runs, none-written}
+use Rattle.model.proofs.Passing.{choose, guarded, running-cell, cell-new}
+use Rattle.model.proofs.Preservation.{inside, inside-wrote, phase-le, runs, none-written}
+use Rattle.model.proofs.Quiet.{Quiet, refuses, peeks}
 use Rattle.model.proofs.Roles.{flip}
 use Rattle.model.proofs.SerialLedger.{overlay, Follows, follows-tick, follows-calm, follows-rest, follows-start, follows-on, follows-commit, follows-end, follows-write}
 use Rattle.model.proofs.SerialLocks.{unlogged-out, no-readers, own-claim, reads-store, reads-entry}
@@ -54,29 +56,14 @@ module _ {start : List ℕ} {σ : Store} {T : Ledger} {z : Serial} (I : Inv star
   abbrev Fine : Call → Plan → Type 0
   Fine k p = Serially start T z k (answer (sessionOf k) p σ)
 
-  -- ---- refusals tell nothing
+  -- ---- what tells nothing
 
-  module _ (r : ℕ) (small : (ltb r 100 && not (eqb r 6)) ≡ true) where
-    off : (m : ℕ) → 100 ≤ m → eqb r m ≡ false
-    off m l = let q = ltb-true r 100 (both-l (ltb r 100) (not (eqb r 6)) small) in ne-eqb r m (λ e. omega arith)
+  quiet : (k : Call) (p : Plan) → Quiet k σ p → Fine k p
+  unfolding observe serialStep
+  quiet k p q = answered k (answer (sessionOf k) p σ) (q .not-6) (q .not-104) (rw (q .told) tt) (rw (q .told, q .not-105) (follows-tick G))
 
-    not-six : eqb r 6 ≡ false
-    not-six = not-true (eqb r 6) (both-r (ltb r 100) (not (eqb r 6)) small)
-
-    refused-tells : (k : Call) → tells k (Refused r) ≡ []
-    unfolding tells ending
-    refused-tells (Begin s) = rw (off 100 (omega arith), not-six, off 105 (omega arith))
-    refused-tells (Read s c) = rw (off 101 (omega arith), not-six, off 105 (omega arith))
-    refused-tells (Write s c v) = rw (off 100 (omega arith), not-six, off 105 (omega arith))
-    refused-tells (Seal s) = rw (off 102 (omega arith), not-six, off 105 (omega arith))
-    refused-tells (Advance s) = rw (off 103 (omega arith), not-six, off 105 (omega arith))
-    refused-tells (Abandon s) = rw (off 100 (omega arith), not-six, off 105 (omega arith))
-    refused-tells (Peek s c) = rw (not-six, off 105 (omega arith))
-
-    refused : (k : Call) → Fine k (Refuse r)
-    unfolding answer observe serialStep
-    refused k =
-        answered k (Refused r) not-six (off 104 (omega arith)) (rw (refused-tells k) tt) (rw (refused-tells k, off 105 (omega arith)) (follows-tick G))
+  refused : (r : ℕ) → (ltb r 100 && not (eqb r 6)) ≡ true → (k : Call) → Fine k (Refuse r)
+  refused r small k = quiet k (Refuse r) (refuses k σ r small)
 
   -- a call that the guard lets pass; one on a cell, of a running session
   passing : (k : Call) (fits : Bool) (p : Plan) → let s = sessionOf k in
@@ -90,17 +77,6 @@ module _ {start : List ℕ} {σ : Store} {T : Ledger} {z : Serial} (I : Inv star
   on-cell k c p f =
       running-cell (Fine k) (σ .lent) (sessionOf k) (recordOf σ (sessionOf k)) c p (refused 7 refl k) (refused 1 refl k) (refused 9 refl k) (refused 2 refl k)
       (refused 3 refl k) (λ _ ph l. f ph (omega (arith, I .shape .values)))
-
-  peek-fine : (s c : ℕ) → Fine (Peek s c) (planOf (Peek s c) σ)
-  unfolding planOf plan peekSlot answer observe tells ending serialStep
-  peek-fine s c =
-      on-cell (Peek s c) c (peekSlot (logOf σ s) c (slotIn (logOf σ s) (recordOf σ s .count) c))
-      (λ _ _.
-      choose (Fine (Peek s c)) (peekSlot (logOf σ s) c) (slotIn (logOf σ s) (recordOf σ s .count) c) (λ _. refused 14 refl (Peek s c))
-      (λ k _. split (Fine (Peek s c)) (entryAt (logOf σ s) k .dirty) (λ _. shown) (λ _. shown)))
-    where
-      shown : Serially start T z (Peek s c) Done
-      shown = answered (Peek s c) Done refl refl tt (follows-tick G)
 
   -- ---- one session has a transaction open
 
@@ -236,4 +212,4 @@ module _ {start : List ℕ} {σ : Store} {T : Ledger} {z : Serial} (I : Inv star
   serially (Seal s) b = seal-fine s
   serially (Advance s) b = advance-fine s
   serially (Abandon s) b = abandon-fine s
-  serially (Peek s c) b = peek-fine s c
+  serially (Peek s c) b = quiet (Peek s c) _ (peeks σ s c)

@@ -23,7 +23,8 @@ use Rattle.model.specs.Told.{Told, began, got, put, sealed, moved, ended
 use Rattle.model.proofs.Invariant.{Inv}
 use Rattle.model.proofs.Ledger.{Ledger, calm, amend, starts, hear, hears, observe}
 use Rattle.model.proofs.Matching.{Next, stays, grows, starts-here, next, Matches, unchanged, one-told}
-use Rattle.model.proofs.Preservation.{guarded, runs}
+use Rattle.model.proofs.Passing.{guarded}
+use Rattle.model.proofs.Preservation.{runs}
 use Rattle.model.proofs.Tools.{split, test, clash}
 use Rattle.model.proofs.Words.{Unsealed, Fits}
 

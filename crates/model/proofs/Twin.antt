@@ -11,7 +11,7 @@ use Rattle.model.specs.Buffers.{Store, entryAt, slotIn}
 use Rattle.model.specs.Plans.{peekSlot, plan}
 use Rattle.model.specs.Effects.{number, recordOf, answer, noWord, shown, logOf}
 use Rattle.model.specs.Step.{peekShows, planOf, reply}
-use Rattle.model.proofs.Preservation.{choose, running-cell}
+use Rattle.model.proofs.Passing.{choose, running-cell}
 use Rattle.model.proofs.Tools.{split}
 
 -- with no word a refusal, or with a word 100

@@ -8,7 +8,6 @@ use lib.Dec.{ltb, eqb}
 use lib.ListN.{length, List·getD-eq-default}
 use borrow.Author.Tests.{ltb-true, ltb-false, le-leb, lt-leb}
 use Rattle.model.specs.declared.Call.{Call}
-use Rattle.model.specs.declared.Call.the-variants.{Begin, Read, Write, Seal, Advance, Abandon, Peek}
 use Rattle.model.specs.declared.Answer.{Answer}
 use Rattle.model.specs.Buffers.{Locks, Store, lockAt}
 use Rattle.model.specs.History.{Item, add, run, history, Name, transaction, isOpen, wrote, commit, committed}
@@ -25,6 +24,7 @@ use Rattle.model.proofs.Ledger.{Txn, closed, Commit, Ledger, tick, calm
 use Rattle.model.proofs.Matching.{Next, stays, grows, starts-here, next, Recorded}
 use Rattle.model.proofs.Roles.{owns, flip}
 use Rattle.model.proofs.Runs.{history-step, Ready, ledger-of, inv-run, place-is, match-run}
+use Rattle.model.proofs.Telling.{tells-any}
 use Rattle.model.proofs.Tools.{same, split, test, which, clash, upd}
 use Rattle.model.proofs.View.{look, written}
 
@@ -94,23 +94,6 @@ closed-keeps s T = split (λ (U : Ledger). (U .commits ≡ T .commits) × (U .ne
     go false true = (refl, refl)
     go false false = (refl, refl)
 
--- a call tells nothing, one thing, or a seal and the end
-tells-any : (P : List Told → Type 0) → P [] → ((w : Told) → P (w ∷ [])) → P (ended ∷ sealed ∷ []) → (k : Call) (a : Answer) → P (tells k a)
-unfolding tells ending
-tells-any P z f g k a = go k
-  where
-    e : P (cond (eqb (number a) 6 || eqb (number a) 105) (ended ∷ []) [])
-    e = split P (eqb (number a) 6 || eqb (number a) 105) (λ _. f ended) (λ _. z)
-
-    go : (k : Call) → P (tells k a)
-    go (Begin s) = split P (eqb (number a) 100) (λ _. f began) (λ _. e)
-    go (Read s c) = split P (eqb (number a) 101) (λ _. f _) (λ _. e)
-    go (Write s c v) = split P (eqb (number a) 100) (λ _. f (put c v)) (λ _. e)
-    go (Seal s) = split P (eqb (number a) 102) (λ _. f sealed) (λ _. split P (eqb (number a) 105) (λ _. g) (λ _. e))
-    go (Advance s) = split P (eqb (number a) 103) (λ _. f moved) (λ _. e)
-    go (Abandon s) = split P (eqb (number a) 100) (λ _. f ended) (λ _. e)
-    go (Peek s c) = e
-
 on-tick : {T U : Ledger} → Grown (calm T) U → Grown T (tick U)
 on-tick (kept e) = kept e
 on-tick (grew k e p w) = grew k e p w
@@ -118,9 +101,15 @@ on-tick (grew k e p w) = grew k e p w
 observe-grows : (n : ℕ) (k : Call) (a : Answer) (T : Ledger) → Grown T (observe n k a T)
 unfolding observe
 observe-grows n k a T =
-    tells-any (λ ws. Grown T (tick (hears n (sessionOf k) ws (calm T)))) (kept refl) (λ w. on-tick (hear-grows n (sessionOf k) w (calm T)))
-    (go (hear-grows n (sessionOf k) sealed (calm T)) (closed-keeps (sessionOf k) (hear n (sessionOf k) sealed (calm T)))) k a
+    tells-any P a (unfold ending in split P (eqb (number a) 6 || eqb (number a) 105) (λ _. one ended) (λ _. kept refl)) (λ w _ _. one w)
+    (λ _. go (hear-grows n (sessionOf k) sealed (calm T)) (closed-keeps (sessionOf k) (hear n (sessionOf k) sealed (calm T)))) k
   where
+    P : List Told → Type 0
+    P ws = Grown T (tick (hears n (sessionOf k) ws (calm T)))
+
+    one : (w : Told) → P (w ∷ [])
+    one w = on-tick (hear-grows n (sessionOf k) w (calm T))
+
     go : {U W : Ledger} → Grown (calm T) U → (W .commits ≡ U .commits) × (W .new ≡ U .new) → Grown T (tick W)
     go (kept e) f = kept (f .0 ∙ e)
     go (grew k e p w) f = grew k (f .0 ∙ e) p (f .1 ∙ w)

@@ -86,8 +86,8 @@ abbrev again : List Event
 again = event (Begin 0) Done ∷ event (Write 0 0 4) Done ∷ event (Abandon 0) Done ∷ event (Begin 0) Done ∷ event (Write 0 1 2) Done ∷ []
 
 -- two transactions open where the list starts, and what they do later
-abbrev taken : Name → Word → Row
-taken x w =
+abbrev atStart : Name → Word → Row
+atStart x w =
     record {
       start = item 0 0 began ∷ item 0 0 (put 0 4) ∷ item 0 1 began ∷ item 0 1 (got 1 5) ∷ [];
       events = event (Seal 1) Committed ∷ event (Seal 0) Sealed ∷ event (Advance 0) Moved ∷ [];
@@ -129,7 +129,7 @@ rows =
     ∷ row both (name 1 1) nothing ∷ row both (name 2 0) nothing ∷ row both (name 3 1) nothing
     ∷ row again (name 1 0) (word false true false 4 0 [] 0 0 false) ∷ row again (name 4 0) (word true false true 0 2 [] 0 0 false)
     -- two of one place, the start's
-    ∷ taken (name 0 0) (word true true false 4 0 [] 2 3 true) ∷ taken (name 0 1) (word false false false 0 0 (read 1 5 ∷ []) 1 1 true) ∷ taken (name 0 2) nothing
+    ∷ atStart (name 0 0) (word true true false 4 0 [] 2 3 true) ∷ atStart (name 0 1) (word false false false 0 0 (read 1 5 ∷ []) 1 1 true) ∷ atStart (name 0 2) nothing
     ∷ []
 
 -- ---- the serial store

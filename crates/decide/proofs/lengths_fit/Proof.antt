@@ -1,4 +1,4 @@
--- Each return is a test of `lengthsOn` that fails, and the last one is what is left of them.
+-- Each return is a test of `lengthsMatch` that fails, and the last one is what is left of them.
 use native.Mathlib.Omega.{arith}
 use borrow.Author.Tests.{lt-leb, le-leb, eq-eqb, ne-eqb}
 use Rattle.model.proofs.Tools.{and-false}

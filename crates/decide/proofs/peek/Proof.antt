@@ -1,4 +1,4 @@
--- Each return is a way through `peekOn`.
+-- Each return is a way through `peekPlan`.
 use borrow.Author.Needs.{needs}
 use Rattle.model.specs.Plans.{guard, peekPlan}
 use Rattle.decide.proofs.Ways.{turned, room, inside, peek-outside, peek-new, peek-written, peek-read}

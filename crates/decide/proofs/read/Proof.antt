@@ -1,4 +1,4 @@
--- Each return is a way through `readOn`: the tests' number, the cell outside, known, or new.
+-- Each return is a way through `readPlan`: the tests' number, the cell outside, known, or new.
 use borrow.Author.Needs.{needs}
 use Rattle.model.specs.Plans.{guard, readPlan}
 use Rattle.decide.proofs.Ways.{turned, room, inside, read-outside, read-known, read-new}

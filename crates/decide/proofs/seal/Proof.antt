@@ -1,4 +1,4 @@
--- Each return is a way through `sealOn`.
+-- Each return is a way through `sealPlan`.
 use borrow.Author.Needs.{needs}
 use Rattle.model.specs.Plans.{guard, sealPlan}
 use Rattle.decide.proofs.Ways.{turned, room, seal-writes, seal-reads}

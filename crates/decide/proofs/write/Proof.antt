@@ -1,4 +1,4 @@
--- Each return is a way through `writeOn`: the tests' number, the cell outside, an odd class, or what the cap leaves.
+-- Each return is a way through `writePlan`: the tests' number, the cell outside, an odd class, or what the cap leaves.
 use borrow.Author.Needs.{needs}
 use Rattle.model.specs.Plans.{guard, writePlan}
 use Rattle.decide.proofs.Ways.{turned, few, write-outside, write-odd, write-class}

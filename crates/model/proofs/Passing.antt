@@ -1,0 +1,50 @@
+-- What a call that is not turned down has passed: a claim of a plan by cases on the tests, for any claim.
+use Prim.Native.Nat.{ℕ, _<_}
+use mathlib.Core.Path.{_≡_, refl}
+use mathlib.Core.Bool.{Bool, true, not}
+use mathlib.Core.Option.{Option, none, some}
+use lib.Dec.{ltb, eqb}
+use borrow.Author.Tests.{eqb-true, eqb-false, ltb-true, not-true, not-false}
+use Rattle.model.specs.declared.Session.{Session}
+use Rattle.model.specs.declared.Lock.{Lock}
+use Rattle.model.specs.declared.Plan.{Plan}
+use Rattle.model.specs.declared.Plan.the-variants.{Refuse, RollBack}
+use Rattle.model.specs.Buffers.{Buffers, size, lengthsFit, logIn}
+use Rattle.model.specs.Plans.{recordFits, guard, known, claimed, newCell, admit}
+use Rattle.model.proofs.Tools.{split}
+
+-- an option, with what it came to, under a function that matches on it
+pub choose {ℓ κ μ} : {A : Type ℓ} {B : Type κ} (P : B → Type μ) (F : Option A → B) (o : Option A) → (o ≡ none → P (F none)) → ((a : A) → o ≡ some a → P (F (some a))) → P (F o)
+choose P F none f g = f refl
+choose P F (some a) f g = g a refl
+
+-- ---- what a call that is not turned down has passed
+
+pub guarded {ℓ} : (P : Plan → Type ℓ) (B : Buffers) (s : ℕ) (x : Session) (fits : Bool) (p : Plan) → P (Refuse 7) → P (Refuse 1) → P (Refuse 9) → P (Refuse 2)
+    → (s < 16 → recordFits (size B) (logIn (B .logs) s) x ≡ true → fits ≡ true → P p) → P (admit B s (guard (size B) (logIn (B .logs) s) x fits p))
+unfolding guard
+guarded P B s x fits p a b c d f =
+    split P (lengthsFit B)
+    (λ _. split P (ltb s 16) (λ l. split P (recordFits (size B) (logIn (B .logs) s) x) (λ k. split P fits (λ h. f (ltb-true s 16 l) k h) (λ _. d)) (λ _. c)) (λ _. b))
+    (λ _. a)
+
+-- a cell below n
+pub cell-known {ℓ} : (P : Plan → Type ℓ) (n c : ℕ) (p : Plan) → P (Refuse 3) → (c < n → P p) → P (known n c p)
+unfolding known
+cell-known P n c p r3 f = split P (ltb c n) (λ l. f (ltb-true c n l)) (λ _. r3)
+
+-- a call of a running session on a cell
+pub running-cell {ℓ} : (P : Plan → Type ℓ) (B : Buffers) (s : ℕ) (x : Session) (c : ℕ) (p : Plan) → P (Refuse 7) → P (Refuse 1) → P (Refuse 9) → P (Refuse 2) → P (Refuse 3)
+    → (s < 16 → x .phase ≡ 1 → c < size B → P p) → P (admit B s (guard (size B) (logIn (B .logs) s) x (eqb (x .phase) 1) (known (size B) c p)))
+running-cell P B s x c p r7 r1 r9 r2 r3 f =
+    guarded P B s x (eqb (x .phase) 1) (known (size B) c p) r7 r1 r9 r2 (λ lt _ h. cell-known P (size B) c p r3 (f lt (eqb-true (x .phase) 1 h)))
+
+-- a cell that is not in the log
+pub cell-new {ℓ} : (P : Plan → Type ℓ) (x : Session) (l : Lock) (p : Plan) → P (Refuse 5) → ((l .claimant ≡ 16 → ⊥) → P RollBack)
+    → (x .count < 32 → l .claimant ≡ 16 → P p) → P (newCell x l p)
+unfolding newCell claimed
+cell-new P x l p r5 r6 f =
+    split P (ltb (x .count) 32)
+    (λ n. split P (not (eqb (l .claimant) 16)) (λ q. r6 (eqb-false (l .claimant) 16 (not-true (eqb (l .claimant) 16) q)))
+    (λ q. f (ltb-true (x .count) 32 n) (eqb-true (l .claimant) 16 (not-false (eqb (l .claimant) 16) q))))
+    (λ _. r5)
