@@ -14,7 +14,7 @@ use Rattle.model.specs.Buffers.{cellAt, entryAt, entryOf, slotIn, lookIn, publi
 use Rattle.model.specs.Search.{some?, lowest, below}
 use Rattle.model.proofs.Laws.{find-some, find-none, Low, lowest-is, below-is}
 use Rattle.model.proofs.Tools.{same, split, test, which, nothing, clash, both-l, both-r, and-false}
-use Rattle.log.specs.Slots.{found, better, lowestOwn, slotOf, targetSlot, firstPublishes}
+use Rattle.log.specs.Slots.{found, better, lowestPublishing, slotOf, targetSlot, firstPublishes}
 use Rattle.log.proofs.Searches.{find-here, find-up, find-before}
 
 -- ---- what a search answers
@@ -51,16 +51,16 @@ module _ (log : List ℕ) where
 
   -- ---- the lowest cell of entries judged each by itself
 
-  record LowestOwn (n from k r : ℕ) : Type 0 where
+  record LowestPublishing (n from k r : ℕ) : Type 0 where
     pub least : (j : ℕ) → j < k → from ≤ cellAt log j → publishes (entryAt log j) ≡ true → r ≤ cellAt log j
     pub place : r < n → (j : ℕ) × (j < k) × (cellAt log j ≡ r) × (from ≤ r)
 
-  own-step : (n from k held : ℕ) → LowestOwn n from k held → LowestOwn n from (suc k) (better log from k held)
+  publishing-step : (n from k held : ℕ) → LowestPublishing n from k held → LowestPublishing n from (suc k) (better log from k held)
   unfolding better
-  own-step n from k held w =
+  publishing-step n from k held w =
       let c = cellAt log k in
       let p = publishes (entryAt log k) in
-      split (LowestOwn n from (suc k)) (leb from c && (ltb c held && p))
+      split (LowestPublishing n from (suc k)) (leb from c && (ltb c held && p))
       (λ t.
       let u = leb-true from c (both-l (leb from c) (ltb c held && p) t) in
       let v = ltb-true c held (both-l (ltb c held) p (both-r (leb from c) (ltb c held && p) t)) in
@@ -79,10 +79,10 @@ module _ (log : List ℕ) where
         place = λ l. let h = w .place l in (h .0, omega (arith, h .1), h .2, h .3);
       })
 
-  lowest-own : (n from k : ℕ) → LowestOwn n from k (lowestOwn log n from k)
-  unfolding lowestOwn
-  lowest-own n from zero = record { least = λ j l f o. absurd (omega arith); place = λ l. absurd (omega arith) }
-  lowest-own n from (suc k) = own-step n from k (lowestOwn log n from k) (lowest-own n from k)
+  lowest-publishing : (n from k : ℕ) → LowestPublishing n from k (lowestPublishing log n from k)
+  unfolding lowestPublishing
+  lowest-publishing n from zero = record { least = λ j l f o. absurd (omega arith); place = λ l. absurd (omega arith) }
+  lowest-publishing n from (suc k) = publishing-step n from k (lowestPublishing log n from k) (lowest-publishing n from k)
 
   -- the four ways through one entry, with its cell read
   module _ (from i held c : ℕ) (e : c ≡ cellAt log i) where
@@ -102,9 +102,9 @@ module _ (log : List ℕ) where
     unfolding better
     lower-unwritten p = rw (← e, p, and-false, and-false)
 
-  pub own-more : (n from k : ℕ) → better log from k (lowestOwn log n from k) ≡ lowestOwn log n from (k + 1)
-  unfolding lowestOwn
-  own-more n from k = rw add-one
+  pub publishing-more : (n from k : ℕ) → better log from k (lowestPublishing log n from k) ≡ lowestPublishing log n from (k + 1)
+  unfolding lowestPublishing
+  publishing-more n from k = rw add-one
 
   -- ---- the model's target
 
@@ -154,13 +154,13 @@ module _ (log : List ℕ) where
 
   -- ---- one turn of the search
 
-  module _ (n m from r : ℕ) (own : r ≡ lowestOwn log n from m) where
-    lowest-r : LowestOwn n from m r
-    lowest-r = rw own (lowest-own n from m)
+  module _ (n m from r : ℕ) (is : r ≡ lowestPublishing log n from m) where
+    lowest-r : LowestPublishing n from m r
+    lowest-r = rw is (lowest-publishing n from m)
 
     -- the lowest cell is not above a written one
-    own-least : (d : ℕ) → from ≤ d → publishesIn log m d ≡ true → r ≤ d
-    own-least d l p =
+    publishing-least : (d : ℕ) → from ≤ d → publishesIn log m d ≡ true → r ≤ d
+    publishing-least d l p =
         let k = written-first m d p in
         let s = slot-some m d (k .1) in
         rw (s .1) at (lowest-r .least (k .0) (s .0) (rw (s .1) l) (k .2))
@@ -173,7 +173,7 @@ module _ (log : List ℕ) where
         let t = target-some m from e in
         let k = written-first m c (t .1) in
         let s = slot-some m c (k .1) in
-        absurd (omega (arith, own-least c (t .0) (t .1), below-is n (cellAt log) m b (k .0) (s .0), s .1)))
+        absurd (omega (arith, publishing-least c (t .0) (t .1), below-is n (cellAt log) m b (k .0) (s .0), s .1)))
 
     -- the cell found is one of the log's, and not below the start
     module _ (lt : r < n) (k : ℕ) (f : found m k ≡ slotIn log m r) where
@@ -195,7 +195,7 @@ module _ (log : List ℕ) where
           which (targetIn log m from) (λ e. absurd (target-none m from e r turn-from w))
           (λ c e.
           let t = target-some m from e in
-          let q : r ≡ c = omega (arith, own-least c (t .0) (t .1), t .2 r turn-from w) in
+          let q : r ≡ c = omega (arith, publishing-least c (t .0) (t .1), t .2 r turn-from w) in
           rw (e, ← q) f)
 
       pub turn-next : publishes (entryAt log k) ≡ false → targetSlot log m from ≡ targetSlot log m (r + 1)
@@ -204,7 +204,7 @@ module _ (log : List ℕ) where
           ap (slotOf log m)
           (target-later m from (r + 1) (omega (arith, turn-from))
           (λ d a b w.
-          let q : d ≡ r = omega (arith, own-least d a w) in
+          let q : d ≡ r = omega (arith, publishing-least d a w) in
           clash (publishesIn log m r) (rw q at w) (first-judges m r turn-slot ∙ p)))
 
   -- ---- whether there is a target

@@ -17,9 +17,9 @@ better log from k held =
     cond (leb from (cellAt log k) && (ltb (cellAt log k) held && publishes (entryAt log k))) (cellAt log k) held
 
 -- the lowest such cell of k entries; n where there is none
-unfoldable pub lowestOwn : List ℕ → ℕ → ℕ → ℕ → ℕ
-lowestOwn log n from zero = n
-lowestOwn log n from (suc k) = better log from k (lowestOwn log n from k)
+unfoldable pub lowestPublishing : List ℕ → ℕ → ℕ → ℕ → ℕ
+lowestPublishing log n from zero = n
+lowestPublishing log n from (suc k) = better log from k (lowestPublishing log n from k)
 
 -- the first entry of a cell, where there is a cell
 unfoldable pub slotOf : List ℕ → ℕ → Option ℕ → Option ℕ

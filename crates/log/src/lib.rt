@@ -6,7 +6,7 @@ ghost use Prim.Native.Nat.{_+_, _*_, _<_, _≤_};
 ghost use lib.ListN.{length, replicate};
 ghost use Rattle.model.specs.Search.{some?, below};
 ghost use Rattle.model.specs.Buffers.{cellAt, entryAt, slotIn, publishes, targetIn, appended, updated};
-ghost use Rattle.log.specs.Slots.{found, better, lowestOwn, targetSlot, firstPublishes};
+ghost use Rattle.log.specs.Slots.{found, better, lowestPublishing, targetSlot, firstPublishes};
 
 // The cell of entry k.
 pub fn cell_at(log: &[u32], k: usize) -> u32
@@ -89,9 +89,9 @@ fn lower(log: &[u32], i: usize, from: u32, held: u32) -> u32
 }
 
 // The lowest cell not below from and below n of the first count entries that publish, each judged by itself; n where there is none.
-fn lowest_own(log: &[u32], count: usize, n: u32, from: u32) -> u32
+fn lowest_publishing(log: &[u32], count: usize, n: u32, from: u32) -> u32
     requires { ⌜ 4 * count ≤ length (now log) ⌝ }
-    ensures { λ r. ⌜ r ≡ lowestOwn (now (log .entry)) n from count ⌝ }
+    ensures { λ r. ⌜ r ≡ lowestPublishing (now (log .entry)) n from count ⌝ }
 {
     let mut i = 0;
     let mut held = n;
@@ -113,7 +113,7 @@ pub fn target(log: &[u32], count: usize, n: u32, from: u32) -> usize
 {
     let mut start = from;
     let slot = loop {
-        let cell = lowest_own(log, count, n, start);
+        let cell = lowest_publishing(log, count, n, start);
         if n <= cell {
             break count;
         }

@@ -28,14 +28,19 @@ storeOf values classes readers claimants exclusives logs sessions =
 
 -- ---- what a call is given and leaves
 
--- the store that the slices are before the call, and after it, with these records
+-- the store that lent slices are
+abbrev pub lentStore : RefT (List ℕ) → RefT (List ℕ) → RefT (List ℕ) → RefT (List ℕ) → RefT (List ℕ) → RefT (List ℕ) → Sessions → Store
+lentStore values classes readers claimants exclusives logs ss =
+    storeOf (now values) (now classes) (now readers) (now claimants) (now exclusives) (now logs) ss
+
+-- the same before the call, and after it, with these records
 abbrev pub before : Slice → Slice → Slice → Slice → Slice → Slice → Sessions → Store
 before values classes readers claimants exclusives logs ss =
-    storeOf (now (values .entry)) (now (classes .entry)) (now (readers .entry)) (now (claimants .entry)) (now (exclusives .entry)) (now (logs .entry)) ss
+    lentStore (values .entry) (classes .entry) (readers .entry) (claimants .entry) (exclusives .entry) (logs .entry) ss
 
 abbrev pub afterwards : Slice → Slice → Slice → Slice → Slice → Slice → Sessions → Store
 afterwards values classes readers claimants exclusives logs ss =
-    storeOf (now (values .exit)) (now (classes .exit)) (now (readers .exit)) (now (claimants .exit)) (now (exclusives .exit)) (now (logs .exit)) ss
+    lentStore (values .exit) (classes .exit) (readers .exit) (claimants .exit) (exclusives .exit) (logs .exit) ss
 
 -- the call k answers and leaves what the model says
 abbrev pub Takes : Call → Slice → Slice → Slice → Slice → Slice → Slice → Sessions → Reply → Type 0

@@ -6,7 +6,7 @@ ghost use lib.ListN.{length, replicate};
 ghost use Rattle.model.specs.Buffers.{sessionAt, lockAt};
 ghost use Rattle.model.specs.declared.Call.the-variants.{Begin, Read, Write, Seal, Advance, Abandon, Peek};
 ghost use Rattle.locks.specs.Sweeps.{locksOf};
-ghost use Rattle.store.specs.Lent.{storeOf, Enters, Takes, TakesOne, SetsUp, AdvancesAt, LengthsFit, EntriesFit, Plans, HandsBack};
+ghost use Rattle.store.specs.Lent.{lentStore, Enters, Takes, TakesOne, SetsUp, AdvancesAt, LengthsFit, EntriesFit, Plans, HandsBack};
 use decide::Due;
 use model::Answer;
 use model::Call;
@@ -214,7 +214,7 @@ fn read_as(
     session: u8,
     cell: u32,
 ) -> SessionReply
-    requires { ⌜ (LengthsFit (storeOf (now values) (now classes) (now readers) (now claimants) (now exclusives) (now logs) sessions) session) × (x ≡ sessionAt sessions session) ⌝ }
+    requires { ⌜ (LengthsFit (lentStore values classes readers claimants exclusives logs sessions) session) × (x ≡ sessionAt sessions session) ⌝ }
     ensures { λ r. ⌜ TakesOne (Read session cell) values classes readers claimants exclusives logs sessions session r ⌝ }
 {
     let n = values.len();
@@ -360,7 +360,7 @@ fn write_as(
     cell: u32,
     value: u32,
 ) -> SessionReply
-    requires { ⌜ (LengthsFit (storeOf (now values) (now classes) (now readers) (now claimants) (now exclusives) (now logs) sessions) session) × (x ≡ sessionAt sessions session) ⌝ }
+    requires { ⌜ (LengthsFit (lentStore values classes readers claimants exclusives logs sessions) session) × (x ≡ sessionAt sessions session) ⌝ }
     ensures { λ r. ⌜ TakesOne (Write session cell value) values classes readers claimants exclusives logs sessions session r ⌝ }
 {
     let i = session as usize;
@@ -603,7 +603,7 @@ fn advance_at(
     session: u8,
     k: usize,
 ) -> SessionReply
-    requires { ⌜ (EntriesFit (storeOf (now values) (now classes) (now readers) (now claimants) (now exclusives) (now logs) sessions) session) × (k < sessionAt sessions session .count) × (2 ≤ sessionAt sessions session .phase) × (sessionAt sessions session .phase ≤ 4) × (x ≡ sessionAt sessions session) ⌝ }
+    requires { ⌜ (EntriesFit (lentStore values classes readers claimants exclusives logs sessions) session) × (k < sessionAt sessions session .count) × (2 ≤ sessionAt sessions session .phase) × (sessionAt sessions session .phase ≤ 4) × (x ≡ sessionAt sessions session) ⌝ }
     ensures { λ r. ⌜ AdvancesAt k values classes readers claimants exclusives logs sessions session r ⌝ }
 {
     let i = session as usize;
