@@ -8,6 +8,7 @@ use denote.Ref.{now}
 use Rattle.model.specs.Search.{below}
 use Rattle.model.specs.Readers.{member, withReader, withoutReader}
 use Rattle.model.specs.Slices.{Slice}
+use Rattle.model.specs.Effects.{rolledBack}
 use Rattle.model.specs.Buffers.{Locks, cellAt, entryAt, publishes, publishesIn, sweep, leave}
 
 abbrev pub locksOf : List ℕ → List ℕ → List ℕ → Locks
@@ -26,7 +27,12 @@ pub record Swept (s : ℕ) (log : List ℕ) (m : ℕ) (n : ℕ) : Type 0 where
   pub count : 4 * m ≤ length log
   pub cells : below n (cellAt log) m ≡ true
 
--- the reader sets R' are those that the first k of m entries leave of R, whatever claimants and marks stand beside them; and that all m leave
+-- rolling back: the locks that a sweep of m entries of a log leaves
+abbrev pub RollsBack : Slice → ℕ → ℕ → Slice → Slice → Slice → Type 0
+RollsBack log m s readers claimants exclusives =
+    locksAfter readers claimants exclusives ≡ rolledBack (now (log .entry)) m s (locksBefore readers claimants exclusives)
+
+-- sealing: the reader sets R' are those that the first k of m entries leave of R, whatever claimants and marks stand beside them; and that all m leave
 abbrev pub DroppedSoFar : List ℕ → ℕ → ℕ → ℕ → List ℕ → List ℕ → Type 0
 DroppedSoFar log m k s R R' =
     (C E : List ℕ) → length C ≡ length R → length E ≡ length R

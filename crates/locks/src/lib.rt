@@ -6,8 +6,7 @@ ghost use lib.Dec.{eqb};
 ghost use lib.ListN.{length, getD, set};
 ghost use Rattle.model.specs.Readers.{withReader, withoutReader, otherReaders};
 ghost use Rattle.model.specs.Buffers.{cellAt, publishes, lockAt, setLock, onLock, join, leave, vacate, withdraw, claim, acquire};
-ghost use Rattle.model.specs.Effects.{rolledBack};
-ghost use Rattle.locks.specs.Sweeps.{Swept, DropsReads, marked, mark, locksBefore, locksAfter, DropsAt};
+ghost use Rattle.locks.specs.Sweeps.{Swept, DropsReads, marked, mark, locksBefore, locksAfter, RollsBack, DropsAt};
 use model::Lock;
 
 // ---- reader sets
@@ -171,7 +170,7 @@ pub fn roll_back(
     session: u8,
 )
     requires { ⌜ (Swept session (now log) count (length (now readers))) × (length (now claimants) ≡ length (now readers)) × (length (now exclusives) ≡ length (now readers)) ⌝ }
-    ensures { λ _. ⌜ locksAfter readers claimants exclusives ≡ rolledBack (now (log .entry)) count session (locksBefore readers claimants exclusives) ⌝ }
+    ensures { λ _. ⌜ RollsBack log count session readers claimants exclusives ⌝ }
 {
     let mut i = 0;
     while i < count {

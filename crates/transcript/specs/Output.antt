@@ -19,6 +19,7 @@ use Rattle.transcript.specs.declared.Cells.{Cells}
 use Rattle.transcript.specs.declared.Cells.the-variants.{Found, TooMany}
 use Rattle.transcript.specs.Items.{itemsAt, values, classes, later}
 use Rattle.transcript.specs.Lines.{fieldLine, answerLine}
+use Rattle.transcript.specs.Transcript.{callsText}
 
 -- ---- one text
 
@@ -66,6 +67,10 @@ TakesTurn k ordinal output at values classes readers claimants exclusives logs s
     (callPrinted (out (r .at) (now (output .exit))) (afterwards values classes readers claimants exclusives logs (r .sessions))
     ≡ turn k ordinal (now (output .entry)) at (before values classes readers claimants exclusives logs ss))
     × (r .at ≤ at + 21)
+
+-- the text of the calls from a place of a lent input on, from the store σ
+abbrev pub PutsCalls : Slice → ℕ → Slice → Store → ℕ → Type 0
+PutsCalls input from output σ r = Puts output 0 (callsText 1 σ (itemsAt (now (input .entry)) from)) 409600 r
 
 -- ---- the cells
 

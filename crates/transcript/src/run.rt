@@ -12,8 +12,8 @@ ghost use Prim.Native.Nat.{_+_, _≤_, _<_};
 ghost use lib.ListN.{length};
 ghost use Rattle.store.specs.Lent.{before};
 ghost use Rattle.transcript.specs.Items.{itemsAt};
-ghost use Rattle.transcript.specs.Output.{Puts, TakesTurn, Leading, Fitted, Roomy};
-ghost use Rattle.transcript.specs.Transcript.{callsText, given, setUpText, transcript};
+ghost use Rattle.transcript.specs.Output.{Puts, PutsCalls, TakesTurn, Leading, Fitted, Roomy};
+ghost use Rattle.transcript.specs.Transcript.{given, setUpText, transcript};
 
 // One call with its line.
 fn take_turn(
@@ -65,7 +65,7 @@ fn run_calls(
     logs: &mut [u32],
 ) -> usize
     requires { ⌜ (from ≤ length (now input)) × (length (now input) ≤ 65536) × (409600 ≤ length (now output)) × (length (now values) ≤ 1024) ⌝ }
-    ensures { λ r. ⌜ Puts output 0 (callsText 1 (before values classes readers claimants exclusives logs sessions) (itemsAt (now (input .entry)) from)) 409600 r ⌝ }
+    ensures { λ r. ⌜ PutsCalls input from output (before values classes readers claimants exclusives logs sessions) r ⌝ }
 {
     let mut sessions = sessions;
     let mut place = from;
