@@ -12,7 +12,7 @@ use Rattle.model.specs.History.{run}
 use Rattle.model.specs.Isolation.{All}
 use Rattle.model.specs.Search.{tally}
 use Rattle.model.specs.Step.{sessionOf, reply}
-use Rattle.model.specs.Told.{Told, began, got, put, sealed, moved, ended, tells, ReadOf}
+use Rattle.model.specs.Told.{Told, began, got, put, sealed, moved, ended, tells, begins, ReadOf}
 use Rattle.model.proofs.Tools.{upd}
 
 -- the place of its begin; whether it is open; its reads before writing; the cells it wrote and its values there; the
@@ -158,12 +158,7 @@ note n q ended t = closed t
 
 -- session s tells something, or several things, the newest first
 abbrev pub hear : ℕ → ℕ → Told → Ledger → Ledger
-hear n s began T = starts s T
-hear n s (got c v) T = amend s (saw c v) T
-hear n s (put c v) T = amend s (wroteTo c v) T
-hear n s sealed T = amend s (sealedAt n (T .place)) T
-hear n s moved T = amend s (advanced n (T .place)) T
-hear n s ended T = amend s closed T
+hear n s w T = cond (begins w) (starts s T) (amend s (note n (T .place) w) T)
 
 abbrev pub hears : ℕ → ℕ → List Told → Ledger → Ledger
 hears n s [] T = T

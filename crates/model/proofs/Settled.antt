@@ -64,12 +64,9 @@ before-more q i h b f x o = go (next x i h)
 
 hear-place : (n s : ℕ) (w : Told) (T : Ledger) → hear n s w T .place ≡ T .place
 unfolding amend
-hear-place n s began T = unfold starts in refl
-hear-place n s (got c v) T = split (λ (U : Ledger). U .place ≡ T .place) (T .mine s .live) (λ _. refl) (λ _. refl)
-hear-place n s (put c v) T = split (λ (U : Ledger). U .place ≡ T .place) (T .mine s .live) (λ _. refl) (λ _. refl)
-hear-place n s sealed T = split (λ (U : Ledger). U .place ≡ T .place) (T .mine s .live) (λ _. refl) (λ _. refl)
-hear-place n s moved T = split (λ (U : Ledger). U .place ≡ T .place) (T .mine s .live) (λ _. refl) (λ _. refl)
-hear-place n s ended T = split (λ (U : Ledger). U .place ≡ T .place) (T .mine s .live) (λ _. refl) (λ _. refl)
+hear-place n s w T =
+    split (λ (U : Ledger). U .place ≡ T .place) (begins w) (λ _. unfold starts in refl)
+    (λ _. split (λ (U : Ledger). U .place ≡ T .place) (T .mine s .live) (λ _. refl) (λ _. refl))
 
 pub hears-place : (n s : ℕ) (ws : List Told) (T : Ledger) → hears n s ws T .place ≡ T .place
 hears-place n s [] T = refl

@@ -14,7 +14,7 @@ use Rattle.model.specs.History.{Item, add, run, history, Name, transacti
 use Rattle.model.specs.Isolation.{All, at, Isolated, Holds, firsts, HoldsAtCommit}
 use Rattle.model.specs.Effects.{number, recordOf}
 use Rattle.model.specs.Step.{sessionOf, reply}
-use Rattle.model.specs.Told.{Told, began, got, put, sealed, moved, ended, ending, tells, writes}
+use Rattle.model.specs.Told.{Told, sealed, ended, ending, tells, writes, begins}
 use Rattle.model.proofs.Advancing.{late, role-late}
 use Rattle.model.proofs.Commits.{pick, all-both, isolated}
 use Rattle.model.proofs.Effects.{running-role}
@@ -76,12 +76,7 @@ amend-grows s f T =
     go false = kept refl
 
 hear-grows : (n s : ℕ) (w : Told) (T : Ledger) → Grown T (hear n s w T)
-hear-grows n s began T = unfold starts in kept refl
-hear-grows n s (got c v) T = amend-grows s _ T
-hear-grows n s (put c v) T = amend-grows s _ T
-hear-grows n s sealed T = amend-grows s _ T
-hear-grows n s moved T = amend-grows s _ T
-hear-grows n s ended T = amend-grows s _ T
+hear-grows n s w T = split (Grown T) (begins w) (λ _. unfold starts in kept refl) (λ _. amend-grows s _ T)
 
 -- the end commits nothing
 closed-keeps : (s : ℕ) (T : Ledger) → (amend s closed T .commits ≡ T .commits) × (amend s closed T .new ≡ T .new)
