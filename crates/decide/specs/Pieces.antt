@@ -22,7 +22,7 @@ use Rattle.decide.specs.declared.Handled.{Handled}
 unfoldable pub tested : Bool → Bool → ℕ
 tested whole fit = require whole 9 (require fit 2 0)
 
--- the entry that an advance handles, or 9 or 2
+-- the entry that an advance handles (its `targetSlot`, log/specs/Slots.antt), or 9 or 2; the last cause of 9 is one of phases 2 to 4 alone, so it can come after 2
 unfoldable pub dueAt : Option ℕ → Due
 dueAt none = Refused 9
 dueAt (some k) = Slot k

@@ -1,4 +1,4 @@
-// What a call decides before it changes anything, with the order of refusals: 7, 1, 9, 2, 3, 8, 4, then 14 or 5, then 6.
+// What a call decides before it changes anything, with the order of refusals: 7, 9, 2, 3, 8, 4, then 14 or 5, then 6. That of 1 stands between 7 and 9, in the calls.
 // A decision sees lengths and numbers, the session's log and one lock by value, so it serves any way of keeping locks.
 ghost use mathlib.Core.Path.{_≡_};
 ghost use mathlib.Core.Bool.{true, false};
@@ -67,7 +67,7 @@ pub fn all_fit(values: &[u32], classes: &[u8]) -> bool
     true
 }
 
-// ---- refusals 7, 1, 9 and 2
+// ---- refusals 7, 9 and 2
 
 // n from 1 to 1,024, classes and locks n long, 2,048 words of logs.
 pub fn lengths_fit(
@@ -315,7 +315,7 @@ pub struct Handled {
     pub answer: Answer,
 }
 
-// Next is one above the cell; where no written cell is left there the phase rises, and out of phase 4 the session is idle.
+// Next is one above the cell; where no written cell is left there the phase rises and next is 0, and out of phase 4 the session is idle.
 pub fn handle(log: &[u32], n: usize, x: Session, cell: u32) -> Handled
     requires { ⌜ (length (now log) ≡ 128) × (n ≤ 1024) × (x .count ≤ 32) × (x .phase ≤ 4) × (cell < n) × (below n (cellAt (now log)) (x .count) ≡ true) ⌝ }
     ensures { λ r. ⌜ r ≡ handledOn (now (log .entry)) x cell ⌝ }

@@ -36,7 +36,7 @@ SetsUpInNumbers values classes readers claimants exclusives logs ss number value
     replied (now (number .exit)) (now (value .exit)) (afterwards values classes readers claimants exclusives logs r)
     ≡ inNumbers (setUpEffect (before values classes readers claimants exclusives logs ss))
 
--- where a peek's word is: in the values, in the logs, or nowhere, and at which index
+-- where a peek's word is: kind 1 in the values, 2 in the logs, and the index there; 0 nowhere, and the index stays j
 pub record Place : Type 0 where
   pub kind : ℕ
   pub index : ℕ

@@ -1,5 +1,5 @@
 -- The calls that are `step` with the call filled in: `seal`, `advance` and `abandon` take one number more than what they are lent, `read` two and `write` three.
--- Their MIR is one function over the variant and the widths of the numbers. A walk for each count builds the call, borrows what is lent again and passes it on to `step` at its own lifetimes (`Passed.antt`); what comes before and after a walk is said once.
+-- Their MIR is one function over the variant and the widths of the numbers. A walk for each count builds the call, borrows what is lent again and passes it on to `step` at its own lifetimes (`CallsStep.antt`); what comes before and after a walk is said once.
 -- (The places behind the numbers are literals of the MIR, and a walk goes by them: so there is one for each count.)
 --     made         the MIR: the call of variant j, of numbers of widths ws
 --     signature, ended, clauses    the contract, of the call that k makes of the numbers

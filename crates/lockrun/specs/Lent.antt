@@ -25,7 +25,7 @@ before values classes L logs ss = storeOn (now (values .entry)) (now (classes .e
 abbrev pub afterwards : Slice → Slice → List Lock → Slice → Sessions → Store
 afterwards values classes L logs ss = storeOn (now (values .exit)) (now (classes .exit)) L (now (logs .exit)) ss
 
--- the call k answers and leaves what the model says, where it makes the run M of the run L; and of a lent run
+-- the call k answers and leaves what the model says: of a run L that it makes M, and of a lent run
 abbrev pub TakesRun : Call → Slice → Slice → List Lock → List Lock → Slice → Sessions → Reply → Type 0
 TakesRun k values classes L M logs ss r = outcome (r .answer) (afterwards values classes M logs (r .sessions)) ≡ effect k (before values classes L logs ss)
 

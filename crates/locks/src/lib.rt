@@ -130,7 +130,7 @@ pub fn at(readers: &[u16], claimants: &[u8], exclusives: &[u8], cell: u32) -> Lo
     }
 }
 
-// A cell's lock anew.
+// Puts a cell's lock.
 pub fn put(readers: &mut [u16], claimants: &mut [u8], exclusives: &mut [u8], cell: u32, l: Lock)
     requires { ⌜ (cell < length (now readers)) × (cell < length (now claimants)) × (cell < length (now exclusives)) ⌝ }
     ensures { λ _. ⌜ locksAfter readers claimants exclusives ≡ setLock cell l (locksBefore readers claimants exclusives) ⌝ }

@@ -165,7 +165,7 @@ pub fn append(log: &mut [u32], k: usize, cell: u32, value: u32)
     log[i + 3] = 0;
 }
 
-// The present value of entry k, which is then written.
+// Sets the present value of entry k, which is then written.
 pub fn update(log: &mut [u32], k: usize, value: u32)
     requires { ⌜ 4 * k + 3 < length (now log) ⌝ }
     ensures { λ _. ⌜ now (log .exit) ≡ updated (now (log .entry)) k value ⌝ }

@@ -25,7 +25,7 @@ use Rattle.model.specs.Readers.{otherReaders}
 use Rattle.model.specs.Search.{some?, find}
 use Rattle.model.specs.Plans.{guard, known, claimed, readSlot, writeSlot, writeCapped, sealTarget, promotePlan, advanceTarget, plan, admit}
 use Rattle.model.specs.Effects.{number, isLeft, handled, change, changeLogs, recordOf, after, releaseAnswer, answer, logOf}
-use Rattle.model.specs.Step.{sessionOf, planOf, step, reply, setUpAnswer, setUp}
+use Rattle.model.specs.Step.{sessionOf, planOf, step, answerOf, setUpAnswer, setUp}
 use Rattle.model.specs.Told.{Told, began, got, put, sealed, moved, ended, ending, tells, WhereGot}
 use Rattle.model.proofs.Demand3.{set-up-passed, set-up-fresh}
 use Rattle.model.proofs.Laws.{find-some, getD-sets-other, log-length, log-same, log-other, length-on, grown-word, grown-apart}
@@ -310,8 +310,8 @@ module _ {σ : Store} (I : Capped σ) where
   unfolding step
   keeps-capped k = keep k .0
 
-  pub tells-within : (k : Call) → TellsWithin (capOf σ) (tells k (reply k σ))
-  unfolding reply
+  pub tells-within : (k : Call) → TellsWithin (capOf σ) (tells k (answerOf k σ))
+  unfolding answerOf
   tells-within k = keep k .1
 
 -- ---- classes never change
@@ -356,8 +356,8 @@ module _ {σ : Store} (I : Capped σ) where
   got-within [] = unfold told events in tt
   got-within (k ∷ ks) =
       subst (All (GotWithin σ)) (sym (history-step [] σ k ks))
-      (more (got-within ks) (tells k (reply k (run σ ks)))
-      (subst (λ (bound : ℕ → ℕ). TellsWithin bound (tells k (reply k (run σ ks)))) (fun-ext (cap-run σ ks))
+      (more (got-within ks) (tells k (answerOf k (run σ ks)))
+      (subst (λ (bound : ℕ → ℕ). TellsWithin bound (tells k (answerOf k (run σ ks)))) (fun-ext (cap-run σ ks))
       (tells-within (capped-run ks) k)))
     where
       more : All (GotWithin σ) (history [] σ ks) → (ws : List Told) → TellsWithin (capOf σ) ws

@@ -9,7 +9,7 @@ use Rattle.model.specs.Buffers.{Buffers, Store, allFit, lengthsFit, fres
 use Rattle.model.specs.History.{Event, run, events, Item}
 use Rattle.model.specs.Isolation.{Demand3, Ran, none, then, Demand3OfCode}
 use Rattle.model.specs.Effects.{number}
-use Rattle.model.specs.Step.{Outcome, outcome, effect, setUpEffect, step, reply, setUpAnswer, setUp}
+use Rattle.model.specs.Step.{Outcome, outcome, effect, setUpEffect, step, answerOf, setUpAnswer, setUp}
 use Rattle.model.proofs.Ledger.{Ledger}
 use Rattle.model.proofs.Runs.{inv-fresh, Ready, ready}
 use Rattle.model.proofs.Tools.{test}
@@ -51,7 +51,7 @@ ran-is σ (then r k a y e) =
 pub ran-events : (σ : Store) (ks : List Call) → Ran σ ks (events σ ks) (run σ ks)
 unfolding events run effect
 ran-events σ [] = none
-ran-events σ (k ∷ ks) = then (ran-events σ ks) k (reply k (run σ ks)) (step k (run σ ks)) refl
+ran-events σ (k ∷ ks) = then (ran-events σ ks) k (answerOf k (run σ ks)) (step k (run σ ks)) refl
 
 -- demand 3 of code: a set-up that kept its contract and answered 100 left σ, and the calls kept theirs
 pub demand3-of-code : (φ σ : Store) (a : Answer) → outcome a σ ≡ setUpEffect φ → number a ≡ 100

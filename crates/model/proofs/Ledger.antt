@@ -11,7 +11,7 @@ use Rattle.model.specs.Buffers.{Store}
 use Rattle.model.specs.History.{run}
 use Rattle.model.specs.Isolation.{All}
 use Rattle.model.specs.Search.{tally}
-use Rattle.model.specs.Step.{sessionOf, reply}
+use Rattle.model.specs.Step.{sessionOf, answerOf}
 use Rattle.model.specs.Told.{Told, began, got, put, sealed, moved, ended, tells, begins, ReadOf}
 use Rattle.model.proofs.Tools.{upd}
 
@@ -173,7 +173,7 @@ blank = record { place = 1; mine = λ s. closed (opened 0); commits = []; new = 
 -- the ledger of n cells after a list of calls, from one to go on with
 unfoldable pub ledger : ℕ → Ledger → Store → List Call → Ledger
 ledger n T σ [] = T
-ledger n T σ (k ∷ ks) = observe n k (reply k (run σ ks)) (ledger n T σ ks)
+ledger n T σ (k ∷ ks) = observe n k (answerOf k (run σ ks)) (ledger n T σ ks)
 
 -- the value of the last commit to a cell before a place, or the starting value
 unfoldable pub valueBefore : ℕ → List ℕ → List Commit → ℕ → ℕ

@@ -19,7 +19,7 @@ use Rattle.model.specs.Search.{some?, find, below, tally}
 use Rattle.model.specs.Told.{tells, ending}
 use Rattle.model.specs.Plans.{recordFits, guard, known, claimed, newCell, readSlot, writeSlot, writeCapped, sealTarget, promotePlan, advanceTarget, plan, admit, entriesFit}
 use Rattle.model.specs.Effects.{rolledBack, handled, change, recordOf, after, releaseAnswer, answer, logOf}
-use Rattle.model.specs.Step.{sessionOf, planOf, step, reply}
+use Rattle.model.specs.Step.{sessionOf, planOf, step, answerOf}
 use Rattle.model.proofs.Advancing.{target-some, target-none, late, role-late, more-open, holds-more, last-done, holds-last, waits, publishes-more, publishes-last, releases-more, releases-last}
 use Rattle.model.proofs.Effects.{running-role, slot-none, slot-some, replaced, rolls, started, learns, enter-phase, enter-look, enter-slot, enters, notes}
 use Rattle.model.proofs.Invariant.{roleIn, roleOf, role, Running, Promoting, Finishing, Inv, calms, ticks}
@@ -337,8 +337,8 @@ module _ {first : List ℕ} {σ : Store} {T : Ledger} (I : Inv first σ T) where
       let ph : recordOf σ s .phase ≡ 4 = omega (arith, phase-le I s k) in
       keep-release s lt k two c tgt (rw ph at (I .link s)) ph))))
 
-  pub keep : (k : Call) → Inv first (step k σ) (observe (length first) k (reply k σ) T)
-  unfolding step reply planOf
+  pub keep : (k : Call) → Inv first (step k σ) (observe (length first) k (answerOf k σ) T)
+  unfolding step answerOf planOf
   keep (Begin s) = keep-begin s
   keep (Read s c) = keep-read s c
   keep (Write s c v) = keep-write s c v

@@ -13,7 +13,7 @@ use Rattle.model.specs.History.{Item, add, run, events, told, history, t
 use Rattle.model.specs.Isolation.{All}
 use Rattle.model.specs.Readers.{odd, member}
 use Rattle.model.specs.Effects.{recordOf}
-use Rattle.model.specs.Step.{sessionOf, reply}
+use Rattle.model.specs.Step.{sessionOf, answerOf}
 use Rattle.model.specs.Told.{Told, tells}
 use Rattle.model.proofs.Effects.{idle-out}
 use Rattle.model.proofs.Invariant.{role, latest, all-map, Inv}
@@ -90,9 +90,9 @@ events-length φ (k ∷ ks) = ap suc (events-length φ ks)
 
 -- one call more tells at its place, after what the list before it tells
 pub history-step : (start : List Item) (φ : Store) (k : Call) (ks : List Call)
-    → history start φ (k ∷ ks) ≡ add (suc (length ks)) (sessionOf k) (tells k (reply k (run φ ks))) (history start φ ks)
+    → history start φ (k ∷ ks) ≡ add (suc (length ks)) (sessionOf k) (tells k (answerOf k (run φ ks))) (history start φ ks)
 unfolding told events
-history-step start φ k ks = ap (λ (m : ℕ). add (suc m) (sessionOf k) (tells k (reply k (run φ ks))) (history start φ ks)) (events-length φ ks)
+history-step start φ k ks = ap (λ (m : ℕ). add (suc m) (sessionOf k) (tells k (answerOf k (run φ ks))) (history start φ ks)) (events-length φ ks)
 
 -- what is told is told at the places of the list
 abbrev Below : ℕ → List Item → Type 0
@@ -106,7 +106,7 @@ told-before : (start : List Item) → Below 1 start → (φ : Store) (ks : List 
 told-before start b φ [] = unfold told events in b
 told-before start b φ (k ∷ ks) =
     subst (Below (suc (suc (length ks)))) (sym (history-step start φ k ks))
-    (below-add (suc (suc (length ks))) (suc (length ks)) (sessionOf k) (omega arith) (tells k (reply k (run φ ks))) (history start φ ks)
+    (below-add (suc (suc (length ks))) (suc (length ks)) (sessionOf k) (omega arith) (tells k (answerOf k (run φ ks))) (history start φ ks)
     (all-map (λ i l. omega arith) (history start φ ks) (told-before start b φ ks)))
 
 -- from any store and ledger with the invariant
@@ -138,7 +138,7 @@ module _ {φ : Store} {h₀ : List Item} {T₀ : Ledger} (R : Ready φ h₀ T₀
   pub place-is : (ks : List Call) → ledger-of ks .place ≡ suc (length ks)
   unfolding ledger
   place-is [] = R .place
-  place-is (k ∷ ks) = observe-place n k (reply k (run φ ks)) (ledger-of ks) ∙ ap suc (place-is ks)
+  place-is (k ∷ ks) = observe-place n k (answerOf k (run φ ks)) (ledger-of ks) ∙ ap suc (place-is ks)
 
   pub match-run : (ks : List Call) → Matches (length (φ .lent .values)) (history h₀ φ ks) (ledger-of ks)
   unfolding ledger

@@ -11,7 +11,7 @@ use Rattle.model.specs.Serial.{serial, NoneOpen, OneAtATime, ReadsSerial
 use Rattle.model.specs.History.{Event, run, events, name, history, transaction, isOpen}
 use Rattle.model.specs.Isolation.{All}
 use Rattle.model.specs.Effects.{number}
-use Rattle.model.specs.Step.{reply, setUpAnswer, setUp}
+use Rattle.model.specs.Step.{answerOf, setUpAnswer, setUp}
 use Rattle.model.specs.Told.{tells}
 use Rattle.model.proofs.Demand3.{set-up-fresh}
 use Rattle.model.proofs.Invariant.{latest, all-map, Inv}
@@ -34,9 +34,9 @@ module _ (φ : Store) (I₀ : Inv (φ .lent .values) φ blank) where
       (λ l. clash (isOpen (transaction x (history [] φ ks))) (match-run (ready φ I₀) ks .mine s l) (h x))
 
   module _ (k : Call) (ks : List Call) (F : Follows (φ .lent .values) (ledger-of (ready φ I₀) ks) (serial (φ .lent .values) (events φ ks))) where
-    one-more : OneAtATime (events φ (k ∷ ks)) → Serially (φ .lent .values) (ledger-of (ready φ I₀) ks) (serial (φ .lent .values) (events φ ks)) k (reply k (run φ ks))
+    one-more : OneAtATime (events φ (k ∷ ks)) → Serially (φ .lent .values) (ledger-of (ready φ I₀) ks) (serial (φ .lent .values) (events φ ks)) k (answerOf k (run φ ks))
     unfolding events
-    one-more o = serially (inv-run (ready φ I₀) ks) F k (all-map (λ w a b. none-live ks (a b)) (tells k (reply k (run φ ks))) (o .1))
+    one-more o = serially (inv-run (ready φ I₀) ks) F k (all-map (λ w a b. none-live ks (a b)) (tells k (answerOf k (run φ ks))) (o .1))
 
   follows-run : (ks : List Call) → OneAtATime (events φ ks) → Follows (φ .lent .values) (ledger-of (ready φ I₀) ks) (serial (φ .lent .values) (events φ ks))
   unfolding events ledger serial latest

@@ -22,7 +22,7 @@ use Rattle.model.specs.Readers.{otherReaders}
 use Rattle.model.specs.Search.{some?, tally}
 use Rattle.model.specs.Plans.{recordFits, guard, known, claimed, newCell, readSlot, writeSlot, writeCapped, sealTarget, promotePlan, advanceTarget, plan, admit}
 use Rattle.model.specs.Effects.{number, recordOf, releaseAnswer, answer, logOf}
-use Rattle.model.specs.Step.{sessionOf, planOf, reply}
+use Rattle.model.specs.Step.{sessionOf, planOf, answerOf}
 use Rattle.model.specs.Told.{Told, ending, tells, begins, WhereGot}
 use Rattle.model.proofs.Advancing.{target-some}
 use Rattle.model.proofs.Effects.{slot-some}
@@ -162,8 +162,8 @@ module _ {start : List ℕ} {σ : Store} {T : Ledger} {z : Serial} (I : Inv star
   abbrev Alone : List Told → Type 0
   Alone ws = All (λ (w : Told). begins w ≡ true → (u : ℕ) → T .mine u .live ≡ false) ws
 
-  begin-fine : (s : ℕ) → Alone (tells (Begin s) (reply (Begin s) σ)) → Serially start T z (Begin s) (reply (Begin s) σ)
-  unfolding reply planOf plan answer observe tells ending starts serialStep
+  begin-fine : (s : ℕ) → Alone (tells (Begin s) (answerOf (Begin s) σ)) → Serially start T z (Begin s) (answerOf (Begin s) σ)
+  unfolding answerOf planOf plan answer observe tells ending starts serialStep
   begin-fine s =
       guarded (λ p. Alone (tells (Begin s) (answer s p σ)) → Fine (Begin s) p)
       (σ .lent) s (recordOf σ s) (eqb (recordOf σ s .phase) 0) Start
@@ -204,8 +204,8 @@ module _ {start : List ℕ} {σ : Store} {T : Ledger} {z : Serial} (I : Inv star
       moved : T .mine s .live ≡ true → Serially start T z (Advance s) Moved
       moved l = answered (Advance s) Moved refl refl (tt, tt) (follows-tick (follows-on G s l (advanced (length start) (T .place)) l refl refl (λ d. rw d)))
 
-  pub serially : (k : Call) → Alone (tells k (reply k σ)) → Serially start T z k (reply k σ)
-  unfolding reply planOf
+  pub serially : (k : Call) → Alone (tells k (answerOf k σ)) → Serially start T z k (answerOf k σ)
+  unfolding answerOf planOf
   serially (Begin s) b = begin-fine s b
   serially (Read s c) b = read-fine s c
   serially (Write s c v) b = write-fine s c v

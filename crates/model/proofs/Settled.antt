@@ -18,7 +18,7 @@ use Rattle.model.specs.History.{Item, add, Name, name, transaction, isOp
 use Rattle.model.specs.Isolation.{All}
 use Rattle.model.specs.Plans.{guard, plan, admit}
 use Rattle.model.specs.Effects.{number, valueOf, recordOf, answer, logOf}
-use Rattle.model.specs.Step.{sessionOf, planOf, reply}
+use Rattle.model.specs.Step.{sessionOf, planOf, answerOf}
 use Rattle.model.specs.Told.{Told, began, got, put, sealed, moved, ended, ending, tells, begins}
 use Rattle.model.proofs.Invariant.{Inv}
 use Rattle.model.proofs.Ledger.{Ledger, calm, amend, starts, hear, hears, observe}
@@ -152,8 +152,8 @@ module _ {first : List ℕ} {σ : Store} {T : Ledger} (I : Inv first σ T) {n : 
         guarded (Fine (Begin s)) (σ .lent) s (recordOf σ s) (eqb (recordOf σ s .phase) 0) Start z z z z
         (λ _ _ y. one-told z s (I .begun) (unfold Before in before) began (rw (eqb-true (recordOf σ s .phase) 0 y) at (I .link s)) (λ _. none))
 
-  pub heard : (k : Call) → ((s : ℕ) → transaction (name (T .place) s) h ≡ []) → Matches n (add (T .place) (sessionOf k) (tells k (reply k σ)) h) (hears n (sessionOf k) (tells k (reply k σ)) (calm T))
-  unfolding reply
+  pub heard : (k : Call) → ((s : ℕ) → transaction (name (T .place) s) h ≡ []) → Matches n (add (T .place) (sessionOf k) (tells k (answerOf k σ)) h) (hears n (sessionOf k) (tells k (answerOf k σ)) (calm T))
+  unfolding answerOf
   heard (Begin s) none = heard-begin s (none s)
   heard (Read s c) none = heard-read s c
   heard (Write s c v) none = heard-write s c v
@@ -164,11 +164,11 @@ module _ {first : List ℕ} {σ : Store} {T : Ledger} (I : Inv first σ T) {n : 
 
 -- the ledger goes on to match
 pub heeds : {first : List ℕ} {σ : Store} {T : Ledger} → Inv first σ T → {h : List Item} → Matches (length first) h T → (q : ℕ) → T .place ≡ q
-    → All (λ (i : Item). i .place < q) h → (k : Call) → Matches (length first) (add q (sessionOf k) (tells k (reply k σ)) h) (observe (length first) k (reply k σ) T)
+    → All (λ (i : Item). i .place < q) h → (k : Call) → Matches (length first) (add q (sessionOf k) (tells k (answerOf k σ)) h) (observe (length first) k (answerOf k σ) T)
 unfolding observe
 heeds {first} {σ} {T} I {h} M q e old k =
     let n = length first in
-    let ws = tells k (reply k σ) in
+    let ws = tells k (answerOf k σ) in
     let U = hears n (sessionOf k) ws (calm T) in
     let N = heard I M (subst (λ (q : ℕ). Before q h) (sym e) (before-place q h old)) k (λ s. rw e (unborn q h old (name q s) (omega arith))) in
     unchanged {T = U} (λ x. refl) refl refl (subst (λ (q : ℕ). Matches n (add q (sessionOf k) ws h) U) e N)

@@ -10,7 +10,7 @@ use Rattle.model.specs.declared.Plan.the-variants.{Refuse, ShowStore, Sh
 use Rattle.model.specs.Buffers.{Store, entryAt, slotIn}
 use Rattle.model.specs.Plans.{peekSlot, plan}
 use Rattle.model.specs.Effects.{number, recordOf, answer, noWord, shown, logOf}
-use Rattle.model.specs.Step.{peekShows, planOf, reply}
+use Rattle.model.specs.Step.{peekShows, planOf, answerOf}
 use Rattle.model.proofs.Passing.{choose, running-cell}
 use Rattle.model.proofs.Tools.{split}
 
@@ -31,8 +31,8 @@ unfolding shown answer
 tied-log s k σ = inr (λ e. let z : _≡_ {A = ℕ} 0 1 = cc in omega arith, refl)
 
 pub peek-and-twin : (σ : Store) (s c : ℕ)
-    → ((peekShows s c σ ≡ noWord) × (number (reply (Peek s c) σ) ≡ 100 → ⊥)) ⊎ ((peekShows s c σ ≡ noWord → ⊥) × (reply (Peek s c) σ ≡ Done))
-unfolding reply planOf plan peekSlot
+    → ((peekShows s c σ ≡ noWord) × (number (answerOf (Peek s c) σ) ≡ 100 → ⊥)) ⊎ ((peekShows s c σ ≡ noWord → ⊥) × (answerOf (Peek s c) σ ≡ Done))
+unfolding answerOf planOf plan peekSlot
 peek-and-twin σ s c =
     let P : Plan → Type 0 = λ p. Tied s p σ in
     running-cell P (σ .lent) s (recordOf σ s) c (peekSlot (logOf σ s) c (slotIn (logOf σ s) (recordOf σ s .count) c))

@@ -13,7 +13,7 @@ use Rattle.model.specs.Buffers.{Locks, Store, lockAt}
 use Rattle.model.specs.History.{Item, add, run, history, Name, transaction, isOpen, wrote, commit, committed}
 use Rattle.model.specs.Isolation.{All, at, Isolated, Holds, firsts, HoldsAtCommit}
 use Rattle.model.specs.Effects.{number, recordOf}
-use Rattle.model.specs.Step.{sessionOf, reply}
+use Rattle.model.specs.Step.{sessionOf, answerOf}
 use Rattle.model.specs.Told.{Told, sealed, ended, ending, tells, writes, begins}
 use Rattle.model.proofs.Advancing.{late, role-late}
 use Rattle.model.proofs.Commits.{pick, all-both, isolated}
@@ -164,9 +164,9 @@ module _ {φ : Store} {h₀ : List Item} {T₀ : Ledger} (R : Ready φ h₀ T₀
   -- the older commits stay
   older : (P : Commit → Type 0) (k : Call) (ks : List Call) → All P (ledger-of R (k ∷ ks) .commits) → All P (ledger-of R ks .commits)
   unfolding ledger
-  older P k ks a = go (observe-grows n k (reply k (run φ ks)) (ledger-of R ks))
+  older P k ks a = go (observe-grows n k (answerOf k (run φ ks)) (ledger-of R ks))
     where
-      go : Grown (ledger-of R ks) (observe n k (reply k (run φ ks)) (ledger-of R ks)) → All P (ledger-of R ks .commits)
+      go : Grown (ledger-of R ks) (observe n k (answerOf k (run φ ks)) (ledger-of R ks)) → All P (ledger-of R ks .commits)
       go (kept e) = rw e at a
       go (grew j e _ _) = (rw e at a) .1
 
@@ -188,7 +188,7 @@ module _ {φ : Store} {h₀ : List Item} {T₀ : Ledger} (R : Ready φ h₀ T₀
   held : (ks : List Call) → All (Held ks) (ledger-of R ks .commits)
   unfolding ledger
   held [] = rw (R .commits) tt
-  held (x ∷ ks) = grow x ks (held ks) (ledger-of R (x ∷ ks)) (observe-grows n x (reply x (run φ ks)) (ledger-of R ks)) (inv-run R (x ∷ ks) .just)
+  held (x ∷ ks) = grow x ks (held ks) (ledger-of R (x ∷ ks)) (observe-grows n x (answerOf x (run φ ks)) (ledger-of R ks)) (inv-run R (x ∷ ks) .just)
 
   -- a committed transaction stays committed, at its place
   frozen : (k : Call) (ks : List Call) (x : Name) → committed n (tx ks x) ≡ true → (committed n (tx (k ∷ ks) x) ≡ true) × (commit n (tx (k ∷ ks) x) ≡ commit n (tx ks x))
@@ -206,7 +206,7 @@ module _ {φ : Store} {h₀ : List Item} {T₀ : Ledger} (R : Ready φ h₀ T₀
   past : (k : Call) (ks : List Call) (x : Name) → x .place ≤ length ks → Later n (tx ks x) (tx (k ∷ ks) x)
   past k ks x l =
       subst (λ (h : List Item). Later n (tx ks x) (transaction x h)) (sym (history-step h₀ φ k ks))
-      (later-add n x (suc (length ks)) (sessionOf k) (tells k (reply k (run φ ks))) (history h₀ φ ks) (λ e. omega arith))
+      (later-add n x (suc (length ks)) (sessionOf k) (tells k (answerOf k (run φ ks))) (history h₀ φ ks) (λ e. omega arith))
 
   still-open : (ks : List Call) (x : Name) → isOpen (tx ks x) ≡ true → committed n (tx ks x) ≡ false → (m : ℕ) → x .place ≤ m → m ≤ length ks → Opening (tx (firsts m ks) x) (tx ks x)
   still-open [] x l d m a b = unfold firsts in record { open′ = l; not-done = d; wrote = λ c h. h }

@@ -97,7 +97,7 @@ abbrev pub isDirty : Option Entry → Bool
 isDirty none = false
 isDirty (some e) = e .dirty
 
--- what counts as written from the seal on: today the same
+-- what counts as written for seal and advance: today that bit; two definitions, since a later request may part them
 unfoldable pub publishes : Entry → Bool
 publishes e = e .dirty
 
@@ -120,7 +120,7 @@ currentOf (some e) = e .current
 unfoldable pub appended : List ℕ → ℕ → ℕ → ℕ → List ℕ
 appended log k c v = sets log (4 * k) (c ∷ v ∷ v ∷ 0 ∷ [])
 
--- the present value v in entry k, which is then written
+-- the present value v in entry k, which is then written, also where v is the value it had
 unfoldable pub updated : List ℕ → ℕ → ℕ → List ℕ
 updated log k v = sets log (4 * k + 2) (v ∷ 1 ∷ [])
 

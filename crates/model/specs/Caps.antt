@@ -16,7 +16,7 @@ capOf σ c = cap (getD (σ .lent .classes) c 0)
 abbrev pub GotWithin : Store → Item → Type 0
 GotWithin σ i = WhereGot (λ c v. v ≤ capOf σ c) (i .told)
 
--- of a list of calls, the newest first, from the store σ
+-- of a list of calls, the newest first, from the store σ; `within-caps` proves it of what a set-up answered 100 left
 pub record WithinCaps (σ : Store) (ks : List Call) : Type 0 where
   pub stored : (c : ℕ) → getD (run σ ks .lent .values) c 0 ≤ capOf σ c
   pub got : All (GotWithin σ) (history [] σ ks)

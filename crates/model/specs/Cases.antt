@@ -10,7 +10,7 @@ use Rattle.model.specs.declared.Call.the-variants.{Begin, Read, Write, S
 use Rattle.model.specs.declared.Answer.{Answer}
 use Rattle.model.specs.Buffers.{Store}
 use Rattle.model.specs.Effects.{number, valueOf, Part, storeWord, logWord, noWord, shown}
-use Rattle.model.specs.Step.{sessionOf, planOf, step, reply}
+use Rattle.model.specs.Step.{sessionOf, planOf, step, answerOf}
 
 -- ---- what a row is given and leaves
 
@@ -71,7 +71,7 @@ abbrev refused : State → Call → ℕ → Case
 refused x k n = unchanged x k n 0
 
 unfoldable pub actual : Case → Result
-actual r = let σ = storeWith (sessionOf (r .call)) (r .given) in result (reply (r .call) σ) (step (r .call) σ)
+actual r = let σ = storeWith (sessionOf (r .call)) (r .given) in result (answerOf (r .call) σ) (step (r .call) σ)
 
 unfoldable pub expected : Case → Result
 expected r = record { number = r .number; value = r .value; store = storeWith (sessionOf (r .call)) (r .left) }
@@ -217,7 +217,7 @@ abbrev phased : (ℕ → State) → Call → List ℕ → Phased
 phased x k ns = record { given = x; call = k; numbers = ns }
 
 unfoldable pub answered : Phased → List ℕ
-answered r = map (λ (p : ℕ). number (reply (r .call) (storeWith 1 (r .given p)))) (0 ∷ 1 ∷ 2 ∷ 3 ∷ 4 ∷ 5 ∷ [])
+answered r = map (λ (p : ℕ). number (answerOf (r .call) (storeWith 1 (r .given p)))) (0 ∷ 1 ∷ 2 ∷ 3 ∷ 4 ∷ 5 ∷ [])
 
 unfoldable pub phases : List Phased
 phases =

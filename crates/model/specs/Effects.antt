@@ -1,5 +1,5 @@
--- What a plan does (document 01, "The steps"): what it answers, what a peek is shown, and all that is left. One test is made here and not in the plan:
--- whether a written cell is left above the one that is handled.
+-- What a plan does (document 01, "The steps"): what it answers, what a peek is shown, and all that is left. What is tested here is only what
+-- a change touches: whether a claim is the session's own, whether an entry is written, whether a written cell is left.
 use Prim.Native.Nat.{ℕ, suc, _+_, _*_}
 use mathlib.Core.Bool.{Bool, true, cond, not}
 use mathlib.Core.Option.{some}
@@ -50,17 +50,17 @@ readsDropped log m s L = sweep (λ c. not (publishesIn log m c)) (leave s) (cell
 unfoldable pub isLeft : List ℕ → ℕ → Session → Bool
 isLeft log c x = some? (targetIn log (x .count) (suc c))
 
--- handling cell c: next is one above it; where no written cell is left there the phase rises, and out of phase 4 the session is idle
+-- handling cell c: next is one above it; where no written cell is left there the phase rises and next is 0, and out of phase 4 the session is idle
 unfoldable pub handled : List ℕ → ℕ → Session → Session
 unfolding isLeft
 handled log c x = cond (isLeft log c x) (moveTo (x .phase) (suc c) x) (cond (eqb (x .phase) 4) idle (moveTo (suc (x .phase)) 0 x))
 
--- the answer then: in phases 2 and 3 it is 103; in phase 4 this, 105 where the session goes idle, else 103
+-- the answer of phase 4: 103 while a written cell is left, else 105; phases 2 and 3 answer 103
 unfoldable pub releaseAnswer : List ℕ → ℕ → Session → Answer
 unfolding isLeft
 releaseAnswer log c x = cond (isLeft log c x) Moved Committed
 
--- the store with these locks, values, logs and record of session s; with these locks; with these logs
+-- the store with these locks, values, logs and record of session s; with these locks; with these logs (the forms that the laws in proofs/ go by)
 abbrev pub change : Store → ℕ → Locks → List ℕ → List ℕ → Session → Store
 change σ s L vs W x =
     record { lent = record { values = vs; classes = σ .lent .classes; locks = L; logs = W }; sessions = withSession (σ .sessions) s x }
@@ -94,7 +94,7 @@ recordOf σ s = sessionAt (σ .sessions) s
 abbrev pub logOf : Store → ℕ → List ℕ
 logOf σ s = logIn (σ .lent .logs) s
 
--- the part that a peek hands back: one word of the store's values, one word of the logs, or no word
+-- the part that a peek hands back: the word at an index of the store's values, or of the logs, or no word where it is refused
 pub data Part : Type 0 where
   storeWord : ℕ → Part
   logWord : ℕ → Part

@@ -1,6 +1,6 @@
 -- What a list of calls tells (document 01, "What demand 3 counts"): one definition for each of its words.
 -- Every list here, of calls, of events and of items, has the newest first, since a list's tail is then all that went before. A place is a call's
--- ordinal in the list, from 1; what is told where the list starts has place 0.
+-- ordinal in the list, from 1; what is told where the list starts has place 0. Set-up and the field calls stand outside: `Call` has no case for them.
 use Prim.Native.Nat.{ℕ, suc}
 use mathlib.Core.Bool.{Bool, false, cond, not, _&&_, _||_}
 use mathlib.Core.List.{List, [], _∷_}
@@ -10,7 +10,7 @@ use Rattle.model.specs.declared.Call.{Call}
 use Rattle.model.specs.declared.Answer.{Answer}
 use Rattle.model.specs.Buffers.{Store}
 use Rattle.model.specs.Search.{tally}
-use Rattle.model.specs.Step.{sessionOf, step, reply}
+use Rattle.model.specs.Step.{sessionOf, step, answerOf}
 use Rattle.model.specs.Told.{Told, tells, begins, writes, seals, moves, ends, valuePut, ReadOf, readUnless}
 
 -- ---- calls, answers, and what they tell
@@ -34,7 +34,7 @@ run σ (k ∷ ks) = step k (run σ ks)
 
 unfoldable pub events : Store → List Call → List Event
 events σ [] = []
-events σ (k ∷ ks) = event k (reply k (run σ ks)) ∷ events σ ks
+events σ (k ∷ ks) = event k (answerOf k (run σ ks)) ∷ events σ ks
 
 -- something told, at its place and of its session
 pub record Item : Type 0 where
@@ -50,8 +50,8 @@ abbrev pub add : ℕ → ℕ → List Told → List Item → List Item
 add q s [] h = h
 add q s (w ∷ ws) h = item q s w ∷ add q s ws h
 
--- what events tell, after `start`: what the transactions that are open before the first call have told, all of it at place 0; they run, none of them sealed
--- or committed. Nothing (`[]`) from set-up on
+-- what events tell, after `start`: what transactions that were open before the first call have told, all of it at place 0; `[]` after a set-up. Which starts
+-- the theorems admit: `Ready` in proofs/Runs.antt
 unfoldable pub told : List Item → List Event → List Item
 told start [] = start
 told start (e ∷ h) = add (suc (length h)) (sessionOf (e .call)) (tellsOf e) (told start h)

@@ -1,5 +1,5 @@
--- Demand 3, the claim: the committed transactions of a list of calls have snapshot and commit places such that each read is the last commit's before the
--- snapshot, and writers of one cell have spans that do not meet; a commit is the call with which all writer locks are held. And the same of code.
+-- Demand 3, the claim: the committed transactions of a list of calls have snapshot and commit places such that each read before writing is the last commit's
+-- before the snapshot, or the starting value, and writers of one cell have spans that do not meet; a commit is the call with which all writer locks are held. And the same of code.
 use Prim.Native.Nat.{ℕ, suc, _≤_, _<_}
 use mathlib.Core.Path.{_≡_}
 use mathlib.Core.Logic.{_⊎_}
@@ -74,7 +74,8 @@ unfoldable pub firsts : ℕ → List Call → List Call
 firsts m [] = []
 firsts m (k ∷ ks) = cond (leb (suc (length ks)) m) (k ∷ ks) (firsts m ks)
 
--- of what is told where a list of calls starts, the store there, and the list, the newest first
+-- of what is told where a list of calls starts, the store there, and the list, the newest first; `at`, `Commits` and `commitOf` are those above, of these values
+-- and items
 module _ (start : List Item) (σ : Store) (ks : List Call) where
   abbrev values : List ℕ
   values = σ .lent .values
@@ -98,7 +99,7 @@ module _ (start : List Item) (σ : Store) (ks : List Call) where
 
 -- ---- demand 3
 
--- of a list of calls, in the order of the calls, from a store where `start` is told
+-- of a list of calls, in the order of the calls, from a store where `start` is told; `demand3` proves it of what a set-up answered 100 left, with `[]`
 pub record Demand3 (start : List Item) (σ : Store) (calls : List Call) : Type 0 where
   pub isolated : Isolated (σ .lent .values) (history start σ (reverse calls))
   pub locks : HoldsAtCommit start σ (reverse calls)
@@ -111,7 +112,8 @@ pub data Ran (σ : Store) : List Call → List Event → Store → Type 0 where
   then : {ks : List Call} {h : List Event} {x : Store} → Ran σ ks h x → (k : Call) (a : Answer) (y : Store) → outcome a y ≡ effect k x
       → Ran σ (k ∷ ks) (event k a ∷ h) y
 
--- what code answered, and the store that it left, of a list of calls in their order from set-up: those of the model, and demand 3 holds of them
+-- what code answered, and the store that it left, of a list of calls in their order: those of the model, and demand 3 holds of them; `demand3-of-code` proves
+-- it of what a set-up answered 100 left
 pub record Demand3OfCode (σ : Store) (calls : List Call) (h : List Event) (τ : Store) : Type 0 where
   pub events : h ≡ events σ (reverse calls)
   pub left : τ ≡ run σ (reverse calls)

@@ -7,7 +7,7 @@ use Rattle.model.specs.declared.Call.the-variants.{Begin, Read, Write, S
 use Rattle.model.specs.declared.Answer.{Answer}
 use Rattle.model.specs.declared.Answer.the-variants.{Done, Value, Sealed, Moved, Waiting, Committed, Refused}
 use Rattle.model.specs.Buffers.{Store}
-use Rattle.model.specs.Step.{step, reply, setUpAnswer, setUp}
+use Rattle.model.specs.Step.{step, answerOf, setUpAnswer, setUp}
 
 -- a row: the cells at set-up, the calls in order, what each must answer, and the values at the end
 pub record Row : Type 0 where
@@ -39,7 +39,7 @@ given r =
 
 unfoldable pub answersFrom : Store → List Call → List Answer
 answersFrom σ [] = []
-answersFrom σ (k ∷ ks) = reply k σ ∷ answersFrom (step k σ) ks
+answersFrom σ (k ∷ ks) = answerOf k σ ∷ answersFrom (step k σ) ks
 
 unfoldable pub valuesAfter : Store → List Call → List ℕ
 valuesAfter σ [] = σ .lent .values

@@ -1,5 +1,6 @@
--- What a call decides (document 01, "The steps" and "When a call is turned down"): a plan, which holds every test and the order of refusals. 7 and 1 stand in
--- `admit`, 9 and 2 in `guard`, 3 in `known`, 8 and 4 in `writePlan`, 14 in `peekSlot`, 5 and 6 in `newCell`.
+-- What a call decides (document 01, "The steps" and "When a call is turned down"): a plan, which holds every test that turns a call down or chooses what it does.
+-- Refusals in their order: 7 and 1 in `admit`, 9 and 2 in `guard`, 3 in `known`, 8 in `writePlan`, 4 in `writeCapped`, 14 in `peekSlot`, 5 and 6 in `newCell`;
+-- 10 to 13 are the fields'.
 use Prim.Native.Nat.{ℕ}
 use mathlib.Core.Bool.{Bool, cond, not, _&&_, _||_}
 use mathlib.Core.Option.{Option, none, some}
@@ -24,10 +25,11 @@ require ok refused p = cond ok p refused
 abbrev pub admit : Buffers → ℕ → Plan → Plan
 admit B s p = require (lengthsFit B) (Refuse 7) (require (ltb s 16) (Refuse 1) p)
 
--- refusal 9: phase at most 4; in phases 1 to 4 at most 32 entries, each of a cell below n; in phases 2 to 4 a written cell not below next
+-- 9 unless the phase is at most 4 and, in phases 1 to 4, there are at most 32 entries, each of a cell below n
 unfoldable pub entriesFit : ℕ → List ℕ → Session → Bool
 entriesFit n log x = leb (x .phase) 4 && (eqb (x .phase) 0 || (leb (x .count) 32 && below n (cellAt log) (x .count)))
 
+-- and unless, in phases 2 to 4, there is a written cell not below next
 unfoldable pub recordFits : ℕ → List ℕ → Session → Bool
 recordFits n log x = entriesFit n log x && (leb (x .phase) 1 || some? (targetIn log (x .count) (x .next)))
 
@@ -55,7 +57,7 @@ readSlot log x l c (some k) = Tell (entryAt log k .current)
 unfoldable pub readPlan : ℕ → List ℕ → Session → Lock → ℕ → Plan
 readPlan n log x l c = guard n log x (eqb (x .phase) 1) (known n c (readSlot log x l c (slotIn log (x .count) c)))
 
--- write: a new cell is entered as by read, then the entry is updated; before that a value above the cap m is 4, and a class above 15 is 8
+-- write: a class above 15 is 8, a value above the cap m is 4 (below); then a new cell is entered as by read, and the entry is updated
 unfoldable pub writeSlot : Session → Lock → ℕ → ℕ → Option ℕ → Plan
 writeSlot x l c v none = newCell x l (EnterUpdate c v)
 writeSlot x l c v (some k) = Update k v

@@ -1,5 +1,5 @@
--- One after the other, beside demand 3: of every list of calls in which a transaction begins only when none is open, equality with a store that runs
--- one transaction at a time.
+-- One after the other, beside demand 3: where a transaction begins only when none is open, what is read and what is left is that of a store that runs one
+-- transaction at a time.
 use Prim.Native.Nat.{ℕ}
 use mathlib.Core.Path.{_≡_}
 use mathlib.Core.Bool.{true, false, cond}
@@ -62,7 +62,7 @@ ReadsSerially first (e ∷ h) = ReadsSerially first h × All (WhereGot (λ c v. 
 abbrev pub Undisturbed : Answer → Type 0
 Undisturbed a = ((number a ≡ 6) → ⊥) × ((number a ≡ 104) → ⊥)
 
--- of a list of calls, the newest first, from the store σ
+-- of a list of calls, the newest first, from the store σ; `serially-equal` proves it of what a set-up answered 100 left, where `OneAtATime` holds
 pub record SeriallyEqual (σ : Store) (ks : List Call) : Type 0 where
   pub reads : ReadsSerially (σ .lent .values) (events σ ks)
   pub left : NoneOpen (history [] σ ks) → run σ ks .lent .values ≡ serial (σ .lent .values) (events σ ks) .values

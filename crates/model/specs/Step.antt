@@ -27,10 +27,10 @@ planOf k σ =
 unfoldable pub step : Call → Store → Store
 step k σ = after (sessionOf k) (planOf k σ) σ
 
-unfoldable pub reply : Call → Store → Answer
-reply k σ = answer (sessionOf k) (planOf k σ) σ
+unfoldable pub answerOf : Call → Store → Answer
+answerOf k σ = answer (sessionOf k) (planOf k σ) σ
 
--- what a peek of cell c by session s is shown
+-- what a peek of cell c by session s is shown; a refused peek is shown no word, and its number is `answerOf`'s
 abbrev pub peekShows : ℕ → ℕ → Store → Part
 peekShows s c σ = shown s (planOf (Peek s c) σ) σ
 
@@ -50,7 +50,7 @@ abbrev pub outcome : Answer → Store → Outcome
 outcome a σ = record { answer = a; store = σ }
 
 unfoldable pub effect : Call → Store → Outcome
-effect k σ = outcome (reply k σ) (step k σ)
+effect k σ = outcome (answerOf k σ) (step k σ)
 
 unfoldable pub setUpEffect : Store → Outcome
 setUpEffect σ = outcome (setUpAnswer (σ .lent)) (setUp σ)

@@ -29,7 +29,7 @@ tellings =
     ∷ telling (Read 1 2) (Value 7) (got 2 7 ∷ []) ∷ telling (Read 1 2) (Refused 3) [] ∷ telling (Read 1 2) (Refused 6) (ended ∷ [])
     ∷ telling (Read 1 2) Done [] ∷ telling (Read 1 2) Committed (ended ∷ [])
     ∷ telling (Write 1 2 7) Done (put 2 7 ∷ []) ∷ telling (Write 1 2 7) (Refused 4) [] ∷ telling (Write 1 2 7) (Refused 6) (ended ∷ [])
-    -- the newest first: the seal, then the end
+    -- the newest first: the end, and before it the seal
     ∷ telling (Seal 1) Sealed (sealed ∷ []) ∷ telling (Seal 1) Committed (ended ∷ sealed ∷ []) ∷ telling (Seal 1) (Refused 2) []
     ∷ telling (Seal 1) (Refused 6) (ended ∷ [])
     ∷ telling (Advance 1) Moved (moved ∷ []) ∷ telling (Advance 1) Waiting [] ∷ telling (Advance 1) Committed (ended ∷ [])

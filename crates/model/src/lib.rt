@@ -14,7 +14,7 @@ pub struct Session {
     pub next: u16,
 }
 
-// The records of the sixteen sessions, passed in and handed back by every call.
+// The records of the sixteen sessions, passed in by every call and handed back with its answer.
 #[repr(C)]
 pub struct Sessions {
     pub records: [Session; 16],
@@ -100,10 +100,9 @@ pub enum Plan {
     Cancel,
     CommitReads,
     BeginPromotion,
-    // the cell of an advance
+    // the cell of an advance; with Publish the value that it gets
     Wait(u32),
     Acquire(u32),
-    // the cell, and the value that it gets
     Publish(u32, u32),
     Release(u32),
     // a cell of the store, an entry of the log

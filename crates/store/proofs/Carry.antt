@@ -5,7 +5,7 @@ use mathlib.Core.List.{List}
 use lib.ListN.{getD, set}
 use Rattle.model.specs.Buffers.{Locks, Store, idle, running, withSession, withEntry, moveTo, lockAt, setLock, onLock, join, claim, acquire, vacate, onLog, appended, updated}
 use Rattle.model.specs.Effects.{recordOf, answer, after, logOf, rolledBack, readsDropped, handled, releaseAnswer}
-use Rattle.model.specs.Step.{outcome, effect, reply, step, planOf, sessionOf}
+use Rattle.model.specs.Step.{outcome, effect, answerOf, step, planOf, sessionOf}
 use Rattle.model.specs.declared.Session.{Session}
 use Rattle.model.specs.declared.Lock.{Lock}
 use Rattle.model.specs.declared.Call.{Call}
@@ -16,7 +16,7 @@ use Rattle.model.specs.declared.Plan.the-variants.{Refuse, Start, Tell, Enter, 
 use Rattle.store.specs.Lent.{outcomeOf}
 
 pub carries : (k : Call) (σ : Store) (p : Plan) → p ≡ planOf k σ → outcomeOf (sessionOf k) p σ ≡ effect k σ
-unfolding outcomeOf effect reply step
+unfolding outcomeOf effect answerOf step
 carries k σ p e = rw e
 
 -- the lock of a cell, changed by f and put back

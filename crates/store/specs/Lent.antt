@@ -1,4 +1,5 @@
--- What a call on number slices is given and leaves, as the model's store; and the part that a peek hands back, as a place in memory.
+-- What a call on number slices is given and leaves, as the model's store; and the part that a peek hands back, as a place in memory. A `Slice` is a slice as it
+-- is passed (`.entry`) and as it is left (`.exit`), `now` its words (model/specs/Slices.antt).
 use mathlib.Core.Path.{_≡_}
 use mathlib.Core.Bool.{true}
 use Prim.Native.Nat.{ℕ, _+_, _*_, _≤_, _<_}
@@ -83,12 +84,12 @@ AdvancesAt k values classes readers claimants exclusives logs ss s r =
 
 -- ---- what the tests leave known
 
--- refusals 7 and 1
+-- 7 and 1 are passed: the lengths fit, and the session is one of sixteen
 pub record LengthsFit (σ : Store) (s : ℕ) : Type 0 where
   pub lengths : lengthsFit (σ .lent) ≡ true
   pub session : s < 16
 
--- the tests of a session past phase 0: the lengths fit, and its entries are at most 32, each of a cell of the store
+-- so is 9, of a session past phase 0: its entries are at most 32, each of a cell of the store
 pub record EntriesFit (σ : Store) (s : ℕ) : Type 0 where
   pub sized : LengthsFit σ s
   pub count : recordOf σ s .count ≤ 32

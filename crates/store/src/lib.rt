@@ -1,5 +1,5 @@
 // The store: set-up and the calls, on number slices that the caller lends (document 01, "The steps").
-// Each call takes the records of all sixteen sessions and hands them back with its answer. It decides, then carries the plan out.
+// Each call takes the records of all sixteen sessions and hands them back with its answer (peek by its twin). It decides, then carries the plan out.
 ghost use mathlib.Core.Path.{_≡_};
 ghost use Prim.Native.Nat.{_+_, _*_, _%_, _<_, _≤_};
 ghost use lib.ListN.{length, replicate};
@@ -17,7 +17,8 @@ use model::Session;
 use model::Sessions;
 
 // A call's answer, and the record that it leaves its session. Each call but peek hands on one record by value and puts what is left of it in its
-// place at the end, so that the sixteen are copied in and out once. The inner functions name the sixteen in their contracts alone.
+// place at the end, so that the sixteen are copied in and out once. The inner functions name the sixteen in their contracts alone. The record is that of
+// `session % 16`, taken before 1 is tested: a session above 15 is refused, and the record put back as it was.
 struct SessionReply {
     answer: Answer,
     session: Session,

@@ -5,7 +5,7 @@ use mathlib.Core.List.{List, [], _∷_, _++_, append-assoc, reverse, reverse-con
 use Rattle.model.specs.declared.Call.{Call}
 use Rattle.model.specs.Buffers.{Store}
 use Rattle.model.specs.History.{run, events}
-use Rattle.model.specs.Step.{step, reply}
+use Rattle.model.specs.Step.{step, answerOf}
 use Rattle.transcript.specs.Items.{Item, cell, asked, refused, calls}
 use Rattle.transcript.specs.Lines.{fieldLine, answerLine, answerLines, cellLines, endLine}
 use Rattle.transcript.specs.Transcript.{callsText}
@@ -17,7 +17,7 @@ module _ (σ : Store) (k : Call) where
   run-first [] = refl
   run-first (j ∷ ks) = ap (step j) (run-first ks)
 
-  events-first : (ks : List Call) → events σ (ks ++ k ∷ []) ≡ events (step k σ) ks ++ (record { call = k; answer = reply k σ } ∷ [])
+  events-first : (ks : List Call) → events σ (ks ++ k ∷ []) ≡ events (step k σ) ks ++ (record { call = k; answer = answerOf k σ } ∷ [])
   unfolding run events
   events-first [] = refl
   events-first (j ∷ ks) = rw (run-first ks, events-first ks)
@@ -25,15 +25,15 @@ module _ (σ : Store) (k : Call) where
   run-asked : (ks : List Call) → run σ (reverse (k ∷ ks)) ≡ run (step k σ) (reverse ks)
   run-asked ks = ap (run σ) (reverse-cons k ks) ∙ run-first (reverse ks)
 
-  events-asked : (ks : List Call) → reverse (events σ (reverse (k ∷ ks))) ≡ record { call = k; answer = reply k σ } ∷ reverse (events (step k σ) (reverse ks))
+  events-asked : (ks : List Call) → reverse (events σ (reverse (k ∷ ks))) ≡ record { call = k; answer = answerOf k σ } ∷ reverse (events (step k σ) (reverse ks))
   events-asked ks =
       ap (λ (js : List Call). reverse (events σ js)) (reverse-cons k ks) ∙ ap reverse (events-first (reverse ks)) ∙ reverse-append (events (step k σ) (reverse ks)) _
 
   -- a call prints its line, and the rest follows from the store that it leaves
-  pub text-asked : (i : ℕ) (items : List Item) → callsText i σ (asked k ∷ items) ≡ answerLine i (reply k σ) ++ callsText (suc i) (step k σ) items
+  pub text-asked : (i : ℕ) (items : List Item) → callsText i σ (asked k ∷ items) ≡ answerLine i (answerOf k σ) ++ callsText (suc i) (step k σ) items
   unfolding calls answerLines endLine callsText
   text-asked i items =
-      rw (events-asked (calls items), run-asked (calls items)) (append-assoc (answerLine i (reply k σ)) (answerLines (suc i) (reverse (events (step k σ) (reverse (calls items))))) _)
+      rw (events-asked (calls items), run-asked (calls items)) (append-assoc (answerLine i (answerOf k σ)) (answerLines (suc i) (reverse (events (step k σ) (reverse (calls items))))) _)
 
 module _ (i : ℕ) (σ : Store) where
   -- where the calls end, the cells follow

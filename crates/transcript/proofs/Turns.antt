@@ -8,7 +8,7 @@ use types.Run.{OneOf, miss}
 use Rattle.model.specs.declared.Answer.{Answer}
 use Rattle.model.specs.declared.Call.{Call}
 use Rattle.model.specs.Buffers.{Store}
-use Rattle.model.specs.Step.{Outcome, outcome, effect, step, reply}
+use Rattle.model.specs.Step.{Outcome, outcome, effect, step, answerOf}
 use Rattle.transcript.specs.declared.Next.{Next}
 use Rattle.transcript.specs.declared.Next.the-variants as next
 use Rattle.transcript.specs.Items.{Item, asked, following}
@@ -23,15 +23,15 @@ module _ (k : Call) (i : ℕ) (o : List ℕ) (at : ℕ) (σ : Store) where
   pub turning : {x : Answer} {φ : Store} {a : ℕ} {p : List ℕ} → outcome x φ ≡ effect k σ → out a p ≡ put o at (answerLine i x) → callPrinted (out a p) φ ≡ turn k i o at σ
   unfolding effect turn
   turning {x} {φ} {a} {p} e f =
-      let said : x ≡ reply k σ = ap (λ (r : Outcome). r .answer) e in
+      let said : x ≡ answerOf k σ = ap (λ (r : Outcome). r .answer) e in
       let left : φ ≡ step k σ = ap (λ (r : Outcome). r .store) e in
-      ap (λ (w : Out). callPrinted w φ) (f ∙ ap (λ (y : Answer). put o at (answerLine i y)) said) ∙ ap (callPrinted (put o at (answerLine i (reply k σ)))) left
+      ap (λ (w : Out). callPrinted w φ) (f ∙ ap (λ (y : Answer). put o at (answerLine i y)) said) ∙ ap (callPrinted (put o at (answerLine i (answerOf k σ)))) left
 
   -- what is left of the text after a call
   pub turned-text : (items : List Item) {φ : Store} {a : ℕ} {p : List ℕ} → callPrinted (out a p) φ ≡ turn k i o at σ → put p a (callsText (i + 1) φ items) ≡ put o at (callsText i σ (asked k ∷ items))
   unfolding turn
   turned-text items {φ} {a} {p} e =
-      let line : out a p ≡ put o at (answerLine i (reply k σ)) = ap (λ (t : CallPrinted). t .out) e in
+      let line : out a p ≡ put o at (answerLine i (answerOf k σ)) = ap (λ (t : CallPrinted). t .out) e in
       let left : φ ≡ step k σ = ap (λ (t : CallPrinted). t .store) e in
       rw (add-one, left) (after o at _ _ line ∙ ap (put o at) (sym (text-asked σ k i items)))
 

@@ -10,7 +10,7 @@ use Rattle.model.specs.declared.Call.{Call}
 use Rattle.model.specs.declared.Sessions.{Sessions}
 use Rattle.model.specs.Buffers.{Store}
 use Rattle.model.specs.Slices.{Slice}
-use Rattle.model.specs.Step.{step, reply}
+use Rattle.model.specs.Step.{step, answerOf}
 use Rattle.store.specs.Lent.{before, afterwards}
 use Rattle.transcript.specs.declared.Turn.{Turn}
 use Rattle.transcript.specs.declared.Next.{Next}
@@ -60,7 +60,7 @@ callPrinted o σ = record { out = o; store = σ }
 
 -- a call's line is put, and the call is made
 unfoldable pub turn : Call → ℕ → List ℕ → ℕ → Store → CallPrinted
-turn k ordinal output at σ = callPrinted (put output at (answerLine ordinal (reply k σ))) (step k σ)
+turn k ordinal output at σ = callPrinted (put output at (answerLine ordinal (answerOf k σ))) (step k σ)
 
 abbrev pub TakesTurn : Call → ℕ → Slice → ℕ → Slice → Slice → Slice → Slice → Slice → Slice → Sessions → Turn → Type 0
 TakesTurn k ordinal output at values classes readers claimants exclusives logs ss r =
