@@ -2,7 +2,6 @@
 -- a change touches: whether a claim is the session's own, whether an entry is written, whether a written cell is left.
 use Prim.Native.Nat.{ℕ, suc, _+_, _*_}
 use mathlib.Core.Bool.{Bool, true, cond, not}
-use mathlib.Core.Option.{some}
 use mathlib.Core.List.{List}
 use lib.Dec.{eqb}
 use lib.ListN.{getD, set}
