@@ -250,7 +250,7 @@ module _ (h : List Item) (T : Ledger) where
   of-others : (x : Name) (s : ℕ) → (s ≡ x .session → ⊥) → All (λ (i : Item). i .session ≡ x .session → ⊥) (openOf h T s)
   of-others x s d = all-map (λ i e f. d (sym e ∙ f)) (openOf h T s) (of-own s)
 
-  -- a session's transactions are in its own part
+  -- a session's transactions stand among its own items
   beyond : (x : Name) (k : ℕ) → k ≤ x .session → transaction x (openBelow h T k) ≡ []
   unfolding openBelow
   beyond x zero l = unfold transaction in refl

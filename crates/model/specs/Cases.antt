@@ -266,7 +266,7 @@ handed r = let σ = storeWith (sessionOf (r .call)) (r .given) in shown (session
 
 unfoldable pub parts : List Peeked
 parts =
-    -- the store's own word of an entry not written, the log's present word of a written one, in the session's own part; refused, no word
+    -- the store's own word of an entry not written, the log's present word of a written one, in the session's own log; refused, no word
     peeked (logged 2 0 (entry 0 8 4 6 ++ entry 1 5 6 1) 1) (Peek 1 0) (storeWord 0)
     ∷ peeked (logged 2 0 (entry 0 8 4 6 ++ entry 1 5 6 1) 1) (Peek 1 1) (logWord 134)
     ∷ peeked (logged 2 0 (entry 0 8 4 9 ++ entry 1 5 6 6) 1) (Peek 15 0) (logWord 1922)

@@ -92,7 +92,7 @@ module _ {σ : Store} {k : Call} {c : ℕ} {l : Lock} {known : ℕ → Plan} {ne
     pub told-left : (a b : ℕ) → ((j : ℕ) → Passes a (known j)) → Passes b new → Passed a p → Passed 0 p → Passed b p → Left σ k c l known new p
     told-left a b t u m n o = let w = when-left (d .choice) a b t u m n o in record { decided = d; entries = w .0; plan = w .1 }
 
-    -- entry j lies in the part
+    -- entry j lies in the log
     pub in-part : (j : ℕ) → j < 32 → 4 * j + 3 < length (cut (σ .lent .logs) (sessionOf k))
     in-part j h = let w = can-decide σ (sessionOf k) (d .sized) .0 in omega arith
 
