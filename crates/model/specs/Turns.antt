@@ -69,3 +69,8 @@ carried s t σ =
 abbrev pub TakesTurn : Plan → Slice → Slice → Session → Turn → Type 0
 TakesTurn p values log x r =
     leaves (r .answer) (now (values .exit)) (now (log .exit)) (r .session) (r .change) ≡ turnOf p (now (values .entry)) (now (log .entry)) x
+
+-- the same of a function that is handed the log to read, and no values: whatever the values are
+abbrev pub TurnsLog : Plan → Slice → Session → Turn → Type 0
+TurnsLog p log x r =
+    (vs : List ℕ) → leaves (r .answer) vs (now (log .exit)) (r .session) (r .change) ≡ turnOf p vs (now (log .entry)) x
