@@ -1,3 +1,5 @@
+pub mod Caps
 pub mod Ways
 pub mod Agree
-pub mod Caps
+pub mod Turning
+pub mod Choices

@@ -1,7 +1,6 @@
 -- Laws of the tests, and one law for each way through a decision.
 use mathlib.Core.Path.{_≡_, refl, sym, ap, _∙_}
 use mathlib.Core.Bool.{Bool, true, false, cond, not, _&&_}
-use mathlib.Core.Logic.{_⊎_, ⊎-elim}
 use mathlib.Core.Option.{Option, none, some}
 use mathlib.Core.List.{List}
 use Prim.Native.Nat.{ℕ, suc, _+_, _*_, _<_, _≤_}
@@ -19,11 +18,11 @@ use Rattle.model.specs.declared.Session.{Session}
 use Rattle.model.specs.declared.Lock.{Lock}
 use Rattle.model.specs.declared.Answer.the-variants.{Moved, Committed}
 use Rattle.model.specs.declared.Plan.{Plan}
-use Rattle.model.specs.declared.Plan.the-variants.{Refuse, Tell, Enter, Update, EnterUpdate, RollBack, CommitReads, BeginPromotion, Wait, Acquire, Publish, Release, ShowStore, ShowLog}
+use Rattle.model.specs.declared.Plan.the-variants.{Refuse, Start, Tell, Enter, Update, EnterUpdate, RollBack, CommitReads, BeginPromotion, Wait, Acquire, Publish, Release, ShowStore, ShowLog}
 use Rattle.model.proofs.Tools.{test, which, clash, both-l, both-r, and-false}
-use Rattle.log.specs.Slots.{found, slotOf, targetSlot}
+use Rattle.log.specs.Slots.{found, slotOf, targetSlot, isMore}
 use Rattle.log.proofs.Targets.{written-first, slot-some, target-some}
-use Rattle.calls.specs.Pieces.{tested, dueAt, dueOn, advanceOn, handledOn}
+use Rattle.calls.specs.Pieces.{tested, dueAt, dueOn, advanceOn, handledBy}
 use Rattle.calls.specs.declared.Due.the-variants.{Refused, Slot}
 
 -- ---- places that a search answers
@@ -149,9 +148,54 @@ module _ (n : ℕ) (log : List ℕ) (x : Session) where
           unfolding dueOn dueAt
           due-none i = simp (sym e ∙ h, le-leb 2 (x .phase) l, found-nowhere (x .count) k _ t i)
 
-          pub due-some : k < x .count → Slot k ≡ dueOn n log x
+          pub due-some : k < x .count → (more : Bool) → more ≡ isMore log (x .count) (targetSlot log (x .count) (x .next)) → Slot k more ≡ dueOn n log x
           unfolding dueOn dueAt
-          due-some i = simp (sym e ∙ h, le-leb 2 (x .phase) l, found-here (x .count) k _ t i)
+          due-some i more m =
+              let q = found-here (x .count) k _ t i in
+              let w : more ≡ isMore log (x .count) (some k) = rw q at m in
+              simp (sym e ∙ h, le-leb 2 (x .phase) l, q, ← w)
+
+  -- the tests of a call of a running session, in their order
+  pub run-phase : (x .phase ≡ 1 → ⊥) → (r : ℕ) → r ≡ tested (recordFits n log x) false → r ≡ tested (recordFits n log x) (eqb (x .phase) 1)
+  run-phase h r e = rw (ne-eqb (x .phase) 1 h) e
+
+  module _ (h : x .phase ≡ 1) where
+    refused-9 : false ≡ entriesFit n log x → 9 ≡ tested (recordFits n log x) (eqb (x .phase) 1)
+    unfolding tested
+    refused-9 e = rw (sym (record-odd false e refl))
+
+    pub run-many : 32 < x .count → 9 ≡ tested (recordFits n log x) (eqb (x .phase) 1)
+    run-many i = refused-9 (entries-many (omega arith) i)
+
+    module _ (i : x .count ≤ 32) (b : Bool) (e : b ≡ below n (cellAt log) (x .count)) where
+      cells : b ≡ entriesFit n log x
+      cells = entries-cells (omega arith) (omega arith) i b e
+
+      pub run-cells : b ≡ false → 9 ≡ tested (recordFits n log x) (eqb (x .phase) 1)
+      run-cells z = refused-9 (sym z ∙ cells)
+
+      pub run-fits : b ≡ true → 0 ≡ tested (recordFits n log x) (eqb (x .phase) 1)
+      unfolding tested
+      run-fits z = rw (sym (record-early b cells z (omega arith)), eq-eqb (x .phase) 1 h)
+
+  -- begin: in phase 0 the record fits, in any other the number is that of the plan
+  pub begin-starts : x .phase ≡ 0 → Start ≡ guard n log x (eqb (x .phase) 0) Start
+  unfolding guard
+  begin-starts h = rw (sym (record-early true (entries-idle h) refl (omega arith)), eq-eqb (x .phase) 0 h)
+
+  pub begin-refused : (x .phase ≡ 0 → ⊥) → (r : ℕ) → r ≡ tested (recordFits n log x) false → Refuse r ≡ guard n log x (eqb (x .phase) 0) Start
+  unfolding guard tested
+  begin-refused h r e = rw (ne-eqb (x .phase) 0 h, e) (test (recordFits n log x) (λ w. rw w) (λ w. rw w))
+
+  -- abandon, by the number that the tests answered
+  module _ (fit : Bool) (p : Plan) (r : ℕ) (e : r ≡ tested (recordFits n log x) fit) where
+    pub guard-passes : r ≡ 0 → p ≡ guard n log x fit p
+    unfolding guard
+    guard-passes z = let w = passes (recordFits n log x) fit (sym e ∙ z) in rw (w .0, w .1)
+
+    pub guard-refuses : (r ≡ 0 → ⊥) → Refuse r ≡ guard n log x fit p
+    unfolding guard
+    guard-refuses z = turned (recordFits n log x) fit r p e z
 
   -- a running session: r is the number that the tests answered
   module _ (r : ℕ) (e : r ≡ tested (recordFits n log x) (eqb (x .phase) 1)) (z : r ≡ 0) where
@@ -254,24 +298,29 @@ module _ (log : List ℕ) (x : Session) (l : Lock) (c v m : ℕ) where
 
 -- ---- advance
 
-module _ (s c : ℕ) (l : Lock) where
-  pub promote-loses : (l .claimant ≡ 16 → ⊥) → (l .claimant ≡ s → ⊥) → RollBack ≡ promotePlan s c l
-  unfolding promotePlan claimed
-  promote-loses h i = simp (ne-eqb (l .claimant) 16 h, ne-eqb (l .claimant) s i)
+module _ (l : Lock) (s : ℕ) where
+  pub loses-free : l .claimant ≡ 16 → false ≡ (claimed l && not (eqb (l .claimant) s))
+  unfolding claimed
+  loses-free h = simp (eq-eqb (l .claimant) 16 h)
 
-  -- b is whether nobody else reads
-  module _ (h : (l .claimant ≡ s) ⊎ (l .claimant ≡ 16)) (b : Bool) (e : b ≡ eqb (otherReaders s (l .readers)) 0) where
-    unclaimed : (claimed l && not (eqb (l .claimant) s)) ≡ false
-    unfolding claimed
-    unclaimed = ⊎-elim (λ i. simp (eq-eqb (l .claimant) s i, and-false)) (λ i. simp (eq-eqb (l .claimant) 16 i)) h
+  pub loses-to : (l .claimant ≡ 16 → ⊥) → not (eqb (l .claimant) s) ≡ (claimed l && not (eqb (l .claimant) s))
+  unfolding claimed
+  loses-to h = simp (ne-eqb (l .claimant) 16 h)
 
-    pub promote-owns : b ≡ true → Acquire c ≡ promotePlan s c l
+  -- b is whether another is claimant, a whether nobody else reads
+  module _ (c : ℕ) (b : Bool) (e : b ≡ (claimed l && not (eqb (l .claimant) s))) where
+    pub promote-loses : b ≡ true → RollBack ≡ promotePlan s c l
     unfolding promotePlan
-    promote-owns g = simp (unclaimed, sym e ∙ g)
+    promote-loses h = rw (sym e ∙ h)
 
-    pub promote-waits : b ≡ false → Wait c ≡ promotePlan s c l
-    unfolding promotePlan
-    promote-waits g = simp (unclaimed, sym e ∙ g)
+    module _ (h : b ≡ false) (a : Bool) (f : a ≡ eqb (otherReaders s (l .readers)) 0) where
+      pub promote-waits : a ≡ false → Wait c ≡ promotePlan s c l
+      unfolding promotePlan
+      promote-waits g = rw (sym e ∙ h, sym f ∙ g)
+
+      pub promote-acquires : a ≡ true → Acquire c ≡ promotePlan s c l
+      unfolding promotePlan
+      promote-acquires g = rw (sym e ∙ h, sym f ∙ g)
 
 -- d is the cell of entry k
 module _ (log : List ℕ) (x : Session) (l : Lock) (s k d : ℕ) (e : d ≡ cellAt log k) where
@@ -288,20 +337,27 @@ module _ (log : List ℕ) (x : Session) (l : Lock) (s k d : ℕ) (e : d ≡ cell
     unfolding advanceOn
     advance-releases i = simp (ne-eqb (x .phase) 2 h, ne-eqb (x .phase) 3 i, e)
 
--- k is the place that the search above cell c answered, y the record that is handed back
-module _ (log : List ℕ) (x : Session) (c k : ℕ) (t : found (x .count) k ≡ targetSlot log (x .count) (c + 1)) (y : Session) where
-  left : ltb k (x .count) ≡ some? (targetIn log (x .count) (suc c))
-  left = rw add-one at (target-there log (x .count) (c + 1) k t)
+-- y is the record that is handed back
+module _ (x : Session) (c : ℕ) (more : Bool) (y : Session) where
+  pub handle-next : more ≡ true → y ≡ moveTo (x .phase) (c + 1) x → record { session = y; answer = Moved } ≡ handledBy more x c
+  unfolding handledBy
+  handle-next h e = rw (e, add-one, h) (test (eqb (x .phase) 4) (λ p. rw p) (λ p. rw p))
 
-  pub handle-next : k < x .count → y ≡ moveTo (x .phase) (c + 1) x → record { session = y; answer = Moved } ≡ handledOn log x c
-  unfolding handledOn handled releaseAnswer isLeft
-  handle-next h e = rw (e, add-one, ← left, lt-ltb k (x .count) h) (test (eqb (x .phase) 4) (λ p. rw p) (λ p. rw p))
+  module _ (h : more ≡ false) where
+    pub handle-rests : x .phase ≡ 4 → y ≡ idle → record { session = y; answer = Committed } ≡ handledBy more x c
+    unfolding handledBy
+    handle-rests p e = simp (h, eq-eqb (x .phase) 4 p, e)
 
-  module _ (h : x .count ≤ k) where
-    pub handle-rests : x .phase ≡ 4 → y ≡ idle → record { session = y; answer = Committed } ≡ handledOn log x c
-    unfolding handledOn handled releaseAnswer isLeft
-    handle-rests p e = simp (← left, le-ltb k (x .count) h, eq-eqb (x .phase) 4 p, e)
+    pub handle-raises : (x .phase ≡ 4 → ⊥) → y ≡ moveTo (suc (x .phase)) 0 x → record { session = y; answer = Moved } ≡ handledBy more x c
+    unfolding handledBy
+    handle-raises p e = simp (h, ne-eqb (x .phase) 4 p, e)
 
-    pub handle-raises : (x .phase ≡ 4 → ⊥) → y ≡ moveTo (suc (x .phase)) 0 x → record { session = y; answer = Moved } ≡ handledOn log x c
-    unfolding handledOn handled releaseAnswer isLeft
-    handle-raises p e = simp (← left, le-ltb k (x .count) h, ne-eqb (x .phase) 4 p, e)
+-- the record and the answer in the model's terms
+module _ (log : List ℕ) (x : Session) (c : ℕ) (more : Bool) (m : more ≡ isLeft log c x) where
+  pub handled-is : handledBy more x c .session ≡ handled log c x
+  unfolding handledBy handled
+  handled-is = rw m
+
+  pub released-is : x .phase ≡ 4 → handledBy more x c .answer ≡ releaseAnswer log c x
+  unfolding handledBy releaseAnswer
+  released-is e = rw (eq-eqb (x .phase) 4 e, m)

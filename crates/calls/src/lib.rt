@@ -276,14 +276,7 @@ pub fn read_plan(log: &[u32], n: usize, x: Session, cell: u32) -> Plan
 }
 
 // Read: running only. 101 with a known cell's present value; a new cell is entered, or, where it is claimed, the session rolled back, 6.
-pub fn take_read(
-    values: &[u32],
-    log: &mut [u32],
-    x: Session,
-    l: Lock,
-    cell: u32,
-    p: Plan,
-) -> Turn
+pub fn take_read(values: &[u32], log: &mut [u32], x: Session, l: Lock, cell: u32, p: Plan) -> Turn
     requires { ⌜ (length (now log) ≡ 128) × (p ≡ readPlan (length (now values)) (now log) x free cell) ⌝ }
     ensures { λ r. ⌜ TakesTurn (readPlan (length (now (values .entry))) (now (log .entry)) x l cell) values log x r ⌝ }
 {

@@ -1,6 +1,6 @@
--- Each return is a case of the model's `newCell`.
+-- Each return is a case of the model's `newCell`, where nobody is claimant.
 use native.Mathlib.Omega.{arith}
-use borrow.Author.Tests.{lt-ltb, le-ltb, eq-eqb, ne-eqb}
+use borrow.Author.Tests.{lt-ltb, le-ltb}
 use Rattle.model.specs.Plans.{newCell, claimed}
 use Rattle.calls.proofs.new_cell.Statement.{statement}
 use Rattle.calls.proofs.new_cell.Tie as tie
@@ -11,11 +11,9 @@ returns c = simp (le-ltb _ 32 (c .if1 .taken))
 
 returns-2 : tie.Need-returns-2
 unfolding newCell claimed
-returns-2 c = simp (lt-ltb (c .before .before .args .x .count) 32 (omega (arith, c .before .if1 .left)), ne-eqb _ _ (c .if2 .taken))
-
-returns-3 : tie.Need-returns-3
-unfolding newCell claimed
-returns-3 c = simp (lt-ltb (c .before .before .args .x .count) 32 (omega (arith, c .before .if1 .left)), eq-eqb _ _ (c .if2 .left))
+returns-2 c = simp (lt-ltb (c .before .args .x .count) 32 (omega (arith, c .if1 .left)))
 
 pub new-cell-spec : {M : Type 1} → statement M
-new-cell-spec = tie.close (tie.spec returns returns-2 returns-3)
+new-cell-spec =
+    tie.close
+    (tie.spec returns returns-2)
