@@ -3,3 +3,4 @@ pub mod Ways
 pub mod Agree
 pub mod Turning
 pub mod Choices
+pub mod Fitting
