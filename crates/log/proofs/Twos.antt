@@ -30,19 +30,14 @@ module _ (log : List ℕ) where
   lowest-later w v l h =
       omega (arith, lowest-order w v (λ t. omega (arith, v .place t .3)), lowest-order v w (λ t. h))
 
-  -- ---- one entry more
+  -- ---- one entry more, with its cell as it is listed: the cell, or n
 
-  module _ (n from i low high c : ℕ) (e : c ≡ cellAt log i) (w : LowestTwo log n from i low high) where
+  module _ (n from i x low high : ℕ) (e : x ≡ better log from i n) (b : cellAt log i < n) (w : LowestTwo log n from i low high) where
     low-facts : LowestPublishing log n from i low
     low-facts = lowest-r log n i from low (w .low-is)
 
     high-facts : LowestPublishing log n (suc low) i high
     high-facts = lowest-r log n i (suc low) high (w .high-is)
-
-    low-high : low ≤ high
-    low-high =
-        test (ltb high n) (λ t. omega (arith, high-facts .place (ltb-true high n t) .3))
-        (λ t. omega (arith, ltb-false high n t, low-facts .most))
 
     lowest-more : (f : ℕ) {r s : ℕ} → r ≡ lowestPublishing log n f i → s ≡ better log f i r → s ≡ lowestPublishing log n f (i + 1)
     lowest-more f h g = g ∙ ap (better log f i) h ∙ publishing-more log n f i
@@ -50,39 +45,60 @@ module _ (log : List ℕ) where
     two-kept : low ≡ better log from i low → high ≡ better log (suc low) i high → LowestTwo log n from (i + 1) low high
     two-kept a b = record { low-is = lowest-more from (w .low-is) a; high-is = lowest-more (suc low) (w .high-is) b }
 
-    pub two-unwritten : publishes (entryAt log i) ≡ false → LowestTwo log n from (i + 1) low high
-    two-unwritten p = two-kept (lower-unwritten log from i low c e p) (lower-unwritten log (suc low) i high c e p)
-
-    pub two-before : c < from → LowestTwo log n from (i + 1) low high
-    two-before h =
-        two-kept (lower-before log from i low c e h)
-        (test (ltb low c)
+    -- the cell is listed, or the entry is passed over
+    by-entry : {P : Type 0} → (x ≡ cellAt log i → from ≤ cellAt log i → publishes (entryAt log i) ≡ true → P)
+        → (x ≡ n → LowestTwo log n from (i + 1) low high → P) → P
+    by-entry f g =
+        let c = cellAt log i in
+        test (ltb c from)
         (λ t.
-        let u = ltb-true low c t in
-        lower-above log (suc low) i high c e
-        (test (ltb low n) (λ v. absurd (omega (arith, low-facts .place (ltb-true low n v) .3))) (λ v. omega (arith, ltb-false low n v, high-facts .most))))
-        (λ t. lower-before log (suc low) i high c e (omega (arith, ltb-false low c t))))
+        let h = ltb-true c from t in
+        let u : c < suc low =
+        test (ltb low n) (λ v. omega (arith, low-facts .place (ltb-true low n v) .3)) (λ v. omega (arith, ltb-false low n v)) in
+        g (e ∙ sym (lower-before log from i n c refl h))
+        (two-kept (lower-before log from i low c refl h) (lower-before log (suc low) i high c refl u)))
+        (λ t.
+        let h = ltb-false c from t in
+        test (publishes (entryAt log i))
+        (λ p. f (e ∙ sym (lower-here log from i n c refl h b p)) h p)
+        (λ p.
+        g (e ∙ sym (lower-unwritten log from i n c refl p))
+        (two-kept (lower-unwritten log from i low c refl p) (lower-unwritten log (suc low) i high c refl p))))
 
-    pub two-above : high ≤ c → LowestTwo log n from (i + 1) low high
-    two-above h = two-kept (lower-above log from i low c e (omega (arith, low-high))) (lower-above log (suc low) i high c e h)
+    pub two-above : high ≤ x → LowestTwo log n from (i + 1) low high
+    two-above h =
+        by-entry
+        (λ q f p.
+        let low-high : low ≤ high =
+        test (ltb high n) (λ t. omega (arith, high-facts .place (ltb-true high n t) .3))
+        (λ t. omega (arith, ltb-false high n t, low-facts .most)) in
+        two-kept (lower-above log from i low x q (omega arith)) (lower-above log (suc low) i high x q h))
+        (λ q k. k)
 
-    pub two-again : low ≤ c → c ≤ low → LowestTwo log n from (i + 1) low high
-    two-again a b = two-kept (lower-above log from i low c e a) (lower-before log (suc low) i high c e (omega arith))
+    pub two-lower : x < low → LowestTwo log n from (i + 1) x low
+    two-lower h =
+        by-entry
+        (λ q f p.
+        let raised = lowest-later low-facts (lowest-publishing log n (suc x) i) (omega arith) (omega arith) in
+        record {
+          low-is = lowest-more from (w .low-is) (lower-here log from i low x q (omega arith) h p);
+          high-is = lowest-more (suc x) raised (lower-before log (suc x) i low x q (omega arith));
+        })
+        (λ q k. absurd (omega (arith, low-facts .most)))
 
-    module _ (p : publishes (entryAt log i) ≡ true) where
-      pub two-lower : from ≤ c → c < low → LowestTwo log n from (i + 1) c low
-      two-lower f h =
-          let raised = lowest-later low-facts (lowest-publishing log n (suc c) i) (omega arith) (omega arith) in
-          record {
-            low-is = lowest-more from (w .low-is) (lower-here log from i low c e f h p);
-            high-is = lowest-more (suc c) raised (lower-before log (suc c) i low c e (omega arith));
-          }
+    pub two-between : low < x → x < high → LowestTwo log n from (i + 1) low x
+    two-between a h =
+        by-entry
+        (λ q f p.
+        record {
+          low-is = lowest-more from (w .low-is) (lower-above log from i low x q (omega arith));
+          high-is = lowest-more (suc low) (w .high-is) (lower-here log (suc low) i high x q (omega arith) h p);
+        })
+        (λ q k. absurd (omega (arith, high-facts .most)))
 
-      pub two-between : low < c → c < high → LowestTwo log n from (i + 1) low c
-      two-between a b = record {
-        low-is = lowest-more from (w .low-is) (lower-above log from i low c e (omega arith));
-        high-is = lowest-more (suc low) (w .high-is) (lower-here log (suc low) i high c e (omega arith) b p);
-      }
+    pub two-again : low ≤ x → x ≤ low → LowestTwo log n from (i + 1) low high
+    two-again a h =
+        by-entry (λ q f p. two-kept (lower-above log from i low x q a) (lower-before log (suc low) i high x q (omega arith))) (λ q k. k)
 
   -- ---- the entry handled, and whether another is left
 

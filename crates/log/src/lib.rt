@@ -132,20 +132,30 @@ struct Two {
     high: u32,
 }
 
-// The lowest two of the cells held so far and entry i's, where that is not below from and publishes.
-fn lower_two(log: &[u32], i: usize, from: u32, held: Two) -> Two
-    requires { ⌜ 4 * i + 3 < length (now log) ⌝ }
-    ensures { λ r. ⌜ ((n : ℕ) → LowestTwo (now (log .entry)) n from i (held .low) (held .high) → LowestTwo (now (log .entry)) n from (i + 1) (r .low) (r .high)) ⌝ }
+// Entry i's cell, where it is not below from and publishes; n if not.
+fn listed(log: &[u32], i: usize, n: u32, from: u32) -> u32
+    requires { ⌜ (4 * i + 3 < length (now log)) × (cellAt (now log) i < n) ⌝ }
+    ensures { λ r. ⌜ r ≡ better (now (log .entry)) from i n ⌝ }
 {
     let cell = cell_at(log, i);
+    let written = publishes(log, i);
+    if cell < from {
+        return n;
+    }
+    if written {
+        return cell;
+    }
+    n
+}
+
+// The lowest two of the cells held so far and entry i's, where that is not below from and publishes.
+fn lower_two(log: &[u32], i: usize, n: u32, from: u32, held: Two) -> Two
+    requires { ⌜ (4 * i + 3 < length (now log)) × (cellAt (now log) i < n) × LowestTwo (now log) n from i (held .low) (held .high) ⌝ }
+    ensures { λ r. ⌜ LowestTwo (now (log .entry)) n from (i + 1) (r .low) (r .high) ⌝ }
+{
+    let cell = listed(log, i, n, from);
     let low = held.low;
     let high = held.high;
-    if !publishes(log, i) {
-        return held;
-    }
-    if cell < from {
-        return held;
-    }
     if high <= cell {
         return held;
     }
@@ -164,15 +174,15 @@ fn lower_two(log: &[u32], i: usize, from: u32, held: Two) -> Two
     held
 }
 
-// The lowest two cells not below from and below n of the first count entries that publish, each judged by itself; n for each that there is not.
+// The lowest two cells not below from of the first count entries that publish, each judged by itself; n for each that there is not.
 fn lowest_two(log: &[u32], count: usize, n: u32, from: u32) -> Two
-    requires { ⌜ 4 * count ≤ length (now log) ⌝ }
+    requires { ⌜ (4 * count ≤ length (now log)) × (below n (cellAt (now log)) count ≡ true) ⌝ }
     ensures { λ r. ⌜ LowestTwo (now (log .entry)) n from count (r .low) (r .high) ⌝ }
 {
     let mut i = 0;
     let mut held = Two { low: n, high: n };
     while i < count {
-        held = lower_two(log, i, from, held);
+        held = lower_two(log, i, n, from, held);
         i += 1;
     }
     held
