@@ -1,5 +1,5 @@
 -- There is no target, or there is one; then the search above its cell says whether another is left.
-use mathlib.Core.Path.{refl, _≡_}
+use mathlib.Core.Path.{refl}
 use native.Mathlib.Numerals.{add-one}
 use native.Mathlib.Omega.{arith}
 use Rattle.model.proofs.Laws.{below-is}
