@@ -11,9 +11,8 @@ work=$PWD/target/store-tests
 
 # The proved calls in the place of the plain C store.
 calls_for_c() {
-    rt staticlib exports
     mkdir -p target/c/proved-store
-    gcc -O3 $c_flags -fPIC -shared -Itools/src -Iinclude -Ibenches/c tests/c/proved_store.c tests/plain_fields.c target/staticlib/libexports.a \
+    gcc -O3 $c_flags -fPIC -shared -Itools/src -Iinclude -Ibenches/c tests/c/proved_store.c tests/plain_fields.c "$(bash scripts/archive)" \
         -o target/c/proved-store/libplain.so
 }
 
@@ -26,7 +25,7 @@ example() {
 corpus() {
     local file count=0
     for file in tests/fuzz/corpus/*; do
-        target/bin/replay <"$file" >"$work/corpus.proved" && "$replay_peer" <"$file" >"$work/corpus.peer" && cmp "$work/corpus.proved" "$work/corpus.peer" ||
+        target/bin/replay <"$file" >"$work/corpus.proved" && "$replay_reference" <"$file" >"$work/corpus.reference" && cmp "$work/corpus.proved" "$work/corpus.reference" ||
             { echo "$file differs"; return 1; }
         count=$((count + 1))
     done

@@ -1,4 +1,4 @@
-/* Compares the exported reader and writer with the reference of reference.h: all tags, lengths and truncations, then random buffers.
+/* Compares the exported reader and writer with those of expected_fields.h: all tags, lengths and truncations, then random buffers.
  *
  *   fields SEED ROUNDS
  *
@@ -7,7 +7,7 @@
 #include <stdio.h>
 #include <stdlib.h>
 
-#include "reference.h"
+#include "expected_fields.h"
 #include "rukkanei.h"
 
 static uint64_t state;
@@ -59,7 +59,7 @@ static unsigned compare_read(const uint8_t *bytes, size_t size, size_t place, si
     struct numbers mine = before, theirs = before;
     size_t my_length = length_before, their_length = length_before;
     uint8_t *copy = malloc(size + 1);
-    unsigned wanted = reference_read(bytes, size, place, &mine, &my_length);
+    unsigned wanted = expected_read(bytes, size, place, &mine, &my_length);
     unsigned answer;
     memcpy(copy, bytes, size);
     answer = rukkanei_field_read(bytes, size, place, &theirs.tag, &theirs.session, &theirs.class_byte, &theirs.cell, &theirs.value,
@@ -82,7 +82,7 @@ static void compare_write(const uint8_t *filled, size_t size, struct numbers n) 
     unsigned wanted, answer;
     memcpy(mine, filled, size);
     memcpy(theirs, filled, size);
-    wanted = reference_write(mine, size, n, &my_length);
+    wanted = expected_write(mine, size, n, &my_length);
     answer = rukkanei_field_write(theirs, size, n.tag, n.session, n.class_byte, n.cell, n.value, &their_length);
     check(answer == wanted, "writer's answer", filled, size, n.tag);
     check(my_length == their_length, "writer's length", filled, size, n.tag);
@@ -209,7 +209,7 @@ static void random_buffers(unsigned long rounds) {
                 struct numbers n = any_numbers();
                 if (below(8) != 0)
                     n.tag = (uint8_t)below(9);
-                reference_write(made + size, 64 - size, n, &length);
+                expected_write(made + size, 64 - size, n, &length);
                 size += length;
             }
             if (size > 0 && below(2) == 0)
