@@ -21,7 +21,6 @@ archive=$(bash scripts/archive)
 check "the comparison is built" gcc $strict -Iinclude -o "$work/fields" tests/c/fields.c "$archive"
 
 # Each group of the comparison is a test of its own.
-echo "seed $seed"
 "$work/fields" "$seed" 200000 >"$work/fields.txt"
 status=$?
 cat "$work/fields.txt"

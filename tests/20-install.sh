@@ -70,7 +70,7 @@ check "three files, and the header as it stands" files
 check "the archive has the eleven functions that the header declares, and no other" exports
 check "the archive needs nothing but memcpy and memset" needs
 check "the header stands alone in C99" alone gcc -std=c99
-check "the header stands alone in C++" alone g++ -x c++ -std=c++98 -Wno-long-long
+check "the header stands alone in C++" alone g++ -x c++ -std=c++98
 check "a C++ program" from_cpp
 check "the firmware example is built against the copy" firmware
 check "the firmware example prints what is expected" same_output
