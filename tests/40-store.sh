@@ -33,6 +33,16 @@ corpus() {
     [ "$count" -ge 100 ]
 }
 
+# The lists of the benchmark: the same answers and buffers on the proved store and on plain C.
+benchmark() {
+    bash benches/build || return 1
+    for list in known reads write commit update; do
+        for entries in 2 32; do
+            target/bench/store_bench $list $entries 1024 16 20 || return 1
+        done
+    done
+}
+
 check "the second program is built" bash -c '. tests/fuzz/build.sh'
 . tests/fuzz/build.sh
 check "the replay is built" test -x target/bin/replay
@@ -41,6 +51,7 @@ for name in listing skew mixed; do
 done
 check "the calls for C are built" calls_for_c
 check "the proved calls on arbitrary buffers" beside "proved calls for C" env LD_LIBRARY_PATH="$PWD/target/c/proved-store" "$compare" calls --seed "$seed" --count 1000000
+check "the proved calls and plain C on the benchmark's lists" benchmark
 check "the replay on the fuzzer's corpus" shown corpus
 check "the proved replay on random files" shown "$compare" replays --program "$PWD/target/bin/replay" --mode spawn --seed "$seed" --count "$replays"
 

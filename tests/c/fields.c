@@ -139,6 +139,15 @@ static void constants(void) {
     check(RUKKANEI_TAG_ADVANCE == 5 && RUKKANEI_TAG_ABANDON == 6 && RUKKANEI_TAG_STARTING_CELL == 8, "tags", NULL, 0, 0);
     check(RUKKANEI_DONE == 100 && RUKKANEI_END_OF_FIELDS == 106 && RUKKANEI_CUT_SHORT == 10, "answers", NULL, 0, 0);
     check(RUKKANEI_UNKNOWN_TAG == 11 && RUKKANEI_WRONG_LENGTH == 12 && RUKKANEI_SHORT_TARGET == 13, "answers", NULL, 0, 0);
+    check(RUKKANEI_VALUE == 101 && RUKKANEI_SEALED == 102 && RUKKANEI_MOVED == 103 && RUKKANEI_WAITING == 104 && RUKKANEI_COMMITTED == 105,
+          "answers of the calls", NULL, 0, 0);
+    check(RUKKANEI_NO_SUCH_SESSION == 1 && RUKKANEI_WRONG_PHASE == 2 && RUKKANEI_NO_SUCH_CELL == 3 && RUKKANEI_ABOVE_CAP == 4 &&
+              RUKKANEI_LOG_FULL == 5 && RUKKANEI_CONFLICT == 6 && RUKKANEI_WRONG_LENGTHS == 7 && RUKKANEI_NO_SUCH_CLASS == 8 &&
+              RUKKANEI_DAMAGED_RECORD == 9 && RUKKANEI_NOT_IN_LOG == 14,
+          "refusals of the calls", NULL, 0, 0);
+    check(RUKKANEI_SESSIONS == 16 && RUKKANEI_CELLS_MAX == 1024 && RUKKANEI_LOG_WORDS == 2048, "sizes", NULL, 0, 0);
+    check(sizeof(rukkanei_session) == 4 && sizeof(rukkanei_sessions) == 64 && sizeof(rukkanei_reply) == 12 && sizeof(rukkanei_set_up_reply) == 72,
+          "sizes of the structs", NULL, 0, 0);
     for (unsigned tag = 0; tag < 256; tag++)
         check(body_of(tag) == NULL || 3 + strlen(body_of(tag)) <= RUKKANEI_FIELD_MAX, "longest field", NULL, 0, tag);
 }
