@@ -1,7 +1,7 @@
 //! The replay: the listing's text, set-ups that are refused, fields that end the calls, and the limits of the input.
 
-use peer::field::{append, Field};
-use peer::replay::replay;
+use reference::field::{append, Field};
+use reference::replay::replay;
 
 fn cell(class: u8, value: u32) -> Field {
     Field { tag: 8, class, value, ..Field::default() }

@@ -4,8 +4,8 @@
 mod common;
 
 use common::*;
-use peer::boundary::located;
-use peer::store::{Buffers, Call, Part, Session};
+use reference::boundary::located;
+use reference::store::{Buffers, Call, Part, Session};
 
 /// Session 3 in this phase with these entries (cell, snapshot value, current value, dirty) in a store of three cells.
 fn entered(phase: u8, entries: &[[u32; 4]]) -> Buffers {

@@ -3,7 +3,7 @@
 mod common;
 
 use common::*;
-use peer::store::{Answer, Buffers, Call};
+use reference::store::{Answer, Buffers, Call};
 
 /// The listing's first nine calls with their answers.
 fn up_to_line_nine() -> Vec<(Call, Answer)> {

@@ -1,11 +1,11 @@
 //! Replays beside each other: a program and this library, or two programs.
 
 use crate::{close, stop, Run};
-use peer::boundary::{Batched, Peer, Replayer, Spawned};
-use peer::generate;
-use peer::options::Options;
-use peer::random::Random;
-use peer::tally::Tally;
+use reference::boundary::{Batched, Reference, Replayer, Spawned};
+use reference::generate;
+use reference::options::Options;
+use reference::random::Random;
+use reference::tally::Tally;
 use std::process::exit;
 
 /// A program's replay beside this library's, or beside another program's.
@@ -14,7 +14,7 @@ pub fn compare(run: &Run, options: &Options) {
     let path = options.text("program").unwrap_or_else(|| stop("--program is needed"));
     let mut left: Box<dyn Replayer> = match options.text("against") {
         Some(against) => replayer(against, mode),
-        None => Box::new(Peer),
+        None => Box::new(Reference),
     };
     let mut right = replayer(path, mode);
     println!("{} beside {}", left.name(), right.name());
@@ -36,7 +36,7 @@ pub fn answers(run: &Run) {
     let mut tally = Tally::default();
     for case in run.cases() {
         let input = generate::input(&Random::for_case(run.seed, case));
-        tally.add(&input, &output(&mut Peer, &input));
+        tally.add(&input, &output(&mut Reference, &input));
     }
     print!("{}", tally);
     close(run, tally.missing());

@@ -5,7 +5,7 @@ set -uo pipefail
 cd "$(dirname "$0")/.."
 
 seed=${SEED:-1}
-work=$PWD/target/peer-tests
+work=$PWD/target/reference-tests
 . tests/check.sh
 
 # refused STATUS WORDS COMMAND...: the command ends with this status, writes nothing, and says these words on standard error.
@@ -29,8 +29,7 @@ decoded() {
 # The proved field functions in the place of the plain ones.
 proved_fields() {
     mkdir -p target/c/proved
-    [ -e target/staticlib/libfield.a ] || rt staticlib field
-    gcc -O3 $c_flags -fPIC -shared -Itools/src -Iinclude benches/c/plain_store.c tools/src/proved_fields.c target/staticlib/libfield.a \
+    gcc -O3 $c_flags -fPIC -shared -Itools/src -Iinclude benches/c/plain_store.c tools/src/proved_fields.c "$(bash scripts/archive)" \
         -o target/c/proved/libplain.so
 }
 
@@ -80,7 +79,7 @@ build
 set +e
 
 echo "-- unit tests"
-cargo test --quiet --offline --release --features plain --manifest-path peer/Cargo.toml >"$work/unit" 2>&1
+cargo test --quiet --offline --release --features plain --manifest-path reference/Cargo.toml >"$work/unit" 2>&1
 unit_status=$?
 unit_passed=$(sed -n 's/^test result: .* \([0-9]*\) passed; .*/\1/p' "$work/unit" | awk '{ sum += $1 } END { print sum + 0 }')
 unit_failed=$(sed -n 's/^test result: .* \([0-9]*\) failed; .*/\1/p' "$work/unit" | awk '{ sum += $1 } END { print sum + 0 }')
@@ -93,7 +92,7 @@ add "$unit_passed" "$unit_failed"
 
 echo "-- examples"
 for name in listing skew mixed; do
-    check "$name on the second program" example "$name" "$replay_peer"
+    check "$name on the second program" example "$name" "$replay_reference"
     check "$name on the plain C replay" example "$name" "$plain_replay"
     check "$name to fields and back" decoded "$name"
 done
@@ -122,7 +121,7 @@ check "a missing answer is refused" refused 1 "line 13 is not the answer of call
 
 echo "-- comparisons, seed $seed"
 check "replays, in batch" shown "$compare" replays --program "$plain_replay" --mode batch --seed "$seed" --count 40000
-check "replays, each in a process" shown "$compare" replays --program "$plain_replay" --against "$replay_peer" --mode spawn \
+check "replays, each in a process" shown "$compare" replays --program "$plain_replay" --against "$replay_reference" --mode spawn \
     --seed "$((seed + 1))" --count 1500
 check "calls on arbitrary buffers" beside "plain C store" "$compare" calls --seed "$seed" --count 1000000
 check "fields" beside "plain C fields" "$compare" fields --seed "$seed" --count 1000000

@@ -1,7 +1,7 @@
 //! What the tests share: a store that is set up, and short names for calls.
 #![allow(dead_code)]
 
-use peer::store::{Answer, Buffers, Call};
+use reference::store::{Answer, Buffers, Call};
 
 /// A store of these classes and values, set up.
 pub fn store(cells: &[(u8, u32)]) -> Buffers {

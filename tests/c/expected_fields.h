@@ -1,7 +1,7 @@
 /* A second reader and writer of fields, made from document 01 alone: it shares no number, table or function with the proved code or with
  * include/rukkanei.h. With BROKEN set to 1 .. 6 it has one fault each, so that the comparison can be seen to fail. */
-#ifndef REFERENCE_H
-#define REFERENCE_H
+#ifndef EXPECTED_FIELDS_H
+#define EXPECTED_FIELDS_H
 
 #include <stddef.h>
 #include <stdint.h>
@@ -36,7 +36,7 @@ static const char *body_of(unsigned tag) {
     }
 }
 
-static unsigned reference_read(const uint8_t *bytes, size_t size, size_t place, struct numbers *out, size_t *length) {
+static unsigned expected_read(const uint8_t *bytes, size_t size, size_t place, struct numbers *out, size_t *length) {
     const char *body;
     size_t left = place < size ? size - place : 0;
     struct numbers n = {0, 0, 0, 0, 0};
@@ -77,7 +77,7 @@ static unsigned reference_read(const uint8_t *bytes, size_t size, size_t place, 
     return 100;
 }
 
-static unsigned reference_write(uint8_t *target, size_t size, struct numbers n, size_t *length) {
+static unsigned expected_write(uint8_t *target, size_t size, struct numbers n, size_t *length) {
     const char *body = body_of(n.tag);
     *length = 0;
     if (BROKEN == 5 && size < 4)

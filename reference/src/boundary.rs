@@ -27,11 +27,11 @@ pub trait Fields {
 }
 
 /// This library's own reading of document 01.
-pub struct Peer;
+pub struct Reference;
 
-impl Replayer for Peer {
+impl Replayer for Reference {
     fn name(&self) -> String {
-        "peer".to_string()
+        "reference".to_string()
     }
 
     fn replay(&mut self, input: &[u8]) -> io::Result<Vec<u8>> {
@@ -39,9 +39,9 @@ impl Replayer for Peer {
     }
 }
 
-impl Store for Peer {
+impl Store for Reference {
     fn name(&self) -> String {
-        "peer".to_string()
+        "reference".to_string()
     }
 
     fn call(&mut self, buffers: &mut Buffers, call: Call) -> (Answer, Part) {
@@ -54,9 +54,9 @@ impl Store for Peer {
     }
 }
 
-impl Fields for Peer {
+impl Fields for Reference {
     fn name(&self) -> String {
-        "peer".to_string()
+        "reference".to_string()
     }
 
     fn read(&mut self, bytes: &[u8], place: usize) -> Reading {

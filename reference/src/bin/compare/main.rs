@@ -4,7 +4,7 @@
 mod calls;
 mod replays;
 
-use peer::options::Options;
+use reference::options::Options;
 use std::process::exit;
 
 const USAGE: &str = "compare replays --program PATH [--mode spawn|batch] [--against PATH] [--seed N] [--count N] [--from CASE]

@@ -1,6 +1,6 @@
 //! The field reader and writer: each tag, each refusal and the order of the refusals.
 
-use peer::field::{read_field, write_field, Field, Reading};
+use reference::field::{read_field, write_field, Field, Reading};
 
 fn reading(bytes: &[u8], place: usize) -> Reading {
     read_field(bytes, place)

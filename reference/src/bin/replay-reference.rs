@@ -1,7 +1,7 @@
 //! The replay program over this library: standard input to standard output; with `--batch`, one framed input after the other.
 
-use peer::boundary::{read_frame, write_frame};
-use peer::replay::{replay, MAX_INPUT};
+use reference::boundary::{read_frame, write_frame};
+use reference::replay::{replay, MAX_INPUT};
 use std::io::{self, Read, Write};
 
 fn main() -> io::Result<()> {

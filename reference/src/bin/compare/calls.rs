@@ -1,17 +1,17 @@
 //! Single calls on arbitrary buffers, and single fields on arbitrary bytes, beside the libraries that are linked in.
 
 use crate::{close, stop, Run};
-use peer::arbitrary::{self, Numbers, REQUIRED, REQUIRED_FIELDS};
-use peer::boundary::{Fields, Peer, Store};
-use peer::random::Random;
-use peer::store::{Answer, Buffers, Call, Part};
+use reference::arbitrary::{self, Numbers, REQUIRED, REQUIRED_FIELDS};
+use reference::boundary::{Fields, Reference, Store};
+use reference::random::Random;
+use reference::store::{Answer, Buffers, Call, Part};
 use std::process::exit;
 
 /// The stores that are linked in.
 fn linked_stores() -> Vec<Box<dyn Store>> {
     vec![
         #[cfg(feature = "plain")]
-        Box::new(peer::plain::Plain),
+        Box::new(reference::plain::Plain),
     ]
 }
 
@@ -19,7 +19,7 @@ fn linked_stores() -> Vec<Box<dyn Store>> {
 fn linked_fields() -> Vec<Box<dyn Fields>> {
     vec![
         #[cfg(feature = "plain")]
-        Box::new(peer::plain::Plain),
+        Box::new(reference::plain::Plain),
     ]
 }
 
@@ -45,7 +45,7 @@ pub fn compare_calls(run: &Run) {
         case += 1;
     }
     for store in &stores {
-        println!("peer beside {}: {} calls on {} sets of buffers", store.name(), made, case - run.from);
+        println!("reference beside {}: {} calls on {} sets of buffers", store.name(), made, case - run.from);
     }
     print!("{}", numbers);
     close(run, numbers.missing(&REQUIRED));
@@ -54,14 +54,14 @@ pub fn compare_calls(run: &Run) {
 /// One call on every store: the answer, the part and every lent word and record afterwards. Returns the answer's number.
 fn compare_call(stores: &mut [Box<dyn Store>], case: u64, buffers: &mut Buffers, call: Call) -> u32 {
     let before = buffers.clone();
-    let expected = Peer.call(buffers, call);
+    let expected = Reference.call(buffers, call);
     for store in stores {
         let mut other = before.clone();
         let got = store.call(&mut other, call);
         if got != expected || other != *buffers {
             println!("case {} differs on {:?} with {} cells", case, call, before.values.len());
             show("before", None, &before, call);
-            show("peer", Some(expected), buffers, call);
+            show("reference", Some(expected), buffers, call);
             show(&store.name(), Some(got), &other, call);
             exit(1);
         }
@@ -103,7 +103,7 @@ pub fn compare_fields(run: &Run) {
         numbers.add("write field", compare_write(&mut others, case, &random));
     }
     for other in &others {
-        println!("peer beside {}", other.name());
+        println!("reference beside {}", other.name());
     }
     print!("{}", numbers);
     close(run, numbers.missing(&REQUIRED_FIELDS));
@@ -111,12 +111,12 @@ pub fn compare_fields(run: &Run) {
 
 fn compare_read(others: &mut [Box<dyn Fields>], case: u64, random: &Random) -> u32 {
     let (bytes, place) = arbitrary::bytes(random);
-    let expected = Peer.read(&bytes, place);
+    let expected = Reference.read(&bytes, place);
     for other in others {
         let got = other.read(&bytes, place);
         if got != expected {
             println!("case {} differs: reading {:02x?} at {}", case, bytes, place);
-            println!("peer: {:?}\n{}: {:?}", expected, other.name(), got);
+            println!("reference: {:?}\n{}: {:?}", expected, other.name(), got);
             exit(1);
         }
     }
@@ -126,13 +126,13 @@ fn compare_read(others: &mut [Box<dyn Fields>], case: u64, random: &Random) -> u
 fn compare_write(others: &mut [Box<dyn Fields>], case: u64, random: &Random) -> u32 {
     let (field, target) = arbitrary::field(random);
     let mut written = target.clone();
-    let expected = Peer.write(&mut written, &field);
+    let expected = Reference.write(&mut written, &field);
     for other in others {
         let mut after = target.clone();
         let got = other.write(&mut after, &field);
         if got != expected || after != written {
             println!("case {} differs: writing {:?} over {:02x?}", case, field, target);
-            println!("peer: {:?} {:02x?}\n{}: {:?} {:02x?}", expected, written, other.name(), got, after);
+            println!("reference: {:?} {:02x?}\n{}: {:?} {:02x?}", expected, written, other.name(), got, after);
             exit(1);
         }
     }
