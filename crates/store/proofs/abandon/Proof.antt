@@ -1,21 +1,88 @@
--- `store::abandon` meets its contract: `abandon_own` is the call, and the record that it leaves is put in its place.
+-- `store::abandon` meets its contract: 7 and 1 are the model's; past them the turn is, and the session withdraws.
+use mathlib.Core.Path.{_≡_, refl, sym, ap, _∙_}
+use Rattle.model.specs.Buffers.{Buffers, lockAt}
+use Rattle.model.specs.Plans.{plan}
+use Rattle.model.specs.declared.Call.the-variants.{Abandon}
+use Rattle.locks.specs.Changes.{ChangeFits}
+use lib.ListN.{length}
+use Rattle.calls.proofs.Lengths.{Admitted, admitted, refused}
+use Rattle.calls.proofs.Logs.{cut-long, log-start, log-stop, log-bytes, log-some}
+use Rattle.calls.proofs.Logs.{cut}
+use Rattle.calls.proofs.Whole.{can-change, takes-same}
+use Rattle.store.proofs.Forms.{log-inside, withdraw-alone, change-is, abandon-withdraws, fits-cells, even}
+use Rattle.store.specs.Lent.{buffersOf}
 use borrow.Author.Needs.{needs}
-use mathlib.Core.Path.{refl}
-use Rattle.model.specs.Buffers.{sessionAt, withSession}
-use Rattle.store.proofs.OneRecord.{place-low, place-bytes}
 use Rattle.store.proofs.abandon.Statement.{statement}
 use Rattle.store.proofs.abandon.Tie as tie
 
-abandon-own-requires : tie.Need-abandon-own-requires
-unfolding sessionAt
-abandon-own-requires c κs = refl
+-- the buffers at the entry, and what is known past 7 and 1
+abbrev lent : tie.Start → Buffers
+lent c = buffersOf (c .args .values .now) (c .args .classes .now) (c .args .readers .now) (c .args .claimants .now) (c .args .exclusives .now) (c .args .logs .now)
+
+fits : (c : tie.Else1) → Admitted (lent (c .before .before .before .before .before .before .before .before)) (c .before .before .before .before .before .before .before .before .args .session)
+fits c = admitted (lent (c .before .before .before .before .before .before .before .before)) _ _ (c .before .admit .ensures) (c .if1 .left)
+
+-- the change can be carried out
+changes : (c : tie.After-take-abandon) → ChangeFits (c .take-abandon .result .change) (c .before .before .before .before .before .before .before .before .before .before .args .session) (cut (c .before .before .before .before .before .before .before .before .before .before .args .logs .now) (c .before .before .before .before .before .before .before .before .before .before .args .session)) (c .before .before .before .before .before .before .before .before .before .before .args .x .count) (length (c .before .before .before .before .before .before .before .before .before .before .args .values .now))
+unfolding plan
+changes c = can-change (Abandon _) (lent (c .before .before .before .before .before .before .before .before .before .before)) _ _ refl (fits (c .before .before)) _ refl _ _ _ _ _ (c .take-abandon .ensures (c .before .before .before .before .before .before .before .before .before .before .args .values .now))
+
+admit-requires : tie.Need-admit-requires
+admit-requires c κs = tt
 
 returns : tie.Need-returns
-unfolding withSession
-returns c = c .before .before .before .before .before .before .before .abandon-own .ensures
+returns c = refused (lent (c .before .before .before .before .before .before .before .before)) _ _ (c .before .admit .ensures) (Abandon _) refl (c .if1 .taken) _
+
+mul-a : tie.Need-mul-a
+mul-a c = log-start _ (fits (c) .low)
+
+add-e : tie.Need-add-e
+add-e c = log-stop _ (fits (c) .low)
+
+mul-take-abandon : tie.Need-mul-take-abandon
+mul-take-abandon c = log-bytes _ (fits (c) .low)
+
+sub-take-abandon : tie.Need-sub-take-abandon
+sub-take-abandon c = log-some _
+
+part-take-abandon-start : tie.Need-part-take-abandon-start
+part-take-abandon-start c = log-some _
+
+part-take-abandon-end : tie.Need-part-take-abandon-end
+part-take-abandon-end c = log-inside _ _ (fits (c))
+
+take-abandon-requires : tie.Need-take-abandon-requires
+take-abandon-requires c κs = (cut-long _ _ (fits (c .before) .lengths .logs) (fits (c .before) .low), fits (c .before) .lengths .few)
+
+mul-change-withdraw : tie.Need-mul-change-withdraw
+mul-change-withdraw c = log-bytes _ (fits (c .before .before .before) .low)
+
+sub-change-withdraw : tie.Need-sub-change-withdraw
+sub-change-withdraw c = log-some _
+
+part-change-withdraw-start : tie.Need-part-change-withdraw-start
+part-change-withdraw-start c = log-some _
+
+part-change-withdraw-end : tie.Need-part-change-withdraw-end
+part-change-withdraw-end c = log-inside _ _ (fits (c .before .before .before))
+
+change-withdraw-requires : tie.Need-change-withdraw-requires
+change-withdraw-requires c κs = let e = even _ _ (fits (c .before .before .before .before .before .before .before)) in (fits-cells _ _ (fits (c .before .before .before .before .before .before .before)) _ _ _ (changes (c .before .before .before .before .before)), e .0, e .1)
+
+same-length : tie.Need-same-length
+same-length c = c .before .before .before .before .before .before .before .change-withdraw .kept .1 .1 .1 .0
+
+same-length-2 : tie.Need-same-length-2
+same-length-2 c = c .before .before .before .before .before .before .before .change-withdraw .kept .1 .1 .1 .1 .0
+
+same-length-3 : tie.Need-same-length-3
+same-length-3 c = c .before .before .before .before .before .before .before .change-withdraw .kept .1 .1 .1 .1 .1 .0
+
+returns-2 : tie.Need-returns-2
+unfolding plan
+returns-2 c = let t = c .before .before .before .before .before .before .before .before .before .before .before .before .before .take-abandon .ensures (c .before .before .before .before .before .before .before .before .before .before .before .before .before .before .before .before .before .before .before .before .before .before .before .args .values .now) in takes-same (Abandon _) (lent (c .before .before .before .before .before .before .before .before .before .before .before .before .before .before .before .before .before .before .before .before .before .before .before)) _ _ refl (fits (c .before .before .before .before .before .before .before .before .before .before .before .before .before .before .before)) _ refl _ _ _ _ _ t refl _ (withdraw-alone _ _ _ _ _ (rw (change-is _ _ _ _ _ _ _ _ _ t) (abandon-withdraws _ _ _ _ _)) _ (c .before .before .before .before .before .before .before .change-withdraw .ensures))
 
 pub abandon-spec : {M : Type 1} → statement M
 abandon-spec =
     tie.close
-    (tie.spec
-    (λ c. search needs) (λ c. place-bytes _) (λ c. place-low _) abandon-own-requires (λ c. place-bytes _) (λ c. place-low _) (λ c. c .before .before .before .before .before .before .before .abandon-own .kept .1 .1 .1 .1 .0) (λ c. c .before .before .before .before .before .before .before .abandon-own .kept .1 .1 .1 .1 .1 .0) (λ c. c .before .before .before .before .before .before .before .abandon-own .kept .1 .1 .1 .1 .1 .1 .0) returns)
+    (tie.spec admit-requires returns mul-a add-e mul-take-abandon sub-take-abandon part-take-abandon-start part-take-abandon-end take-abandon-requires (λ c. search needs) mul-change-withdraw sub-change-withdraw part-change-withdraw-start part-change-withdraw-end change-withdraw-requires same-length same-length-2 same-length-3 returns-2)
