@@ -45,7 +45,7 @@ module _ (k : Call) (B : Buffers) (x : Session) (s : ℕ) (i : s ≡ sessionOf k
     mine : sessionAt ss (sessionOf k) ≡ x
     mine = rw own at o
 
-    is-plan : planIn k B x ≡ planOf k given
+    pub is-plan : planIn k B x ≡ planOf k given
     unfolding size
     is-plan = rw (← mine, cut-is) (planned k given (z .fit) (let l = z .low in omega arith))
 

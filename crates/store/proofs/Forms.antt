@@ -29,7 +29,7 @@ use Rattle.calls.specs.declared.Due.the-variants.{Refused, Slot}
 use Rattle.calls.proofs.Agree.{advance-agree}
 use Rattle.calls.proofs.Choices.{Choice, refuses, knows, enters, read-choice, write-choice, when-told}
 use Rattle.calls.proofs.Lengths.{Admitted}
-use Rattle.calls.proofs.Logs.{log-fits}
+use Rattle.calls.proofs.Logs.{cut, puts, log-fits, put-fits, put-length, cut-put}
 
 -- ---- the part of a change that a call's turn can be
 
@@ -92,9 +92,11 @@ module _ (d : Change) (log : List ℕ) (m s : ℕ) (L : Locks) where
   unfolding changed
   no-change e = rw e
 
-  pub one-and-withdraw : dropOf d ≡ Keep → (M N : Locks) → M ≡ changed (oneOf d) [] 0 s L → N ≡ changed (withdrawOf d) log m s M → N ≡ changed d log m s L
+  -- U is the log again
+  pub one-and-withdraw : dropOf d ≡ Keep → (M N : Locks) → M ≡ changed (oneOf d) [] 0 s L → (U : List ℕ) → U ≡ log → N ≡ changed (withdrawOf d) U m s M
+      → N ≡ changed d log m s L
   unfolding changed
-  one-and-withdraw k M N f g = rw (g, f) (rw k at (in-three d log m s L))
+  one-and-withdraw k M N f U v g = rw (g, f, v) (rw k at (in-three d log m s L))
 
   pub withdraw-alone : (oneOf d ≡ Keep) × (dropOf d ≡ Keep) → (N : Locks) → N ≡ changed (withdrawOf d) log m s L → N ≡ changed d log m s L
   unfolding changed
@@ -145,3 +147,22 @@ even B s z = (z .lengths .claimants ∙ sym (z .lengths .readers), z .lengths .e
 -- the session's log lies in the logs
 pub log-inside : (B : Buffers) (s : ℕ) → Admitted B s → 128 * s + 128 ≤ length (B .logs)
 log-inside B s z = log-fits s (z .low) (B .logs) (z .lengths .logs)
+
+module _ (B : Buffers) (s : ℕ) (z : Admitted B s) where
+  -- a log W put back lies there too, and is read back
+  module _ (W : List ℕ) (whole : length W ≡ 128) where
+    pub put-inside : 128 * s + 128 ≤ length (puts (B .logs) s W)
+    put-inside = put-fits s (z .low) (B .logs) (z .lengths .logs) W whole
+
+    pub put-same : length (puts (B .logs) s W) ≡ length (B .logs)
+    put-same = put-length s (z .low) (B .logs) (z .lengths .logs) W whole
+
+    pub read-back : cut (puts (B .logs) s W) s ≡ W
+    read-back = cut-put s (z .low) (B .logs) (z .lengths .logs) W whole
+
+  -- what rolling back asks, of locks R, C and E as long as before; U is the log W again
+  pub can-withdraw : (d : Change) (W : List ℕ) (m : ℕ) (R C E U : List ℕ) → length R ≡ length (B .locks .readers) → length C ≡ length (B .locks .claimants)
+      → length E ≡ length (B .locks .exclusives) → U ≡ W → ChangeFits d s W m (length (B .values))
+      → ChangeFits d s U m (length R) × (length C ≡ length R) × (length E ≡ length R)
+  can-withdraw d W m R C E U r c e v f =
+      (rw (v, r) (fits-cells B s z d W m f), c ∙ even B s z .0 ∙ sym r, e ∙ even B s z .1 ∙ sym r)

@@ -1,177 +1,131 @@
+-- `store::advance` meets its contract: 7 and 1 are the model's; past them the turn at the entry that is due is, with the lock of its cell, and the change of the locks.
+use mathlib.Core.Path.{_≡_, refl, sym, ap, _∙_}
+use Rattle.model.specs.Buffers.{Buffers, lockAt}
+use lib.ListN.{length}
+use Rattle.model.specs.declared.Call.the-variants.{Advance}
+use Rattle.calls.specs.Pieces.{duePlan}
+use Rattle.calls.proofs.Agree.{due-fits}
+use Rattle.store.proofs.Forms.{fits-cells, even, log-inside, can-withdraw, one-and-withdraw, change-is, advance-planned, advance-drops-none}
+use Rattle.locks.specs.Changes.{dropOf, ChangeFits}
+use Rattle.locks.proofs.Changes.{one-fits}
+use Rattle.calls.proofs.Lengths.{Admitted, admitted, refused}
+use Rattle.calls.proofs.Logs.{cut-long, log-start, log-stop, log-bytes, log-some}
+use Rattle.calls.proofs.Logs.{cut}
+use Rattle.calls.proofs.Whole.{planIn, can-change, takes-same}
+use Rattle.store.specs.Lent.{buffersOf}
 use borrow.Author.Needs.{needs}
 use Rattle.store.proofs.advance.Statement.{statement}
 use Rattle.store.proofs.advance.Tie as tie
-use Rattle.store.proofs.advance.Reads as reads
-use Rattle.store.proofs.advance.Lts as lts
-use Rattle.calls.proofs.admit.Reads as admit-reads
-use Rattle.calls.proofs.due_cell.Reads as due-cell-reads
-use Rattle.calls.proofs.due_slot.Reads as due-slot-reads
-use Rattle.calls.proofs.take_advance.Reads as take-advance-reads
-use Rattle.locks.proofs.at.Reads as at-reads
-use Rattle.locks.proofs.change_one.Reads as change-one-reads
-use Rattle.locks.proofs.change_withdraw.Reads as change-withdraw-reads
 
--- src/lib.rt:280:9
+-- the buffers at the entry, and what is known past 7 and 1
+abbrev lent : tie.Start → Buffers
+lent c = buffersOf (c .args .values .now) (c .args .classes .now) (c .args .readers .now) (c .args .claimants .now) (c .args .exclusives .now) (c .args .logs .now)
+
+fits : (c : tie.Else1) → Admitted (lent (c .before .before .before .before .before .before .before .before)) (c .before .before .before .before .before .before .before .before .args .session)
+fits c = admitted (lent (c .before .before .before .before .before .before .before .before)) _ _ (c .before .admit .ensures) (c .if1 .left)
+
+-- what is decided with the lock that was looked up is the plan
+planned : (c : tie.After-take-advance) → duePlan (c .before .before .before .before .before .before .before .before .before .before .before .before .before .before .before .before .before .before .before .args .session) (cut (c .before .before .before .before .before .before .before .before .before .before .before .before .before .before .before .before .before .before .before .args .logs .now) (c .before .before .before .before .before .before .before .before .before .before .before .before .before .before .before .before .before .before .before .args .session)) (c .before .before .before .before .before .before .before .before .before .before .before .before .before .before .before .before .before .before .before .args .x) (c .before .before .before .at .result) (c .before .before .before .before .before .before .before .before .before .due-slot .result) ≡ planIn (Advance (c .before .before .before .before .before .before .before .before .before .before .before .before .before .before .before .before .before .before .before .args .session)) (lent (c .before .before .before .before .before .before .before .before .before .before .before .before .before .before .before .before .before .before .before)) (c .before .before .before .before .before .before .before .before .before .before .before .before .before .before .before .before .before .before .before .args .x)
+planned c = advance-planned _ _ _ _ _ (lent (c .before .before .before .before .before .before .before .before .before .before .before .before .before .before .before .before .before .before .before) .locks) _ _ _ (c .before .before .before .before .before .before .before .before .before .due-slot .ensures) (c .before .before .before .before .before .before .before .due-cell .ensures) (c .before .before .before .at .ensures)
+
+-- the change can be carried out
+changes : (c : tie.After-take-advance) → ChangeFits (c .take-advance .result .change) (c .before .before .before .before .before .before .before .before .before .before .before .before .before .before .before .before .before .before .before .args .session) (cut (c .before .before .before .before .before .before .before .before .before .before .before .before .before .before .before .before .before .before .before .args .logs .now) (c .before .before .before .before .before .before .before .before .before .before .before .before .before .before .before .before .before .before .before .args .session)) (c .before .before .before .before .before .before .before .before .before .before .before .before .before .before .before .before .before .before .before .args .x .count) (length (c .before .before .before .before .before .before .before .before .before .before .before .before .before .before .before .before .before .before .before .args .values .now))
+changes c = can-change (Advance _) (lent (c .before .before .before .before .before .before .before .before .before .before .before .before .before .before .before .before .before .before .before)) _ _ refl (fits (c .before .before .before .before .before .before .before .before .before .before .before)) _ (planned c) _ _ _ _ _ (c .take-advance .ensures)
+
 admit-requires : tie.Need-admit-requires
-admit-requires c κs = ?
+admit-requires c κs = tt
 
--- src/lib.rt:290:9
 returns : tie.Need-returns
-returns c = ?
+returns c = refused (lent (c .before .before .before .before .before .before .before .before)) _ _ (c .before .admit .ensures) (Advance _) refl (c .if1 .taken) _
 
--- src/lib.rt:295:13
 mul-a : tie.Need-mul-a
-mul-a c = ?
+mul-a c = log-start _ (fits (c) .low)
 
--- src/lib.rt:296:13
 add-e : tie.Need-add-e
-add-e c = ?
+add-e c = log-stop _ (fits (c) .low)
 
--- src/lib.rt:297:31
 mul-due-slot : tie.Need-mul-due-slot
-mul-due-slot c = ?
+mul-due-slot c = log-bytes _ (fits (c) .low)
 
--- src/lib.rt:297:31
 sub-due-slot : tie.Need-sub-due-slot
-sub-due-slot c = ?
+sub-due-slot c = log-some _
 
--- src/lib.rt:297:31
 part-due-slot-start : tie.Need-part-due-slot-start
-part-due-slot-start c = ?
+part-due-slot-start c = log-some _
 
--- src/lib.rt:297:31
 part-due-slot-end : tie.Need-part-due-slot-end
-part-due-slot-end c = ?
+part-due-slot-end c = log-inside _ _ (fits (c))
 
--- src/lib.rt:297:9
 due-slot-requires : tie.Need-due-slot-requires
-due-slot-requires c κs = ?
+due-slot-requires c κs = (cut-long _ _ (fits (c .before) .lengths .logs) (fits (c .before) .low), fits (c .before) .lengths .few)
 
--- src/lib.rt:298:32
 mul-due-cell : tie.Need-mul-due-cell
-mul-due-cell c = ?
+mul-due-cell c = log-bytes _ (fits (c .before .before) .low)
 
--- src/lib.rt:298:32
 sub-due-cell : tie.Need-sub-due-cell
-sub-due-cell c = ?
+sub-due-cell c = log-some _
 
--- src/lib.rt:298:32
 part-due-cell-start : tie.Need-part-due-cell-start
-part-due-cell-start c = ?
+part-due-cell-start c = log-some _
 
--- src/lib.rt:298:32
 part-due-cell-end : tie.Need-part-due-cell-end
-part-due-cell-end c = ?
+part-due-cell-end c = log-inside _ _ (fits (c .before .before))
 
--- src/lib.rt:298:9
 due-cell-requires : tie.Need-due-cell-requires
-due-cell-requires c κs = ?
+due-cell-requires c κs = let z = fits (c .before .before .before) in (cut-long _ _ (z .lengths .logs) (z .low), due-fits _ _ _ _ (c .before .due-slot .ensures))
 
--- src/lib.rt:299:9
 at-requires : tie.Need-at-requires
-at-requires c κs = ?
+at-requires c κs = even _ _ (fits (c .before .before .before .before .before .before .before))
 
--- src/lib.rt:300:41
 mul-take-advance : tie.Need-mul-take-advance
-mul-take-advance c = ?
+mul-take-advance c = log-bytes _ (fits (c .before .before .before .before .before .before .before .before .before) .low)
 
--- src/lib.rt:300:41
 sub-take-advance : tie.Need-sub-take-advance
-sub-take-advance c = ?
+sub-take-advance c = log-some _
 
--- src/lib.rt:300:41
 part-take-advance-start : tie.Need-part-take-advance-start
-part-take-advance-start c = ?
+part-take-advance-start c = log-some _
 
--- src/lib.rt:300:41
 part-take-advance-end : tie.Need-part-take-advance-end
-part-take-advance-end c = ?
+part-take-advance-end c = log-inside _ _ (fits (c .before .before .before .before .before .before .before .before .before))
 
--- src/lib.rt:300:9
 take-advance-requires : tie.Need-take-advance-requires
-take-advance-requires c κs = ?
+take-advance-requires c κs = let z = fits (c .before .before .before .before .before .before .before .before .before .before) in (cut-long _ _ (z .lengths .logs) (z .low), z .lengths .few, z .low, c .before .before .before .before .before .before .before .before .due-slot .ensures)
 
--- src/lib.rt:302:17
-cast-count : tie.Need-cast-count
-cast-count c = ?
-
--- src/lib.rt:303:5
 change-one-requires : tie.Need-change-one-requires
-change-one-requires c κs = ?
+change-one-requires c κs = let z = fits (c .before .before .before .before .before .before .before .before .before .before .before .before .before .before .before .before .before) in let e = even _ _ z in (z .low, one-fits _ _ _ _ _ (fits-cells _ _ z _ _ _ (changes (c .before .before .before .before .before .before))), e .0, e .1)
 
--- src/lib.rt:306:9
 mul-change-withdraw : tie.Need-mul-change-withdraw
-mul-change-withdraw c = ?
+mul-change-withdraw c = log-bytes _ (fits (c .before .before .before .before .before .before .before .before .before .before .before .before .before .before .before .before .before .before .before .before .before .before .before .before) .low)
 
--- src/lib.rt:306:9
 sub-change-withdraw : tie.Need-sub-change-withdraw
-sub-change-withdraw c = ?
+sub-change-withdraw c = log-some _
 
--- src/lib.rt:306:9
 part-change-withdraw-start : tie.Need-part-change-withdraw-start
-part-change-withdraw-start c = ?
+part-change-withdraw-start c = log-some _
 
--- src/lib.rt:306:9
 part-change-withdraw-end : tie.Need-part-change-withdraw-end
-part-change-withdraw-end c = ?
+part-change-withdraw-end c = log-inside _ _ (fits (c .before .before .before .before .before .before .before .before .before .before .before .before .before .before .before .before .before .before .before .before .before .before .before .before))
 
--- src/lib.rt:304:5
 change-withdraw-requires : tie.Need-change-withdraw-requires
-change-withdraw-requires c κs = ?
+change-withdraw-requires c κs = can-withdraw _ _ (fits (c .before .before .before .before .before .before .before .before .before .before .before .before .before .before .before .before .before .before .before .before .before .before .before .before .before .before .before .before)) _ _ _ (c .before .before .before .before .before .before .before .before .before .before .change-one .last .1 .0) (c .before .before .before .before .before .before .before .before .before .before .change-one .last .1 .1 .0) (c .before .before .before .before .before .before .before .before .before .before .change-one .last .1 .1 .1 .0) _ (c .before .before .before .before .before .before .before .before .before .before .change-one .kept .1 .0) (c .before .before .before .before .before .before .before .before .before .before .change-one .kept .1 .1 .0) (c .before .before .before .before .before .before .before .before .before .before .change-one .kept .1 .1 .1 .0) refl (changes (c .before .before .before .before .before .before .before .before .before .before .before .before .before .before .before .before .before))
 
--- src/lib.rt:267:1
 same-length : tie.Need-same-length
-same-length c = ?
+same-length c = c .before .before .before .before .before .before .before .before .before .before .before .before .before .before .before .before .before .before .before .before .before .before .before .before .before .take-advance .kept .0
 
--- src/lib.rt:267:1
 same-length-2 : tie.Need-same-length-2
-same-length-2 c = ?
+same-length-2 c = c .before .before .before .before .before .before .before .change-withdraw .kept .1 .1 .1 .0 ∙ c .before .before .before .before .before .before .before .before .before .before .before .before .before .before .before .before .before .before .change-one .kept .1 .0
 
--- src/lib.rt:267:1
 same-length-3 : tie.Need-same-length-3
-same-length-3 c = ?
+same-length-3 c = c .before .before .before .before .before .before .before .change-withdraw .kept .1 .1 .1 .1 .0 ∙ c .before .before .before .before .before .before .before .before .before .before .before .before .before .before .before .before .before .before .change-one .kept .1 .1 .0
 
--- src/lib.rt:267:1
 same-length-4 : tie.Need-same-length-4
-same-length-4 c = ?
+same-length-4 c = c .before .before .before .before .before .before .before .change-withdraw .kept .1 .1 .1 .1 .1 .0 ∙ c .before .before .before .before .before .before .before .before .before .before .before .before .before .before .before .before .before .before .change-one .kept .1 .1 .1 .0
 
--- src/lib.rt:267:1
 returns-2 : tie.Need-returns-2
-returns-2 c = ?
+returns-2 c = let t = c .before .before .before .before .before .before .before .before .before .before .before .before .before .before .before .before .before .before .before .before .before .before .before .before .before .take-advance .ensures in takes-same (Advance _) (lent (c .before .before .before .before .before .before .before .before .before .before .before .before .before .before .before .before .before .before .before .before .before .before .before .before .before .before .before .before .before .before .before .before .before .before .before .before .before .before .before .before .before .before .before .before)) _ _ refl (fits (c .before .before .before .before .before .before .before .before .before .before .before .before .before .before .before .before .before .before .before .before .before .before .before .before .before .before .before .before .before .before .before .before .before .before .before .before)) _ (planned (c .before .before .before .before .before .before .before .before .before .before .before .before .before .before .before .before .before .before .before .before .before .before .before .before .before)) _ _ _ _ _ t refl _ (one-and-withdraw _ _ _ _ _ (ap dropOf (change-is _ _ _ _ _ _ _ _ _ t) ∙ advance-drops-none (length (c .before .before .before .before .before .before .before .before .before .before .before .before .before .before .before .before .before .before .before .before .before .before .before .before .before .before .before .before .before .before .before .before .before .before .before .before .before .before .before .before .before .before .before .before .args .values .now)) _ _ _ _ _ _) _ _ (c .before .before .before .before .before .before .before .before .before .before .before .before .before .before .before .before .before .before .change-one .ensures) (cut (c .before .before .before .before .before .before .before .before .before .before .before .before .before .before .before .before .before .before .before .before .before .before .before .before .before .before .before .before .before .before .before .before .before .before .before .before .before .before .before .before .before .before .before .before .args .logs .now) (c .before .before .before .before .before .before .before .before .before .before .before .before .before .before .before .before .before .before .before .before .before .before .before .before .before .before .before .before .before .before .before .before .before .before .before .before .before .before .before .before .before .before .before .before .args .session)) refl (c .before .before .before .before .before .before .before .change-withdraw .ensures))
 
 pub advance-spec : {M : Type 1} → statement M
 advance-spec =
     tie.close
-    (tie.spec
-    admit-requires
-    returns
-    mul-a
-    add-e
-    mul-due-slot
-    sub-due-slot
-    part-due-slot-start
-    part-due-slot-end
-    due-slot-requires
-    mul-due-cell
-    sub-due-cell
-    part-due-cell-start
-    part-due-cell-end
-    due-cell-requires
-    at-requires
-    mul-take-advance
-    sub-take-advance
-    part-take-advance-start
-    part-take-advance-end
-    take-advance-requires
-    cast-count
-    change-one-requires
-    mul-change-withdraw
-    sub-change-withdraw
-    part-change-withdraw-start
-    part-change-withdraw-end
-    change-withdraw-requires
-    same-length
-    same-length-2
-    same-length-3
-    same-length-4
-    returns-2)
+    (tie.spec admit-requires returns mul-a add-e mul-due-slot sub-due-slot part-due-slot-start part-due-slot-end due-slot-requires mul-due-cell sub-due-cell part-due-cell-start part-due-cell-end due-cell-requires at-requires mul-take-advance sub-take-advance part-take-advance-start part-take-advance-end take-advance-requires (λ c. search needs) change-one-requires mul-change-withdraw sub-change-withdraw part-change-withdraw-start part-change-withdraw-end change-withdraw-requires same-length same-length-2 same-length-3 same-length-4 returns-2)

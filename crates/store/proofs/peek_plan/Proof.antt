@@ -1,62 +1,55 @@
-use borrow.Author.Needs.{needs}
+-- `store::peek_plan` meets its contract: refused by 7 or 1, or what is decided from the session's log and record.
+use mathlib.Core.Path.{_≡_, refl, sym, ap, _∙_}
+use Rattle.model.specs.Buffers.{Buffers, lockAt}
+use Rattle.model.specs.Plans.{plan}
+use Rattle.model.specs.declared.Call.the-variants.{Peek}
+use Rattle.calls.proofs.Lengths.{Admitted, admitted, plan-refused}
+use Rattle.calls.proofs.Logs.{cut-long, log-start, log-stop, log-bytes, log-some}
+use Rattle.calls.proofs.Whole.{is-plan}
+use Rattle.store.proofs.Forms.{log-inside}
+use Rattle.store.specs.Lent.{buffersOf}
 use Rattle.store.proofs.peek_plan.Statement.{statement}
 use Rattle.store.proofs.peek_plan.Tie as tie
-use Rattle.store.proofs.peek_plan.Reads as reads
-use Rattle.store.proofs.peek_plan.Lts as lts
-use Rattle.calls.proofs.admit.Reads as admit-reads
-use Rattle.calls.proofs.peek_plan.Reads as peek-plan-reads
 
--- src/lib.rt:383:9
+-- the buffers at the entry, and what is known past 7 and 1
+abbrev lent : tie.Start → Buffers
+lent c = buffersOf (c .args .values .now) (c .args .classes .now) (c .args .readers .now) (c .args .claimants .now) (c .args .exclusives .now) (c .args .logs .now)
+
+fits : (c : tie.Else1) → Admitted (lent (c .before .before .before .before .before .before .before .before)) (c .before .before .before .before .before .before .before .before .args .session)
+fits c = admitted (lent (c .before .before .before .before .before .before .before .before)) _ _ (c .before .admit .ensures) (c .if1 .left)
+
 admit-requires : tie.Need-admit-requires
-admit-requires c κs = ?
+admit-requires c κs = tt
 
--- src/lib.rt:393:9
 returns : tie.Need-returns
-returns c = ?
+returns c = λ ss o. plan-refused (lent (c .before .before .before .before .before .before .before .before)) _ _ (c .before .admit .ensures) (Peek _ _) refl (c .if1 .taken) _ refl
 
--- src/lib.rt:395:13
 mul-a : tie.Need-mul-a
-mul-a c = ?
+mul-a c = log-start _ (fits (c) .low)
 
--- src/lib.rt:396:13
 add-e : tie.Need-add-e
-add-e c = ?
+add-e c = log-stop _ (fits (c) .low)
 
--- src/lib.rt:397:22
 mul-peek-plan : tie.Need-mul-peek-plan
-mul-peek-plan c = ?
+mul-peek-plan c = log-bytes _ (fits (c) .low)
 
--- src/lib.rt:397:22
 sub-peek-plan : tie.Need-sub-peek-plan
-sub-peek-plan c = ?
+sub-peek-plan c = log-some _
 
--- src/lib.rt:397:22
 part-peek-plan-start : tie.Need-part-peek-plan-start
-part-peek-plan-start c = ?
+part-peek-plan-start c = log-some _
 
--- src/lib.rt:397:22
 part-peek-plan-end : tie.Need-part-peek-plan-end
-part-peek-plan-end c = ?
+part-peek-plan-end c = log-inside _ _ (fits (c))
 
--- src/lib.rt:397:5
 peek-plan-requires : tie.Need-peek-plan-requires
-peek-plan-requires c κs = ?
+peek-plan-requires c κs = (cut-long _ _ (fits (c .before) .lengths .logs) (fits (c .before) .low), fits (c .before) .lengths .few)
 
--- src/lib.rt:369:1
 returns-2 : tie.Need-returns-2
-returns-2 c = ?
+unfolding plan
+returns-2 c = λ ss o. c .peek-plan .ensures ∙ is-plan (Peek _ _) (lent (c .before .before .before .before .before .before .before .before .before .before)) _ _ refl (fits (c .before .before)) ss o
 
 pub peek-plan-spec : {M : Type 1} → statement M
 peek-plan-spec =
     tie.close
-    (tie.spec
-    admit-requires
-    returns
-    mul-a
-    add-e
-    mul-peek-plan
-    sub-peek-plan
-    part-peek-plan-start
-    part-peek-plan-end
-    peek-plan-requires
-    returns-2)
+    (tie.spec admit-requires returns mul-a add-e mul-peek-plan sub-peek-plan part-peek-plan-start part-peek-plan-end peek-plan-requires returns-2)

@@ -1,86 +1,50 @@
-use borrow.Author.Needs.{needs}
+-- `store::set_up` meets its contract: 7, 8 or 100, each a law of proofs/SetUp.antt, with what the loops leave.
+use mathlib.Core.Path.{_≡_, sym, _∙_}
+use mathlib.Core.Bool.{true}
+use borrow.Author.Tests.{not-true, not-false}
+use Rattle.model.specs.Buffers.{Store, lengthsFit}
+use Rattle.store.specs.Lent.{storeOf}
+use Rattle.calls.proofs.Lengths.{match-is, lengths-of}
+use Rattle.calls.proofs.SetUp.{set-7, set-8, set-done}
 use Rattle.store.proofs.set_up.Statement.{statement}
 use Rattle.store.proofs.set_up.Tie as tie
-use Rattle.store.proofs.set_up.Reads as reads
-use Rattle.store.proofs.set_up.Lts as lts
-use Rattle.calls.proofs.all_fit.Reads as all-fit-reads
-use Rattle.calls.proofs.lengths_fit.Reads as lengths-fit-reads
-use Rattle.log.proofs.clear_words.Reads as clear-words-reads
-use Rattle.model.proofs.all_idle.Reads as all-idle-reads
-use Rattle.store.proofs.clear_sets.Reads as clear-sets-reads
-use Rattle.store.proofs.fill_bytes.Reads as fill-bytes-reads
 
--- src/lib.rt:52:9
-lengths-fit-requires : tie.Need-lengths-fit-requires
-lengths-fit-requires c κs = ?
+-- the store at the entry, whose lengths fit past refusal 7
+abbrev given : tie.Start → Store
+given c =
+    storeOf (c .args .values .now) (c .args .classes .now) (c .args .readers .now) (c .args .claimants .now) (c .args .exclusives .now) (c .args .logs .now) (c .args .sessions)
 
--- src/lib.rt:60:9
+abbrev start : tie.Else1 → tie.Start
+start c = c .before .before .before .before .before .before .before .before
+
+fits : (c : tie.Else1) → lengthsFit (given (start c) .lent) ≡ true
+fits c = sym (c .before .lengths-fit .ensures ∙ match-is (given (start c) .lent)) ∙ not-false _ (c .if1 .left)
+
 returns : tie.Need-returns
-returns c = ?
+returns c = set-7 _ (sym (c .before .lengths-fit .ensures ∙ match-is (given (c .before .before .before .before .before .before .before .before) .lent)) ∙ not-true _ (c .if1 .taken))
 
--- src/lib.rt:65:9
 all-fit-requires : tie.Need-all-fit-requires
-all-fit-requires c κs = ?
+all-fit-requires c κs = lengths-of (given (start c) .lent) (fits c) .classes
 
--- src/lib.rt:66:9
 returns-2 : tie.Need-returns-2
-returns-2 c = ?
+returns-2 c = set-8 _ (fits (c .before .before)) _ (c .before .all-fit .ensures) (not-true _ (c .if2 .taken))
 
--- src/lib.rt:71:5
-clear-sets-requires : tie.Need-clear-sets-requires
-clear-sets-requires c κs = ?
-
--- src/lib.rt:72:5
-fill-bytes-requires : tie.Need-fill-bytes-requires
-fill-bytes-requires c κs = ?
-
--- src/lib.rt:73:5
-fill-bytes-requires-2 : tie.Need-fill-bytes-requires-2
-fill-bytes-requires-2 c κs = ?
-
--- src/lib.rt:74:5
-clear-words-requires : tie.Need-clear-words-requires
-clear-words-requires c κs = ?
-
--- src/lib.rt:75:9
-all-idle-requires : tie.Need-all-idle-requires
-all-idle-requires c κs = ?
-
--- src/lib.rt:41:1
-same-length : tie.Need-same-length
-same-length c = ?
-
--- src/lib.rt:41:1
-same-length-2 : tie.Need-same-length-2
-same-length-2 c = ?
-
--- src/lib.rt:41:1
-same-length-3 : tie.Need-same-length-3
-same-length-3 c = ?
-
--- src/lib.rt:41:1
-same-length-4 : tie.Need-same-length-4
-same-length-4 c = ?
-
--- src/lib.rt:41:1
 returns-3 : tie.Need-returns-3
-returns-3 c = ?
+returns-3 c =
+    let w = c .before .before .before in
+    let e = w .before .before .before .before in
+    let d = e .before .before .before .before in
+    let r = d .before .before .before .before in
+    let t = r .before .before in
+    set-done _ (fits (t .before .before)) _ (t .before .all-fit .ensures) (not-false _ (t .if2 .left)) _ _ _ _ _ (r .clear-sets .ensures) (d .fill-bytes .ensures) (e .fill-bytes2 .ensures)
+    (w .clear-words .ensures) (c .all-idle .ensures)
 
 pub set-up-spec : {M : Type 1} → statement M
 set-up-spec =
     tie.close
     (tie.spec
-    lengths-fit-requires
-    returns
-    all-fit-requires
-    returns-2
-    clear-sets-requires
-    fill-bytes-requires
-    fill-bytes-requires-2
-    clear-words-requires
-    all-idle-requires
-    same-length
-    same-length-2
-    same-length-3
-    same-length-4
+    (λ c κs. tt) returns all-fit-requires returns-2 (λ c κs. tt) (λ c κs. tt) (λ c κs. tt) (λ c κs. tt) (λ c κs. tt)
+    (λ c. c .before .before .before .before .before .before .before .before .before .before .before .before .before .before .before .clear-sets .kept .0)
+    (λ c. c .before .before .before .before .before .before .before .before .before .before .before .fill-bytes .kept .0)
+    (λ c. c .before .before .before .before .before .before .before .fill-bytes2 .kept .0) (λ c. c .before .before .before .clear-words .kept .0)
     returns-3)
