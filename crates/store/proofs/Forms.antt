@@ -4,15 +4,18 @@ use mathlib.Core.Path.{_≡_, refl, sym, ap, _∙_}
 use mathlib.Core.Bool.{Bool, cond, not, _&&_, _||_}
 use mathlib.Core.Option.{Option, none, some}
 use mathlib.Core.List.{List, []}
-use Prim.Native.Nat.{ℕ, _+_, _*_, _≤_}
+use Prim.Native.Nat.{ℕ, _+_, _*_, _%_, _≤_}
 use lib.Dec.{T, eqb}
-use lib.ListN.{length}
-use Rattle.model.specs.Buffers.{Locks, Buffers, free, entryAt, targetIn, lockAt}
+use lib.ListN.{length, getD, set}
+use Rattle.model.specs.Buffers.{Locks, Buffers, free, idle, sessionAt, withSession, entryAt, targetIn, lockAt}
 use Rattle.model.specs.Readers.{otherReaders}
 use Rattle.model.specs.Plans.{recordFits, guard, claimed, promotePlan, sealTarget, sealPlan, readPlan, writePlan, plan}
+use Rattle.model.specs.Step.{outcome, effect, sessionOf, TakesRecord}
 use Rattle.model.specs.Turns.{TurnEffect, leaves, turnOf, changed}
 use Rattle.model.specs.declared.Session.{Session}
 use Rattle.model.specs.declared.Lock.{Lock}
+use Rattle.model.specs.declared.Sessions.{Sessions}
+use Rattle.model.specs.declared.Call.{Call}
 use Rattle.model.specs.declared.Call.the-variants.{Advance}
 use Rattle.model.specs.declared.Answer.{Answer}
 use Rattle.model.specs.declared.Plan.{Plan}
@@ -166,3 +169,9 @@ module _ (B : Buffers) (s : ℕ) (z : Admitted B s) where
       → ChangeFits d s U m (length R) × (length C ≡ length R) × (length E ≡ length R)
   can-withdraw d W m R C E U r c e v f =
       (rw (v, r) (fits-cells B s z d W m f), c ∙ even B s z .0 ∙ sym r, e ∙ even B s z .1 ∙ sym r)
+
+-- of all sixteen, where the code takes the record out and puts the one handed back in its place
+pub of-sixteen : (k : Call) (B C : Buffers) (ss : Sessions) (s : ℕ) → s ≡ sessionOf k → (a : Answer) (y : Session) → TakesRecord k B (getD (ss .records) (s % 16) idle) a C y
+    → outcome a (record { lent = C; sessions = record { records = set (ss .records) (s % 16) y } }) ≡ effect k (record { lent = B; sessions = ss })
+unfolding sessionAt withSession
+of-sixteen k B C ss s i a y t = rw i ((rw i at t) ss refl)

@@ -1,131 +1,40 @@
+-- `store::peek` meets its contract: the part handed back is the word that the plan names, by its pointer; Peeks.antt of crate calls has the three ways.
+use mathlib.Core.Path.{refl}
+use Rattle.model.specs.Buffers.{Buffers}
+use Rattle.calls.proofs.Peeks.{plan-alone, peek-inside, peek-logged, hands-store, hands-log, hands-nothing}
+use Rattle.store.specs.Lent.{buffersOf}
 use borrow.Author.Needs.{needs}
 use Rattle.store.proofs.peek.Statement.{statement}
 use Rattle.store.proofs.peek.Tie as tie
-use Rattle.store.proofs.peek.Reads as reads
-use Rattle.store.proofs.peek.Lts as lts
-use Rattle.store.proofs.peek_plan.Reads as peek-plan-reads
 
--- src/lib.rt:414:9
+abbrev lent : tie.Start → Buffers
+lent c = buffersOf (c .args .values .now) (c .args .classes .now) (c .args .readers .now) (c .args .claimants .now) (c .args .exclusives .now) (c .args .logs .now)
+
 peek-plan-requires : tie.Need-peek-plan-requires
-peek-plan-requires c κs = ?
+peek-plan-requires c κs = tt
 
--- src/lib.rt:426:17
 enum-told : tie.Need-enum-told
-enum-told c = ?
+enum-told c = c .match .keys1
 
--- src/lib.rt:427:17
-add-d : tie.Need-add-d
-add-d c = ?
-
--- src/lib.rt:428:16
-mul-result : tie.Need-mul-result
-mul-result c = ?
-
--- src/lib.rt:428:16
-sub-result : tie.Need-sub-result
-sub-result c = ?
-
--- src/lib.rt:428:16
-part-result-start : tie.Need-part-result-start
-part-result-start c = ?
-
--- src/lib.rt:428:16
 part-result-end : tie.Need-part-result-end
-part-result-end c = ?
+part-result-end c = peek-inside _ _ _ _ (plan-alone (lent (c .before .before .before .before .before .before .before .before .before)) _ _ _ _ (c .before .before .peek-plan .ensures)) _ tt (c .enum-told .given .1)
 
--- src/lib.rt:428:9
 returns : tie.Need-returns
-returns c = ?
+returns c = λ ss o. hands-store _ _ _ _ (c .before .before .before .peek-plan .ensures ss o) _ _ refl _ (c .before .enum-told .given .1) _
 
--- src/lib.rt:430:26
 enum-known-p : tie.Need-enum-known-p
-enum-known-p c = ?
+enum-known-p c = c .match2 .keys1
 
--- src/lib.rt:431:20
-mul-from : tie.Need-mul-from
-mul-from c = ?
-
--- src/lib.rt:431:53
-cast-from : tie.Need-cast-from
-cast-from c = ?
-
--- src/lib.rt:431:48
-mul-from-2 : tie.Need-mul-from-2
-mul-from-2 c = ?
-
--- src/lib.rt:431:48
-add-from : tie.Need-add-from
-add-from c = ?
-
--- src/lib.rt:431:20
-add-from-2 : tie.Need-add-from-2
-add-from-2 c = ?
-
--- src/lib.rt:432:18
-add-to : tie.Need-add-to
-add-to c = ?
-
--- src/lib.rt:433:16
-mul-result-2 : tie.Need-mul-result-2
-mul-result-2 c = ?
-
--- src/lib.rt:433:16
-sub-result-2 : tie.Need-sub-result-2
-sub-result-2 c = ?
-
--- src/lib.rt:433:16
-part-result-start-2 : tie.Need-part-result-start-2
-part-result-start-2 c = ?
-
--- src/lib.rt:433:16
 part-result-end-2 : tie.Need-part-result-end-2
-part-result-end-2 c = ?
+part-result-end-2 c = peek-logged _ _ _ _ (plan-alone (lent (c .before .before .before .before .before .before .before .before .before .before .before)) _ _ _ _ (c .before .before .before .before .peek-plan .ensures)) _ (c .before .p .given .1)
 
--- src/lib.rt:433:9
 returns-2 : tie.Need-returns-2
-returns-2 c = ?
+returns-2 c = λ ss o. hands-log _ _ _ _ (c .before .before .before .before .before .peek-plan .ensures ss o) _ _ refl _ (c .before .before .p .given .1) _
 
--- src/lib.rt:435:5
-sub-result-3 : tie.Need-sub-result-3
-sub-result-3 c = ?
-
--- src/lib.rt:435:5
-part-result-start-3 : tie.Need-part-result-start-3
-part-result-start-3 c = ?
-
--- src/lib.rt:435:5
-part-result-end-3 : tie.Need-part-result-end-3
-part-result-end-3 c = ?
-
--- src/lib.rt:401:1
 returns-3 : tie.Need-returns-3
-returns-3 c = ?
+returns-3 c = λ ss o. hands-nothing _ _ _ _ (c .before .before .before .peek-plan .ensures ss o) _ _ (c .before .before .match .keys2) (c .before .match2 .keys2) _ refl
 
 pub peek-spec : {M : Type 1} → statement M
 peek-spec =
     tie.close
-    (tie.spec
-    peek-plan-requires
-    enum-told
-    add-d
-    mul-result
-    sub-result
-    part-result-start
-    part-result-end
-    returns
-    enum-known-p
-    mul-from
-    cast-from
-    mul-from-2
-    add-from
-    add-from-2
-    add-to
-    mul-result-2
-    sub-result-2
-    part-result-start-2
-    part-result-end-2
-    returns-2
-    sub-result-3
-    part-result-start-3
-    part-result-end-3
-    returns-3)
+    (tie.spec peek-plan-requires enum-told (λ c. search needs) (λ c. search needs) (λ c. search needs) (λ c. search needs) part-result-end returns enum-known-p (λ c. search needs) (λ c. search needs) (λ c. search needs) (λ c. search needs) (λ c. search needs) (λ c. search needs) (λ c. search needs) (λ c. search needs) (λ c. search needs) part-result-end-2 returns-2 (λ c. search needs) (λ c. search needs) (λ c. search needs) returns-3)

@@ -1,25 +1,26 @@
-use borrow.Author.Needs.{needs}
+-- `store::peek_number` meets its contract: a refusal's number, or 100 where a word is handed back.
+use Rattle.model.specs.Buffers.{Buffers}
+use Rattle.calls.proofs.Peeks.{twin-refused, twin-done}
+use Rattle.store.specs.Lent.{buffersOf}
 use Rattle.store.proofs.peek_number.Statement.{statement}
 use Rattle.store.proofs.peek_number.Tie as tie
-use Rattle.store.proofs.peek_number.Reads as reads
-use Rattle.store.proofs.peek_number.Lts as lts
-use Rattle.store.proofs.peek_plan.Reads as peek-plan-reads
 
--- src/lib.rt:452:9
+abbrev lent : tie.Start → Buffers
+lent c = buffersOf (c .args .values .now) (c .args .classes .now) (c .args .readers .now) (c .args .claimants .now) (c .args .exclusives .now) (c .args .logs .now)
+
 peek-plan-requires : tie.Need-peek-plan-requires
-peek-plan-requires c κs = ?
+peek-plan-requires c κs = tt
 
--- src/lib.rt:463:25
 enum-known-p : tie.Need-enum-known-p
-enum-known-p c = ?
+enum-known-p c = c .match .keys1
 
--- src/lib.rt:464:9
 returns : tie.Need-returns
-returns c = ?
+returns c = twin-refused (lent (c .before .before .before .before .before .before .before .before .before .before)) _ _ _ _ (c .before .before .before .peek-plan .ensures) _ (c .before .p .given .1)
 
--- src/lib.rt:439:1
 returns-2 : tie.Need-returns-2
-returns-2 c = ?
+returns-2 c = twin-done (lent (c .before .before .before .before .before .before .before .before)) _ _ _ _ (c .before .peek-plan .ensures) (c .match .keys2)
 
 pub peek-number-spec : {M : Type 1} → statement M
-peek-number-spec = tie.close (tie.spec peek-plan-requires enum-known-p returns returns-2)
+peek-number-spec =
+    tie.close
+    (tie.spec peek-plan-requires enum-known-p returns returns-2)

@@ -1,297 +1,177 @@
-use borrow.Author.Needs.{needs}
+-- Each call's outcome is the callee's.
+use mathlib.Core.Path.{refl}
 use Rattle.store.proofs.step_one.Statement.{statement}
 use Rattle.store.proofs.step_one.Tie as tie
-use Rattle.store.proofs.step_one.Reads as reads
-use Rattle.store.proofs.step_one.Lts as lts
-use Rattle.store.proofs.abandon.Reads as abandon-reads
-use Rattle.store.proofs.advance.Reads as advance-reads
-use Rattle.store.proofs.begin.Reads as begin-reads
-use Rattle.store.proofs.peek_number.Reads as peek-number-reads
-use Rattle.store.proofs.read.Reads as read-reads
-use Rattle.store.proofs.seal.Reads as seal-reads
-use Rattle.store.proofs.write.Reads as write-reads
 
--- src/lib.rt:491:21
 enum-known-call : tie.Need-enum-known-call
-enum-known-call c = ?
+enum-known-call c = c .match .keys1
 
--- src/lib.rt:491:27
 begin-requires : tie.Need-begin-requires
-begin-requires c κs = ?
+begin-requires c κs = tt
 
--- src/lib.rt:501:20
 enum-known-call-2 : tie.Need-enum-known-call-2
-enum-known-call-2 c = ?
+enum-known-call-2 c = c .match .keys2
 
--- src/lib.rt:501:29
 read-requires : tie.Need-read-requires
-read-requires c κs = ?
+read-requires c κs = tt
 
--- src/lib.rt:512:21
 enum-known-call-3 : tie.Need-enum-known-call-3
-enum-known-call-3 c = ?
+enum-known-call-3 c = c .match .keys3
 
--- src/lib.rt:512:33
 write-requires : tie.Need-write-requires
-write-requires c κs = ?
+write-requires c κs = tt
 
--- src/lib.rt:524:20
 enum-known-call-4 : tie.Need-enum-known-call-4
-enum-known-call-4 c = ?
+enum-known-call-4 c = c .match .keys4
 
--- src/lib.rt:524:26
 seal-requires : tie.Need-seal-requires
-seal-requires c κs = ?
+seal-requires c κs = tt
 
--- src/lib.rt:534:23
 enum-known-call-5 : tie.Need-enum-known-call-5
-enum-known-call-5 c = ?
+enum-known-call-5 c = c .match .keys5
 
--- src/lib.rt:534:29
 advance-requires : tie.Need-advance-requires
-advance-requires c κs = ?
+advance-requires c κs = tt
 
--- src/lib.rt:544:23
 enum-known-call-6 : tie.Need-enum-known-call-6
-enum-known-call-6 c = ?
+enum-known-call-6 c = c .match .keys6
 
--- src/lib.rt:544:29
 abandon-requires : tie.Need-abandon-requires
-abandon-requires c κs = ?
+abandon-requires c κs = tt
 
--- src/lib.rt:554:20
 enum-known-call-7 : tie.Need-enum-known-call-7
-enum-known-call-7 c = ?
+enum-known-call-7 c = c .match .keys7
 
--- src/lib.rt:554:29
 peek-number-requires : tie.Need-peek-number-requires
-peek-number-requires c κs = ?
+peek-number-requires c κs = tt
 
--- src/lib.rt:478:1
 same-length : tie.Need-same-length
-same-length c = ?
+same-length c = refl
 
--- src/lib.rt:478:1
 same-length-2 : tie.Need-same-length-2
-same-length-2 c = ?
+same-length-2 c = refl
 
--- src/lib.rt:478:1
 same-length-3 : tie.Need-same-length-3
-same-length-3 c = ?
+same-length-3 c = refl
 
--- src/lib.rt:478:1
 same-length-4 : tie.Need-same-length-4
-same-length-4 c = ?
+same-length-4 c = refl
 
--- src/lib.rt:478:1
 same-length-5 : tie.Need-same-length-5
-same-length-5 c = ?
+same-length-5 c = refl
 
--- src/lib.rt:478:1
 returns : tie.Need-returns
-returns c = ?
+returns c = rw (c .before .before .before .before .before .before .before .call .given .1) (c .begin .ensures)
 
--- src/lib.rt:478:1
 same-length-6 : tie.Need-same-length-6
-same-length-6 c = ?
+same-length-6 c = refl
 
--- src/lib.rt:478:1
 same-length-7 : tie.Need-same-length-7
-same-length-7 c = ?
+same-length-7 c = c .before .before .before .before .before .before .before .before .read .kept .1 .1 .1 .0
 
--- src/lib.rt:478:1
 same-length-8 : tie.Need-same-length-8
-same-length-8 c = ?
+same-length-8 c = c .before .before .before .before .before .before .before .before .read .kept .1 .1 .1 .1 .0
 
--- src/lib.rt:478:1
 same-length-9 : tie.Need-same-length-9
-same-length-9 c = ?
+same-length-9 c = c .before .before .before .before .before .before .before .before .read .kept .1 .1 .1 .1 .1 .0
 
--- src/lib.rt:478:1
 same-length-10 : tie.Need-same-length-10
-same-length-10 c = ?
+same-length-10 c = c .before .before .before .before .before .before .before .before .read .kept .1 .1 .1 .1 .1 .1 .0
 
--- src/lib.rt:478:1
 returns-2 : tie.Need-returns-2
-returns-2 c = ?
+returns-2 c = rw (c .before .before .before .before .before .before .before .before .before .before .before .before .before .before .before .call2 .given .1) (c .before .before .before .before .before .before .before .before .read .ensures)
 
--- src/lib.rt:478:1
 same-length-11 : tie.Need-same-length-11
-same-length-11 c = ?
+same-length-11 c = refl
 
--- src/lib.rt:478:1
 same-length-12 : tie.Need-same-length-12
-same-length-12 c = ?
+same-length-12 c = c .before .before .before .before .before .before .before .before .write .kept .1 .1 .1 .0
 
--- src/lib.rt:478:1
 same-length-13 : tie.Need-same-length-13
-same-length-13 c = ?
+same-length-13 c = c .before .before .before .before .before .before .before .before .write .kept .1 .1 .1 .1 .0
 
--- src/lib.rt:478:1
 same-length-14 : tie.Need-same-length-14
-same-length-14 c = ?
+same-length-14 c = c .before .before .before .before .before .before .before .before .write .kept .1 .1 .1 .1 .1 .0
 
--- src/lib.rt:478:1
 same-length-15 : tie.Need-same-length-15
-same-length-15 c = ?
+same-length-15 c = c .before .before .before .before .before .before .before .before .write .kept .1 .1 .1 .1 .1 .1 .0
 
--- src/lib.rt:478:1
 returns-3 : tie.Need-returns-3
-returns-3 c = ?
+returns-3 c = rw (c .before .before .before .before .before .before .before .before .before .before .before .before .before .before .before .call3 .given .1) (c .before .before .before .before .before .before .before .before .write .ensures)
 
--- src/lib.rt:478:1
 same-length-16 : tie.Need-same-length-16
-same-length-16 c = ?
+same-length-16 c = refl
 
--- src/lib.rt:478:1
 same-length-17 : tie.Need-same-length-17
-same-length-17 c = ?
+same-length-17 c = c .before .before .seal .kept .1 .1 .1 .0
 
--- src/lib.rt:478:1
 same-length-18 : tie.Need-same-length-18
-same-length-18 c = ?
+same-length-18 c = refl
 
--- src/lib.rt:478:1
 same-length-19 : tie.Need-same-length-19
-same-length-19 c = ?
+same-length-19 c = refl
 
--- src/lib.rt:478:1
 same-length-20 : tie.Need-same-length-20
-same-length-20 c = ?
+same-length-20 c = refl
 
--- src/lib.rt:478:1
 returns-4 : tie.Need-returns-4
-returns-4 c = ?
+returns-4 c = rw (c .before .before .before .before .before .before .before .before .before .call4 .given .1) (c .before .before .seal .ensures)
 
--- src/lib.rt:478:1
 same-length-21 : tie.Need-same-length-21
-same-length-21 c = ?
+same-length-21 c = c .before .before .before .before .before .before .before .before .advance .kept .1 .0
 
--- src/lib.rt:478:1
 same-length-22 : tie.Need-same-length-22
-same-length-22 c = ?
+same-length-22 c = c .before .before .before .before .before .before .before .before .advance .kept .1 .1 .1 .0
 
--- src/lib.rt:478:1
 same-length-23 : tie.Need-same-length-23
-same-length-23 c = ?
+same-length-23 c = c .before .before .before .before .before .before .before .before .advance .kept .1 .1 .1 .1 .0
 
--- src/lib.rt:478:1
 same-length-24 : tie.Need-same-length-24
-same-length-24 c = ?
+same-length-24 c = c .before .before .before .before .before .before .before .before .advance .kept .1 .1 .1 .1 .1 .0
 
--- src/lib.rt:478:1
 same-length-25 : tie.Need-same-length-25
-same-length-25 c = ?
+same-length-25 c = refl
 
--- src/lib.rt:478:1
 returns-5 : tie.Need-returns-5
-returns-5 c = ?
+returns-5 c = rw (c .before .before .before .before .before .before .before .before .before .before .before .before .before .before .before .call5 .given .1) (c .before .before .before .before .before .before .before .before .advance .ensures)
 
--- src/lib.rt:478:1
 same-length-26 : tie.Need-same-length-26
-same-length-26 c = ?
+same-length-26 c = refl
 
--- src/lib.rt:478:1
 same-length-27 : tie.Need-same-length-27
-same-length-27 c = ?
+same-length-27 c = c .before .before .before .before .before .before .abandon .kept .1 .1 .1 .0
 
--- src/lib.rt:478:1
 same-length-28 : tie.Need-same-length-28
-same-length-28 c = ?
+same-length-28 c = c .before .before .before .before .before .before .abandon .kept .1 .1 .1 .1 .0
 
--- src/lib.rt:478:1
 same-length-29 : tie.Need-same-length-29
-same-length-29 c = ?
+same-length-29 c = c .before .before .before .before .before .before .abandon .kept .1 .1 .1 .1 .1 .0
 
--- src/lib.rt:478:1
 same-length-30 : tie.Need-same-length-30
-same-length-30 c = ?
+same-length-30 c = refl
 
--- src/lib.rt:478:1
 returns-6 : tie.Need-returns-6
-returns-6 c = ?
+returns-6 c = rw (c .before .before .before .before .before .before .before .before .before .before .before .before .before .call6 .given .1) (c .before .before .before .before .before .before .abandon .ensures)
 
--- src/lib.rt:478:1
 same-length-31 : tie.Need-same-length-31
-same-length-31 c = ?
+same-length-31 c = refl
 
--- src/lib.rt:478:1
 same-length-32 : tie.Need-same-length-32
-same-length-32 c = ?
+same-length-32 c = refl
 
--- src/lib.rt:478:1
 same-length-33 : tie.Need-same-length-33
-same-length-33 c = ?
+same-length-33 c = refl
 
--- src/lib.rt:478:1
 same-length-34 : tie.Need-same-length-34
-same-length-34 c = ?
+same-length-34 c = refl
 
--- src/lib.rt:478:1
 same-length-35 : tie.Need-same-length-35
-same-length-35 c = ?
+same-length-35 c = refl
 
--- src/lib.rt:478:1
 returns-7 : tie.Need-returns-7
-returns-7 c = ?
+returns-7 c = rw (c .before .before .before .before .before .before .before .call7 .given .1) (c .peek-number .ensures)
 
 pub step-one-spec : {M : Type 1} → statement M
 step-one-spec =
     tie.close
-    (tie.spec
-    enum-known-call
-    begin-requires
-    enum-known-call-2
-    read-requires
-    enum-known-call-3
-    write-requires
-    enum-known-call-4
-    seal-requires
-    enum-known-call-5
-    advance-requires
-    enum-known-call-6
-    abandon-requires
-    enum-known-call-7
-    peek-number-requires
-    same-length
-    same-length-2
-    same-length-3
-    same-length-4
-    same-length-5
-    returns
-    same-length-6
-    same-length-7
-    same-length-8
-    same-length-9
-    same-length-10
-    returns-2
-    same-length-11
-    same-length-12
-    same-length-13
-    same-length-14
-    same-length-15
-    returns-3
-    same-length-16
-    same-length-17
-    same-length-18
-    same-length-19
-    same-length-20
-    returns-4
-    same-length-21
-    same-length-22
-    same-length-23
-    same-length-24
-    same-length-25
-    returns-5
-    same-length-26
-    same-length-27
-    same-length-28
-    same-length-29
-    same-length-30
-    returns-6
-    same-length-31
-    same-length-32
-    same-length-33
-    same-length-34
-    same-length-35
-    returns-7)
+    (tie.spec enum-known-call begin-requires enum-known-call-2 read-requires enum-known-call-3 write-requires enum-known-call-4 seal-requires enum-known-call-5 advance-requires enum-known-call-6 abandon-requires enum-known-call-7 peek-number-requires same-length same-length-2 same-length-3 same-length-4 same-length-5 returns same-length-6 same-length-7 same-length-8 same-length-9 same-length-10 returns-2 same-length-11 same-length-12 same-length-13 same-length-14 same-length-15 returns-3 same-length-16 same-length-17 same-length-18 same-length-19 same-length-20 returns-4 same-length-21 same-length-22 same-length-23 same-length-24 same-length-25 returns-5 same-length-26 same-length-27 same-length-28 same-length-29 same-length-30 returns-6 same-length-31 same-length-32 same-length-33 same-length-34 same-length-35 returns-7)
