@@ -1,6 +1,5 @@
 // The call fields of document 01, section "Call fields": the reader and the writer of one field, the types that they speak of, and, in
 // `exported`, the same two for C.
-mod exported;
 mod little_endian;
 mod tags;
 
