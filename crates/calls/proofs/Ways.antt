@@ -6,7 +6,7 @@ use mathlib.Core.List.{List}
 use Prim.Native.Nat.{ℕ, suc, _+_, _*_, _<_, _≤_}
 use native.Mathlib.Numerals.{add-one}
 use native.Mathlib.Omega.{arith}
-use borrow.Author.Tests.{lt-ltb, le-ltb, lt-leb, le-leb, eq-eqb, ne-eqb, eqb-true, leb-true}
+use borrow.Author.Tests.{lt-ltb, le-ltb, lt-leb, le-leb, eq-eqb, ne-eqb, eqb-true, eqb-false, leb-true}
 use lib.Dec.{ltb, leb, eqb}
 use lib.ListN.{length, getD}
 use Rattle.model.specs.Search.{some?, below}
@@ -155,28 +155,33 @@ module _ (n : ℕ) (log : List ℕ) (x : Session) where
               let w : more ≡ isMore log (x .count) (some k) = rw q at m in
               simp (sym e ∙ h, le-leb 2 (x .phase) l, q, ← w)
 
-  -- the tests of a call of a running session, in their order
-  pub run-phase : (x .phase ≡ 1 → ⊥) → (r : ℕ) → r ≡ tested (recordFits n log x) false → r ≡ tested (recordFits n log x) (eqb (x .phase) 1)
-  run-phase h r e = rw (ne-eqb (x .phase) 1 h) e
+  -- whether the tests of a call of a running session pass, in their order
+  pub runs-phase : (x .phase ≡ 1 → ⊥) → false ≡ eqb (tested (recordFits n log x) (eqb (x .phase) 1)) 0
+  unfolding tested
+  runs-phase h = rw (ne-eqb (x .phase) 1 h) (test (recordFits n log x) (λ w. rw w) (λ w. rw w))
 
   module _ (h : x .phase ≡ 1) where
-    refused-9 : false ≡ entriesFit n log x → 9 ≡ tested (recordFits n log x) (eqb (x .phase) 1)
+    odd : false ≡ entriesFit n log x → false ≡ eqb (tested (recordFits n log x) (eqb (x .phase) 1)) 0
     unfolding tested
-    refused-9 e = rw (sym (record-odd false e refl))
+    odd e = rw (sym (record-odd false e refl))
 
-    pub run-many : 32 < x .count → 9 ≡ tested (recordFits n log x) (eqb (x .phase) 1)
-    run-many i = refused-9 (entries-many (omega arith) i)
+    pub runs-many : 32 < x .count → false ≡ eqb (tested (recordFits n log x) (eqb (x .phase) 1)) 0
+    runs-many i = odd (entries-many (omega arith) i)
 
-    module _ (i : x .count ≤ 32) (b : Bool) (e : b ≡ below n (cellAt log) (x .count)) where
-      cells : b ≡ entriesFit n log x
-      cells = entries-cells (omega arith) (omega arith) i b e
+    pub runs-cells : x .count ≤ 32 → (b : Bool) → b ≡ below n (cellAt log) (x .count) → b ≡ eqb (tested (recordFits n log x) (eqb (x .phase) 1)) 0
+    unfolding tested
+    runs-cells i b e =
+        let f = entries-cells (omega arith) (omega arith) i b e in
+        test b (λ z. z ∙ rw (sym (record-early b f z (omega arith)), eq-eqb (x .phase) 1 h)) (λ z. z ∙ odd (sym z ∙ f))
 
-      pub run-cells : b ≡ false → 9 ≡ tested (recordFits n log x) (eqb (x .phase) 1)
-      run-cells z = refused-9 (sym z ∙ cells)
+  -- so with the answer b: the tests' number is 0, or another
+  module _ (b : Bool) (e : b ≡ eqb (tested (recordFits n log x) (eqb (x .phase) 1)) 0) where
+    pub run-passes : b ≡ true → tested (recordFits n log x) (eqb (x .phase) 1) ≡ 0
+    run-passes z = eqb-true _ 0 (sym e ∙ z)
 
-      pub run-fits : b ≡ true → 0 ≡ tested (recordFits n log x) (eqb (x .phase) 1)
-      unfolding tested
-      run-fits z = rw (sym (record-early b cells z (omega arith)), eq-eqb (x .phase) 1 h)
+    pub run-refused : b ≡ false → (r : ℕ) → r ≡ tested (recordFits n log x) (eqb (x .phase) 1) → (p : Plan) → Refuse r ≡ guard n log x (eqb (x .phase) 1) p
+    unfolding guard
+    run-refused z r o p = turned _ _ r p o (λ i. eqb-false _ 0 (sym e ∙ z) (sym o ∙ i))
 
   -- begin: in phase 0 the record fits, in any other the number is that of the plan
   pub begin-starts : x .phase ≡ 0 → Start ≡ guard n log x (eqb (x .phase) 0) Start
@@ -197,13 +202,13 @@ module _ (n : ℕ) (log : List ℕ) (x : Session) where
     unfolding guard
     guard-refuses z = turned (recordFits n log x) fit r p e z
 
-  -- a running session: r is the number that the tests answered
-  module _ (r : ℕ) (e : r ≡ tested (recordFits n log x) (eqb (x .phase) 1)) (z : r ≡ 0) where
+  -- a running session: t is whether the tests pass
+  module _ (t : Bool) (e : t ≡ eqb (tested (recordFits n log x) (eqb (x .phase) 1)) 0) (z : t ≡ true) where
     whole : recordFits n log x ≡ true
-    whole = passes _ _ (sym e ∙ z) .0
+    whole = passes _ _ (run-passes t e z) .0
 
     runs : eqb (x .phase) 1 ≡ true
-    runs = passes (recordFits n log x) _ (sym e ∙ z) .1
+    runs = passes (recordFits n log x) _ (run-passes t e z) .1
 
     pub few : x .count ≤ 32
     few = let one = eqb-true (x .phase) 1 runs in record-entries whole (omega arith) .count

@@ -178,23 +178,20 @@ pub fn tests(log: &[u32], n: usize, x: Session, fit: bool) -> u8
     0
 }
 
-// The same for a call of a running session. The tests of other phases stand apart, so that a running session is tested by what it needs alone.
-fn running_tests(log: &[u32], n: usize, x: Session) -> u8
+// Whether they pass for a call of a running session. The tests of other phases stand apart, so that a running session is tested by what it needs alone.
+fn runs(log: &[u32], n: usize, x: Session) -> bool
     requires { ⌜ (length (now log) ≡ 128) × (n ≤ 1024) ⌝ }
-    ensures { λ r. ⌜ r ≡ tested (recordFits n (now (log .entry)) x) (eqb (x .phase) 1) ⌝ }
+    ensures { λ r. ⌜ r ≡ eqb (tested (recordFits n (now (log .entry)) x) (eqb (x .phase) 1)) 0 ⌝ }
 {
     let phase = x.phase;
     let count = x.count;
     if phase != 1 {
-        return tests(log, n, x, false);
+        return false;
     }
     if 32 < count {
-        return 9;
+        return false;
     }
-    if !log::all_below(log, count as usize, n as u32) {
-        return 9;
-    }
-    0
+    log::all_below(log, count as usize, n as u32)
 }
 
 // An answer with the locks as they were.
@@ -260,10 +257,10 @@ pub fn read_plan(log: &[u32], n: usize, x: Session, cell: u32) -> Plan
     requires { ⌜ (length (now log) ≡ 128) × (n ≤ 1024) ⌝ }
     ensures { λ r. ⌜ r ≡ readPlan n (now (log .entry)) x free cell ⌝ }
 {
+    let phase = x.phase;
     let count = x.count as usize;
-    let refusal = running_tests(log, n, x);
-    if refusal != 0 {
-        return Plan::Refuse(refusal);
+    if !runs(log, n, x) {
+        return Plan::Refuse(tests(log, n, x, phase == 1));
     }
     if n <= cell as usize {
         return Plan::Refuse(3);
@@ -327,10 +324,10 @@ pub fn write_plan(log: &[u32], classes: &[u8], x: Session, cell: u32, value: u32
     requires { ⌜ (length (now log) ≡ 128) × (length (now classes) ≤ 1024) ⌝ }
     ensures { λ r. ⌜ r ≡ writePlan (now (classes .entry)) (length (now (classes .entry))) (now (log .entry)) x free cell value ⌝ }
 {
+    let phase = x.phase;
     let n = classes.len();
-    let refusal = running_tests(log, n, x);
-    if refusal != 0 {
-        return Plan::Refuse(refusal);
+    if !runs(log, n, x) {
+        return Plan::Refuse(tests(log, n, x, phase == 1));
     }
     let c = cell as usize;
     if n <= c {
@@ -392,10 +389,10 @@ pub fn take_seal(log: &[u32], n: usize, x: Session) -> Turn
     requires { ⌜ (length (now log) ≡ 128) × (n ≤ 1024) ⌝ }
     ensures { λ r. ⌜ TurnsLog (sealPlan n (now (log .entry)) x) log x r ⌝ }
 {
+    let phase = x.phase;
     let count = x.count as usize;
-    let refusal = running_tests(log, n, x);
-    if refusal != 0 {
-        return keeps(Answer::Refused(refusal), x);
+    if !runs(log, n, x) {
+        return keeps(Answer::Refused(tests(log, n, x, phase == 1)), x);
     }
     if log::any_publishes(log, count) {
         let y = x.sealed();
@@ -580,10 +577,10 @@ pub fn peek_plan(log: &[u32], n: usize, x: Session, cell: u32) -> Plan
     requires { ⌜ (length (now log) ≡ 128) × (n ≤ 1024) ⌝ }
     ensures { λ r. ⌜ r ≡ peekPlan n (now (log .entry)) x cell ⌝ }
 {
+    let phase = x.phase;
     let count = x.count as usize;
-    let refusal = running_tests(log, n, x);
-    if refusal != 0 {
-        return Plan::Refuse(refusal);
+    if !runs(log, n, x) {
+        return Plan::Refuse(tests(log, n, x, phase == 1));
     }
     if n <= cell as usize {
         return Plan::Refuse(3);

@@ -1,8 +1,9 @@
 -- The lowest two cells of entries judged each by itself, kept over one entry more; and the entry that an advance handles, with whether
 -- another written cell is left above its cell.
-use Prim.Native.Nat.{ℕ, suc, _+_, _<_, _≤_, min, max}
+use Prim.Native.Nat.{ℕ, suc, _+_, _<_, _≤_}
 use mathlib.Core.Bool.{Bool, true, false}
 use mathlib.Core.List.{List}
+use mathlib.Core.Option.{Option, none, some}
 use mathlib.Core.Path.{_≡_, refl, sym, ap, _∙_}
 use native.Mathlib.Omega.{arith}
 use lib.Dec.{ltb}
@@ -31,7 +32,7 @@ module _ (log : List ℕ) where
 
   -- ---- one entry more
 
-  module _ (n from i low high : ℕ) (w : LowestTwo log n from i low high) where
+  module _ (n from i low high c : ℕ) (e : c ≡ cellAt log i) (w : LowestTwo log n from i low high) where
     low-facts : LowestPublishing log n from i low
     low-facts = lowest-r log n i from low (w .low-is)
 
@@ -49,79 +50,39 @@ module _ (log : List ℕ) where
     two-kept : low ≡ better log from i low → high ≡ better log (suc low) i high → LowestTwo log n from (i + 1) low high
     two-kept a b = record { low-is = lowest-more from (w .low-is) a; high-is = lowest-more (suc low) (w .high-is) b }
 
-    -- the lower cell again
-    pub two-again : (c : ℕ) → c ≡ cellAt log i → c ≡ low → LowestTwo log n from (i + 1) low high
-    two-again c q h = two-kept (lower-above log from i low c q (omega arith)) (lower-before log (suc low) i high c q (omega arith))
+    pub two-unwritten : publishes (entryAt log i) ≡ false → LowestTwo log n from (i + 1) low high
+    two-unwritten p = two-kept (lower-unwritten log from i low c e p) (lower-unwritten log (suc low) i high c e p)
 
-    -- x is the entry's cell, or n where the entry is passed over
-    module _ (x : ℕ) (e : x ≡ better log from i n) (b : cellAt log i < n) where
-      by-entry : {P : Type 0} → (x ≡ cellAt log i → from ≤ cellAt log i → publishes (entryAt log i) ≡ true → P)
-          → (x ≡ n → LowestTwo log n from (i + 1) low high → P) → P
-      by-entry f g =
-          let c = cellAt log i in
-          test (ltb c from)
-          (λ t.
-          let h = ltb-true c from t in
-          let u : c < suc low =
-          test (ltb low n) (λ v. omega (arith, low-facts .place (ltb-true low n v) .3)) (λ v. omega (arith, ltb-false low n v)) in
-          g (e ∙ sym (lower-before log from i n c refl h))
-          (two-kept (lower-before log from i low c refl h) (lower-before log (suc low) i high c refl u)))
-          (λ t.
-          let h = ltb-false c from t in
-          test (publishes (entryAt log i))
-          (λ p. f (e ∙ sym (lower-here log from i n c refl h b p)) h p)
-          (λ p.
-          g (e ∙ sym (lower-unwritten log from i n c refl p))
-          (two-kept (lower-unwritten log from i low c refl p) (lower-unwritten log (suc low) i high c refl p))))
+    pub two-before : c < from → LowestTwo log n from (i + 1) low high
+    two-before h =
+        two-kept (lower-before log from i low c e h)
+        (test (ltb low c)
+        (λ t.
+        let u = ltb-true low c t in
+        lower-above log (suc low) i high c e
+        (test (ltb low n) (λ v. absurd (omega (arith, low-facts .place (ltb-true low n v) .3))) (λ v. omega (arith, ltb-false low n v, high-facts .most))))
+        (λ t. lower-before log (suc low) i high c e (omega (arith, ltb-false low c t))))
 
-      two-above : high ≤ x → LowestTwo log n from (i + 1) low high
-      two-above h =
-          by-entry
-          (λ q f p. two-kept (lower-above log from i low x q (omega (arith, low-high))) (lower-above log (suc low) i high x q h))
-          (λ q k. k)
+    pub two-above : high ≤ c → LowestTwo log n from (i + 1) low high
+    two-above h = two-kept (lower-above log from i low c e (omega (arith, low-high))) (lower-above log (suc low) i high c e h)
 
-      two-lower : x < low → LowestTwo log n from (i + 1) x low
-      two-lower h =
-          by-entry
-          (λ q f p.
-          let raised = lowest-later low-facts (lowest-publishing log n (suc x) i) (omega arith) (omega arith) in
+    pub two-again : low ≤ c → c ≤ low → LowestTwo log n from (i + 1) low high
+    two-again a b = two-kept (lower-above log from i low c e a) (lower-before log (suc low) i high c e (omega arith))
+
+    module _ (p : publishes (entryAt log i) ≡ true) where
+      pub two-lower : from ≤ c → c < low → LowestTwo log n from (i + 1) c low
+      two-lower f h =
+          let raised = lowest-later low-facts (lowest-publishing log n (suc c) i) (omega arith) (omega arith) in
           record {
-            low-is = lowest-more from (w .low-is) (lower-here log from i low x q (omega arith) h p);
-            high-is = lowest-more (suc x) raised (lower-before log (suc x) i low x q (omega arith));
-          })
-          (λ q k. absurd (omega (arith, low-facts .most)))
+            low-is = lowest-more from (w .low-is) (lower-here log from i low c e f h p);
+            high-is = lowest-more (suc c) raised (lower-before log (suc c) i low c e (omega arith));
+          }
 
-      two-between : low < x → x < high → LowestTwo log n from (i + 1) low x
-      two-between a h =
-          by-entry
-          (λ q f p.
-          record {
-            low-is = lowest-more from (w .low-is) (lower-above log from i low x q (omega arith));
-            high-is = lowest-more (suc low) (w .high-is) (lower-here log (suc low) i high x q (omega arith) h p);
-          })
-          (λ q k. absurd (omega (arith, high-facts .most)))
-
-      pub two-step : (cellAt log i ≡ low → ⊥) → (o l h : ℕ) → o ≡ max low x → l ≡ min low x → h ≡ min high o → LowestTwo log n from (i + 1) l h
-      two-step d o l h oe le he =
-          test (ltb x low)
-          (λ t.
-          let u = ltb-true x low t in
-          let a : l ≡ x = omega arith in
-          let b : h ≡ low = omega (arith, low-high) in
-          rw (a, b) (two-lower u))
-          (λ t.
-          let u = ltb-false x low t in
-          let a : l ≡ low = omega arith in
-          test (ltb x high)
-          (λ v.
-          let y = ltb-true x high v in
-          let b : h ≡ x = omega arith in
-          let z : low < x = by-entry (λ q f p. omega arith) (λ q k. absurd (omega (arith, high-facts .most))) in
-          rw (a, b) (two-between z y))
-          (λ v.
-          let y = ltb-false x high v in
-          let b : h ≡ high = omega arith in
-          rw (a, b) (two-above y)))
+      pub two-between : low < c → c < high → LowestTwo log n from (i + 1) low c
+      two-between a b = record {
+        low-is = lowest-more from (w .low-is) (lower-above log from i low c e (omega arith));
+        high-is = lowest-more (suc low) (w .high-is) (lower-here log (suc low) i high c e (omega arith) b p);
+      }
 
   -- ---- the entry handled, and whether another is left
 
@@ -152,7 +113,7 @@ module _ (log : List ℕ) where
       two-none b h = next-none m (omega arith) (turn-ends log n m from low (w .low-is) b h)
 
       module _ (lt : low < n) (k : ℕ) (f : found m k ≡ slotIn log m low) where
-        two-inside : k < m
+        pub two-inside : k < m
         two-inside = turn-inside log n m from low (w .low-is) lt k f
 
         two-cell : cellAt log k ≡ low

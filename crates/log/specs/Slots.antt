@@ -22,11 +22,6 @@ unfoldable pub lowestPublishing : List ℕ → ℕ → ℕ → ℕ → ℕ
 lowestPublishing log n from zero = n
 lowestPublishing log n from (suc k) = better log from k (lowestPublishing log n from k)
 
--- the lowest two such cells of k entries; n for each that there is not
-pub record LowestTwo (log : List ℕ) (n from k low high : ℕ) : Type 0 where
-  pub low-is : low ≡ lowestPublishing log n from k
-  pub high-is : high ≡ lowestPublishing log n (suc low) k
-
 -- the first entry of a cell, where there is a cell
 unfoldable pub slotOf : List ℕ → ℕ → Option ℕ → Option ℕ
 slotOf log m none = none
@@ -36,12 +31,17 @@ slotOf log m (some c) = slotIn log m c
 unfoldable pub targetSlot : List ℕ → ℕ → ℕ → Option ℕ
 targetSlot log m from = slotOf log m (targetIn log m from)
 
--- whether a written cell is left above the cell of an entry, where there is an entry
+-- the lowest two such cells of k entries; n for each that there is not
+pub record LowestTwo (log : List ℕ) (n from k low high : ℕ) : Type 0 where
+  pub low-is : low ≡ lowestPublishing log n from k
+  pub high-is : high ≡ lowestPublishing log n (suc low) k
+
+-- whether a written cell is left above that of an entry
 unfoldable pub isMore : List ℕ → ℕ → Option ℕ → Bool
 isMore log m none = false
 isMore log m (some k) = some? (targetIn log m (suc (cellAt log k)))
 
--- the entry that an advance handles, and whether another written cell is left above its cell
+-- what a next advance is told: the entry that it handles, and whether another is left
 pub record IsNext (log : List ℕ) (m from slot : ℕ) (more : Bool) : Type 0 where
   pub slot-is : found m slot ≡ targetSlot log m from
   pub more-is : more ≡ isMore log m (targetSlot log m from)

@@ -2,7 +2,7 @@
 // Entries are looked at where they lie; contracts are the model's definitions.
 ghost use mathlib.Core.Path.{_≡_};
 ghost use mathlib.Core.Bool.{true, false};
-ghost use Prim.Native.Nat.{_+_, _*_, _<_, _≤_, min, max};
+ghost use Prim.Native.Nat.{ℕ, _+_, _*_, _<_, _≤_};
 ghost use lib.ListN.{length, replicate};
 ghost use Rattle.model.specs.Search.{some?, below};
 ghost use Rattle.model.specs.Buffers.{cellAt, entryAt, slotIn, publishes, targetIn, appended, updated};
@@ -132,77 +132,59 @@ struct Two {
     high: u32,
 }
 
-// Entry i's cell, where it is not below from and publishes; n if not. Both words are read first, so that no branch is needed to choose.
-fn listed(log: &[u32], i: usize, n: u32, from: u32) -> u32
-    requires { ⌜ (4 * i + 3 < length (now log)) × (cellAt (now log) i < n) ⌝ }
-    ensures { λ r. ⌜ r ≡ better (now (log .entry)) from i n ⌝ }
+// The lowest two of the cells held so far and entry i's, where that is not below from and publishes.
+fn lower_two(log: &[u32], i: usize, from: u32, held: Two) -> Two
+    requires { ⌜ 4 * i + 3 < length (now log) ⌝ }
+    ensures { λ r. ⌜ ((n : ℕ) → LowestTwo (now (log .entry)) n from i (held .low) (held .high) → LowestTwo (now (log .entry)) n from (i + 1) (r .low) (r .high)) ⌝ }
 {
     let cell = cell_at(log, i);
-    let written = publishes(log, i);
-    if cell < from {
-        return n;
-    }
-    if written {
-        return cell;
-    }
-    n
-}
-
-// The lesser of two numbers.
-fn lesser(a: u32, b: u32) -> u32
-    ensures { λ r. ⌜ r ≡ min a b ⌝ }
-{
-    if a < b { a } else { b }
-}
-
-// The greater of two numbers.
-fn greater(a: u32, b: u32) -> u32
-    ensures { λ r. ⌜ r ≡ max a b ⌝ }
-{
-    if a < b { b } else { a }
-}
-
-// The lowest two of the cells held so far and entry i's, where that is not below from and publishes.
-fn lower_two(log: &[u32], i: usize, n: u32, from: u32, held: Two) -> Two
-    requires { ⌜ (4 * i + 3 < length (now log)) × (cellAt (now log) i < n) × LowestTwo (now log) n from i (held .low) (held .high) ⌝ }
-    ensures { λ r. ⌜ LowestTwo (now (log .entry)) n from (i + 1) (r .low) (r .high) ⌝ }
-{
     let low = held.low;
     let high = held.high;
-    if cell_at(log, i) == low {
+    if cell < from {
         return held;
     }
-    let cell = listed(log, i, n, from);
-    let other = greater(low, cell);
-    let first = lesser(low, cell);
-    let second = lesser(high, other);
-    Two {
-        low: first,
-        high: second,
+    if high <= cell {
+        return held;
     }
+    if !publishes(log, i) {
+        return held;
+    }
+    if cell < low {
+        return Two {
+            low: cell,
+            high: low,
+        };
+    }
+    if low < cell {
+        return Two {
+            low: low,
+            high: cell,
+        };
+    }
+    held
 }
 
-// The lowest two cells not below from of the first count entries that publish, each judged by itself; n for each that there is not.
+// The lowest two cells not below from and below n of the first count entries that publish, each judged by itself; n for each that there is not.
 fn lowest_two(log: &[u32], count: usize, n: u32, from: u32) -> Two
-    requires { ⌜ (4 * count ≤ length (now log)) × (below n (cellAt (now log)) count ≡ true) ⌝ }
+    requires { ⌜ 4 * count ≤ length (now log) ⌝ }
     ensures { λ r. ⌜ LowestTwo (now (log .entry)) n from count (r .low) (r .high) ⌝ }
 {
     let mut i = 0;
     let mut held = Two { low: n, high: n };
     while i < count {
-        held = lower_two(log, i, n, from, held);
+        held = lower_two(log, i, from, held);
         i += 1;
     }
     held
 }
 
-// The entry that an advance handles, a place not below the count where there is none, and whether another written cell is left above its cell.
+// The entry that an advance handles, count where there is none, and whether another written cell is left above its cell.
 pub struct Next {
     pub slot: usize,
     pub more: bool,
 }
 
-// The entry that an advance handles, and whether another is left, by a search for each.
+// The same by a search for each of the two cells.
 fn next_by_targets(log: &[u32], count: usize, n: u32, from: u32) -> Next
     requires { ⌜ (4 * count ≤ length (now log)) × (n ≤ 1024) × (below n (cellAt (now log)) count ≡ true) ⌝ }
     ensures { λ r. ⌜ IsNext (now (log .entry)) count from (r .slot) (r .more) ⌝ }
@@ -222,8 +204,8 @@ fn next_by_targets(log: &[u32], count: usize, n: u32, from: u32) -> Next
     }
 }
 
-// The entry that an advance handles, and whether another is left. One pass finds the lowest two cells of entries judged each by itself. If their
-// first entries publish, those are the two; if not, a cell has an entry that publishes after one that does not, and each is searched for.
+// The entry that an advance handles, and whether another is left: by one pass where the first entries of the lowest two cells publish,
+// and by a search for each where a later entry of a cell publishes and its first does not.
 pub fn next_two(log: &[u32], count: usize, n: u32, from: u32) -> Next
     requires { ⌜ (4 * count ≤ length (now log)) × (n ≤ 1024) × (below n (cellAt (now log)) count ≡ true) ⌝ }
     ensures { λ r. ⌜ IsNext (now (log .entry)) count from (r .slot) (r .more) ⌝ }

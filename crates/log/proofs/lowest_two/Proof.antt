@@ -2,7 +2,6 @@
 use Prim.Native.Nat.{_≤_, _-_}
 use mathlib.Core.Path.{refl, _≡_}
 use native.Mathlib.Omega.{arith}
-use Rattle.model.proofs.Laws.{below-is}
 use Rattle.log.specs.Slots.{lowestPublishing, LowestTwo}
 use Rattle.log.proofs.lowest_two.Statement.{statement}
 use Rattle.log.proofs.lowest_two.Tie as tie
@@ -18,7 +17,7 @@ unfolding lowestPublishing
 loop-holds c = (omega arith, record { low-is = refl; high-is = refl })
 
 lower-two-requires : tie.Need-lower-two-requires Inv-loop μ-loop
-lower-two-requires c κs = (omega arith, below-is _ _ _ (c .before .before .before .pre .1) _ (c .loop-test .taken), c .before .loop .inv .1)
+lower-two-requires c κs = omega arith
 
 add-i : tie.Need-add-i Inv-loop μ-loop
 add-i c = omega arith
@@ -27,7 +26,7 @@ loop-less : tie.Need-loop-less Inv-loop μ-loop
 loop-less c = omega arith
 
 loop-again : tie.Need-loop-again Inv-loop μ-loop
-loop-again c = (omega arith, c .lower-two .ensures)
+loop-again c = (omega arith, c .lower-two .ensures _ (c .before .before .loop .inv .1))
 
 returns : tie.Need-returns Inv-loop μ-loop
 returns c = let e : c .before .loop .i ≡ c .before .before .before .args .count = omega arith in rw e at (c .before .loop .inv .1)
