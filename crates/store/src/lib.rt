@@ -95,7 +95,7 @@ pub fn begin(
     ensures { λ r. ⌜ TakesOne (Begin session) values classes readers claimants exclusives logs x r ⌝ }
 {
     let n = values.len();
-    let refusal = calls::admit(
+    if !calls::admits(
         n,
         classes.len(),
         readers.len(),
@@ -103,8 +103,16 @@ pub fn begin(
         exclusives.len(),
         logs.len(),
         session,
-    );
-    if refusal != 0 {
+    ) {
+        let refusal = calls::admit(
+            n,
+            classes.len(),
+            readers.len(),
+            claimants.len(),
+            exclusives.len(),
+            logs.len(),
+            session,
+        );
         return SessionReply {
             answer: Answer::Refused(refusal),
             session: x,
@@ -133,7 +141,7 @@ pub fn read(
     ensures { λ r. ⌜ TakesOne (Read session cell) values classes readers claimants exclusives logs x r ⌝ }
 {
     let n = values.len();
-    let refusal = calls::admit(
+    if !calls::admits(
         n,
         classes.len(),
         readers.len(),
@@ -141,8 +149,16 @@ pub fn read(
         exclusives.len(),
         logs.len(),
         session,
-    );
-    if refusal != 0 {
+    ) {
+        let refusal = calls::admit(
+            n,
+            classes.len(),
+            readers.len(),
+            claimants.len(),
+            exclusives.len(),
+            logs.len(),
+            session,
+        );
         return SessionReply {
             answer: Answer::Refused(refusal),
             session: x,
@@ -186,7 +202,7 @@ pub fn write(
     ensures { λ r. ⌜ TakesOne (Write session cell value) values classes readers claimants exclusives logs x r ⌝ }
 {
     let n = values.len();
-    let refusal = calls::admit(
+    if !calls::admits(
         n,
         classes.len(),
         readers.len(),
@@ -194,8 +210,16 @@ pub fn write(
         exclusives.len(),
         logs.len(),
         session,
-    );
-    if refusal != 0 {
+    ) {
+        let refusal = calls::admit(
+            n,
+            classes.len(),
+            readers.len(),
+            claimants.len(),
+            exclusives.len(),
+            logs.len(),
+            session,
+        );
         return SessionReply {
             answer: Answer::Refused(refusal),
             session: x,
@@ -237,7 +261,7 @@ pub fn seal(
     ensures { λ r. ⌜ TakesOne (Seal session) values classes readers claimants exclusives logs x r ⌝ }
 {
     let n = values.len();
-    let refusal = calls::admit(
+    if !calls::admits(
         n,
         classes.len(),
         readers.len(),
@@ -245,8 +269,16 @@ pub fn seal(
         exclusives.len(),
         logs.len(),
         session,
-    );
-    if refusal != 0 {
+    ) {
+        let refusal = calls::admit(
+            n,
+            classes.len(),
+            readers.len(),
+            claimants.len(),
+            exclusives.len(),
+            logs.len(),
+            session,
+        );
         return SessionReply {
             answer: Answer::Refused(refusal),
             session: x,
@@ -277,7 +309,7 @@ pub fn advance(
     ensures { λ r. ⌜ TakesOne (Advance session) values classes readers claimants exclusives logs x r ⌝ }
 {
     let n = values.len();
-    let refusal = calls::admit(
+    if !calls::admits(
         n,
         classes.len(),
         readers.len(),
@@ -285,8 +317,16 @@ pub fn advance(
         exclusives.len(),
         logs.len(),
         session,
-    );
-    if refusal != 0 {
+    ) {
+        let refusal = calls::admit(
+            n,
+            classes.len(),
+            readers.len(),
+            claimants.len(),
+            exclusives.len(),
+            logs.len(),
+            session,
+        );
         return SessionReply {
             answer: Answer::Refused(refusal),
             session: x,
@@ -329,7 +369,7 @@ pub fn abandon(
     ensures { λ r. ⌜ TakesOne (Abandon session) values classes readers claimants exclusives logs x r ⌝ }
 {
     let n = values.len();
-    let refusal = calls::admit(
+    if !calls::admits(
         n,
         classes.len(),
         readers.len(),
@@ -337,8 +377,16 @@ pub fn abandon(
         exclusives.len(),
         logs.len(),
         session,
-    );
-    if refusal != 0 {
+    ) {
+        let refusal = calls::admit(
+            n,
+            classes.len(),
+            readers.len(),
+            claimants.len(),
+            exclusives.len(),
+            logs.len(),
+            session,
+        );
         return SessionReply {
             answer: Answer::Refused(refusal),
             session: x,
@@ -380,7 +428,7 @@ pub fn peek_plan(
     ensures { λ r. ⌜ PeekPlans session cell values classes readers claimants exclusives logs x r ⌝ }
 {
     let n = values.len();
-    let refusal = calls::admit(
+    if !calls::admits(
         n,
         classes.len(),
         readers.len(),
@@ -388,9 +436,16 @@ pub fn peek_plan(
         exclusives.len(),
         logs.len(),
         session,
-    );
-    if refusal != 0 {
-        return Plan::Refuse(refusal);
+    ) {
+        return Plan::Refuse(calls::admit(
+            n,
+            classes.len(),
+            readers.len(),
+            claimants.len(),
+            exclusives.len(),
+            logs.len(),
+            session,
+        ));
     }
     let a = 128 * (session as usize);
     let e = a + 128;

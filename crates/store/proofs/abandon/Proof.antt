@@ -1,11 +1,12 @@
 -- `store::abandon` meets its contract: 7 and 1 are the model's; past them the turn is, and the session withdraws.
 use mathlib.Core.Path.{_≡_, refl, sym, ap, _∙_}
-use Rattle.model.specs.Buffers.{Buffers, lockAt}
+use borrow.Author.Tests.{not-true, not-false}
+use Rattle.model.specs.Buffers.{Buffers}
 use Rattle.model.specs.Plans.{plan}
 use Rattle.model.specs.declared.Call.the-variants.{Abandon}
 use Rattle.locks.specs.Changes.{ChangeFits}
 use lib.ListN.{length}
-use Rattle.calls.proofs.Lengths.{Admitted, admitted, refused}
+use Rattle.calls.proofs.Lengths.{Admitted, admitted-by, refused-by}
 use Rattle.calls.proofs.Logs.{cut-long, log-start, log-stop, log-bytes, log-some}
 use Rattle.calls.proofs.Logs.{cut}
 use Rattle.calls.proofs.Whole.{can-change, takes-same}
@@ -20,18 +21,21 @@ abbrev lent : tie.Start → Buffers
 lent c = buffersOf (c .args .values .now) (c .args .classes .now) (c .args .readers .now) (c .args .claimants .now) (c .args .exclusives .now) (c .args .logs .now)
 
 fits : (c : tie.Else1) → Admitted (lent (c .before .before .before .before .before .before .before .before)) (c .before .before .before .before .before .before .before .before .args .session)
-fits c = admitted (lent (c .before .before .before .before .before .before .before .before)) _ _ (c .before .admit .ensures) (c .if1 .left)
+fits c = admitted-by (lent (c .before .before .before .before .before .before .before .before)) _ _ (c .before .admits .ensures) (not-false _ (c .if1 .left))
 
 -- the change can be carried out
 changes : (c : tie.After-take-abandon) → ChangeFits (c .take-abandon .result .change) (c .before .before .before .before .before .before .before .before .before .before .args .session) (cut (c .before .before .before .before .before .before .before .before .before .before .args .logs .now) (c .before .before .before .before .before .before .before .before .before .before .args .session)) (c .before .before .before .before .before .before .before .before .before .before .args .x .count) (length (c .before .before .before .before .before .before .before .before .before .before .args .values .now))
 unfolding plan
 changes c = can-change (Abandon _) (lent (c .before .before .before .before .before .before .before .before .before .before)) _ _ refl (fits (c .before .before)) _ refl _ _ _ _ _ (c .take-abandon .ensures (c .before .before .before .before .before .before .before .before .before .before .args .values .now))
 
+admits-requires : tie.Need-admits-requires
+admits-requires c κs = tt
+
 admit-requires : tie.Need-admit-requires
 admit-requires c κs = tt
 
 returns : tie.Need-returns
-returns c = refused (lent (c .before .before .before .before .before .before .before .before)) _ _ (c .before .admit .ensures) (Abandon _) refl (c .if1 .taken) _
+returns c = refused-by (lent (c .before .before .before .before .before .before .before .before .before)) _ _ (c .before .before .admits .ensures) (not-true _ (c .before .if1 .taken)) _ (c .admit .ensures) (Abandon _) refl _
 
 mul-a : tie.Need-mul-a
 mul-a c = log-start _ (fits (c) .low)
@@ -85,4 +89,4 @@ returns-2 c = let t = c .before .before .before .before .before .before .before 
 pub abandon-spec : {M : Type 1} → statement M
 abandon-spec =
     tie.close
-    (tie.spec admit-requires returns mul-a add-e mul-take-abandon sub-take-abandon part-take-abandon-start part-take-abandon-end take-abandon-requires (λ c. search needs) mul-change-withdraw sub-change-withdraw part-change-withdraw-start part-change-withdraw-end change-withdraw-requires same-length same-length-2 same-length-3 returns-2)
+    (tie.spec admits-requires admit-requires returns mul-a add-e mul-take-abandon sub-take-abandon part-take-abandon-start part-take-abandon-end take-abandon-requires (λ c. search needs) mul-change-withdraw sub-change-withdraw part-change-withdraw-start part-change-withdraw-end change-withdraw-requires same-length same-length-2 same-length-3 returns-2)

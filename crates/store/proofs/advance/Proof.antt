@@ -1,6 +1,7 @@
 -- `store::advance` meets its contract: 7 and 1 are the model's; past them the turn at the entry that is due is, with the lock of its cell, and the change of the locks.
 use mathlib.Core.Path.{_≡_, refl, sym, ap, _∙_}
-use Rattle.model.specs.Buffers.{Buffers, lockAt}
+use borrow.Author.Tests.{not-true, not-false}
+use Rattle.model.specs.Buffers.{Buffers}
 use lib.ListN.{length}
 use Rattle.model.specs.declared.Call.the-variants.{Advance}
 use Rattle.calls.specs.Pieces.{duePlan}
@@ -8,7 +9,7 @@ use Rattle.calls.proofs.Agree.{due-fits}
 use Rattle.store.proofs.Forms.{fits-cells, even, log-inside, can-withdraw, one-and-withdraw, change-is, advance-planned, advance-drops-none}
 use Rattle.locks.specs.Changes.{dropOf, ChangeFits}
 use Rattle.locks.proofs.Changes.{one-fits}
-use Rattle.calls.proofs.Lengths.{Admitted, admitted, refused}
+use Rattle.calls.proofs.Lengths.{Admitted, admitted-by, refused-by}
 use Rattle.calls.proofs.Logs.{cut-long, log-start, log-stop, log-bytes, log-some}
 use Rattle.calls.proofs.Logs.{cut}
 use Rattle.calls.proofs.Whole.{planIn, can-change, takes-same}
@@ -22,7 +23,7 @@ abbrev lent : tie.Start → Buffers
 lent c = buffersOf (c .args .values .now) (c .args .classes .now) (c .args .readers .now) (c .args .claimants .now) (c .args .exclusives .now) (c .args .logs .now)
 
 fits : (c : tie.Else1) → Admitted (lent (c .before .before .before .before .before .before .before .before)) (c .before .before .before .before .before .before .before .before .args .session)
-fits c = admitted (lent (c .before .before .before .before .before .before .before .before)) _ _ (c .before .admit .ensures) (c .if1 .left)
+fits c = admitted-by (lent (c .before .before .before .before .before .before .before .before)) _ _ (c .before .admits .ensures) (not-false _ (c .if1 .left))
 
 -- what is decided with the lock that was looked up is the plan
 planned : (c : tie.After-take-advance) → duePlan (c .before .before .before .before .before .before .before .before .before .before .before .before .before .before .before .before .before .before .before .args .session) (cut (c .before .before .before .before .before .before .before .before .before .before .before .before .before .before .before .before .before .before .before .args .logs .now) (c .before .before .before .before .before .before .before .before .before .before .before .before .before .before .before .before .before .before .before .args .session)) (c .before .before .before .before .before .before .before .before .before .before .before .before .before .before .before .before .before .before .before .args .x) (c .before .before .before .at .result) (c .before .before .before .before .before .before .before .before .before .due-slot .result) ≡ planIn (Advance (c .before .before .before .before .before .before .before .before .before .before .before .before .before .before .before .before .before .before .before .args .session)) (lent (c .before .before .before .before .before .before .before .before .before .before .before .before .before .before .before .before .before .before .before)) (c .before .before .before .before .before .before .before .before .before .before .before .before .before .before .before .before .before .before .before .args .x)
@@ -32,11 +33,14 @@ planned c = advance-planned _ _ _ _ _ (lent (c .before .before .before .before .
 changes : (c : tie.After-take-advance) → ChangeFits (c .take-advance .result .change) (c .before .before .before .before .before .before .before .before .before .before .before .before .before .before .before .before .before .before .before .args .session) (cut (c .before .before .before .before .before .before .before .before .before .before .before .before .before .before .before .before .before .before .before .args .logs .now) (c .before .before .before .before .before .before .before .before .before .before .before .before .before .before .before .before .before .before .before .args .session)) (c .before .before .before .before .before .before .before .before .before .before .before .before .before .before .before .before .before .before .before .args .x .count) (length (c .before .before .before .before .before .before .before .before .before .before .before .before .before .before .before .before .before .before .before .args .values .now))
 changes c = can-change (Advance _) (lent (c .before .before .before .before .before .before .before .before .before .before .before .before .before .before .before .before .before .before .before)) _ _ refl (fits (c .before .before .before .before .before .before .before .before .before .before .before)) _ (planned c) _ _ _ _ _ (c .take-advance .ensures)
 
+admits-requires : tie.Need-admits-requires
+admits-requires c κs = tt
+
 admit-requires : tie.Need-admit-requires
 admit-requires c κs = tt
 
 returns : tie.Need-returns
-returns c = refused (lent (c .before .before .before .before .before .before .before .before)) _ _ (c .before .admit .ensures) (Advance _) refl (c .if1 .taken) _
+returns c = refused-by (lent (c .before .before .before .before .before .before .before .before .before)) _ _ (c .before .before .admits .ensures) (not-true _ (c .before .if1 .taken)) _ (c .admit .ensures) (Advance _) refl _
 
 mul-a : tie.Need-mul-a
 mul-a c = log-start _ (fits (c) .low)
@@ -128,4 +132,4 @@ returns-2 c = let t = c .before .before .before .before .before .before .before 
 pub advance-spec : {M : Type 1} → statement M
 advance-spec =
     tie.close
-    (tie.spec admit-requires returns mul-a add-e mul-due-slot sub-due-slot part-due-slot-start part-due-slot-end due-slot-requires mul-due-cell sub-due-cell part-due-cell-start part-due-cell-end due-cell-requires at-requires mul-take-advance sub-take-advance part-take-advance-start part-take-advance-end take-advance-requires (λ c. search needs) change-one-requires mul-change-withdraw sub-change-withdraw part-change-withdraw-start part-change-withdraw-end change-withdraw-requires same-length same-length-2 same-length-3 same-length-4 returns-2)
+    (tie.spec admits-requires admit-requires returns mul-a add-e mul-due-slot sub-due-slot part-due-slot-start part-due-slot-end due-slot-requires mul-due-cell sub-due-cell part-due-cell-start part-due-cell-end due-cell-requires at-requires mul-take-advance sub-take-advance part-take-advance-start part-take-advance-end take-advance-requires (λ c. search needs) change-one-requires mul-change-withdraw sub-change-withdraw part-change-withdraw-start part-change-withdraw-end change-withdraw-requires same-length same-length-2 same-length-3 same-length-4 returns-2)

@@ -1,9 +1,10 @@
 -- `store::begin` meets its contract: 7 and 1 are the model's; past them the turn is, and no lock changes.
 use mathlib.Core.Path.{_≡_, refl, sym, ap, _∙_}
-use Rattle.model.specs.Buffers.{Buffers, lockAt}
+use borrow.Author.Tests.{not-true, not-false}
+use Rattle.model.specs.Buffers.{Buffers}
 use Rattle.model.specs.Plans.{plan}
 use Rattle.model.specs.declared.Call.the-variants.{Begin}
-use Rattle.calls.proofs.Lengths.{Admitted, admitted, refused}
+use Rattle.calls.proofs.Lengths.{Admitted, admitted-by, refused-by}
 use Rattle.calls.proofs.Logs.{cut-long, log-start, log-stop, log-bytes, log-some}
 use Rattle.calls.proofs.Whole.{takes-same}
 use Rattle.store.proofs.Forms.{log-inside, no-change, change-is, begin-keeps}
@@ -16,13 +17,16 @@ abbrev lent : tie.Start → Buffers
 lent c = buffersOf (c .args .values .now) (c .args .classes .now) (c .args .readers .now) (c .args .claimants .now) (c .args .exclusives .now) (c .args .logs .now)
 
 fits : (c : tie.Else1) → Admitted (lent (c .before .before .before .before .before .before .before .before)) (c .before .before .before .before .before .before .before .before .args .session)
-fits c = admitted (lent (c .before .before .before .before .before .before .before .before)) _ _ (c .before .admit .ensures) (c .if1 .left)
+fits c = admitted-by (lent (c .before .before .before .before .before .before .before .before)) _ _ (c .before .admits .ensures) (not-false _ (c .if1 .left))
+
+admits-requires : tie.Need-admits-requires
+admits-requires c κs = tt
 
 admit-requires : tie.Need-admit-requires
 admit-requires c κs = tt
 
 returns : tie.Need-returns
-returns c = refused (lent (c .before .before .before .before .before .before .before .before)) _ _ (c .before .admit .ensures) (Begin _) refl (c .if1 .taken) _
+returns c = refused-by (lent (c .before .before .before .before .before .before .before .before .before)) _ _ (c .before .before .admits .ensures) (not-true _ (c .before .if1 .taken)) _ (c .admit .ensures) (Begin _) refl _
 
 mul-a : tie.Need-mul-a
 mul-a c = log-start _ (fits (c) .low)
@@ -52,4 +56,4 @@ returns-2 c = let t = c .before .take-begin .ensures (c .before .before .before 
 pub begin-spec : {M : Type 1} → statement M
 begin-spec =
     tie.close
-    (tie.spec admit-requires returns mul-a add-e mul-take-begin sub-take-begin part-take-begin-start part-take-begin-end take-begin-requires returns-2)
+    (tie.spec admits-requires admit-requires returns mul-a add-e mul-take-begin sub-take-begin part-take-begin-start part-take-begin-end take-begin-requires returns-2)

@@ -1,9 +1,10 @@
 -- `store::peek_plan` meets its contract: refused by 7 or 1, or what is decided from the session's log and record.
 use mathlib.Core.Path.{_≡_, refl, sym, ap, _∙_}
-use Rattle.model.specs.Buffers.{Buffers, lockAt}
+use borrow.Author.Tests.{not-true, not-false}
+use Rattle.model.specs.Buffers.{Buffers}
 use Rattle.model.specs.Plans.{plan}
 use Rattle.model.specs.declared.Call.the-variants.{Peek}
-use Rattle.calls.proofs.Lengths.{Admitted, admitted, plan-refused}
+use Rattle.calls.proofs.Lengths.{Admitted, admitted-by, plan-refused-by}
 use Rattle.calls.proofs.Logs.{cut-long, log-start, log-stop, log-bytes, log-some}
 use Rattle.calls.proofs.Whole.{is-plan}
 use Rattle.store.proofs.Forms.{log-inside}
@@ -16,13 +17,16 @@ abbrev lent : tie.Start → Buffers
 lent c = buffersOf (c .args .values .now) (c .args .classes .now) (c .args .readers .now) (c .args .claimants .now) (c .args .exclusives .now) (c .args .logs .now)
 
 fits : (c : tie.Else1) → Admitted (lent (c .before .before .before .before .before .before .before .before)) (c .before .before .before .before .before .before .before .before .args .session)
-fits c = admitted (lent (c .before .before .before .before .before .before .before .before)) _ _ (c .before .admit .ensures) (c .if1 .left)
+fits c = admitted-by (lent (c .before .before .before .before .before .before .before .before)) _ _ (c .before .admits .ensures) (not-false _ (c .if1 .left))
+
+admits-requires : tie.Need-admits-requires
+admits-requires c κs = tt
 
 admit-requires : tie.Need-admit-requires
 admit-requires c κs = tt
 
 returns : tie.Need-returns
-returns c = λ ss o. plan-refused (lent (c .before .before .before .before .before .before .before .before)) _ _ (c .before .admit .ensures) (Peek _ _) refl (c .if1 .taken) _ refl
+returns c = λ ss o. plan-refused-by (lent (c .before .before .before .before .before .before .before .before .before)) _ _ (c .before .before .admits .ensures) (not-true _ (c .before .if1 .taken)) _ (c .admit .ensures) (Peek _ _) refl _ refl
 
 mul-a : tie.Need-mul-a
 mul-a c = log-start _ (fits (c) .low)
@@ -52,4 +56,4 @@ returns-2 c = λ ss o. c .peek-plan .ensures ∙ is-plan (Peek _ _) (lent (c .be
 pub peek-plan-spec : {M : Type 1} → statement M
 peek-plan-spec =
     tie.close
-    (tie.spec admit-requires returns mul-a add-e mul-peek-plan sub-peek-plan part-peek-plan-start part-peek-plan-end peek-plan-requires returns-2)
+    (tie.spec admits-requires admit-requires returns mul-a add-e mul-peek-plan sub-peek-plan part-peek-plan-start part-peek-plan-end peek-plan-requires returns-2)

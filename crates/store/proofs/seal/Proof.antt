@@ -1,11 +1,12 @@
 -- `store::seal` meets its contract: 7 and 1 are the model's; past them the turn is, and the session leaves the readers of what it did not write.
 use mathlib.Core.Path.{_≡_, refl, sym, ap, _∙_}
-use Rattle.model.specs.Buffers.{Buffers, lockAt}
+use borrow.Author.Tests.{not-true, not-false}
+use Rattle.model.specs.Buffers.{Buffers}
 use Rattle.model.specs.Plans.{plan}
 use Rattle.model.specs.declared.Call.the-variants.{Seal}
 use Rattle.locks.specs.Changes.{ChangeFits}
 use lib.ListN.{length}
-use Rattle.calls.proofs.Lengths.{Admitted, admitted, refused}
+use Rattle.calls.proofs.Lengths.{Admitted, admitted-by, refused-by}
 use Rattle.calls.proofs.Logs.{cut-long, log-start, log-stop, log-bytes, log-some}
 use Rattle.calls.proofs.Logs.{cut}
 use Rattle.calls.proofs.Whole.{can-change, takes-same}
@@ -20,18 +21,21 @@ abbrev lent : tie.Start → Buffers
 lent c = buffersOf (c .args .values .now) (c .args .classes .now) (c .args .readers .now) (c .args .claimants .now) (c .args .exclusives .now) (c .args .logs .now)
 
 fits : (c : tie.Else1) → Admitted (lent (c .before .before .before .before .before .before .before .before)) (c .before .before .before .before .before .before .before .before .args .session)
-fits c = admitted (lent (c .before .before .before .before .before .before .before .before)) _ _ (c .before .admit .ensures) (c .if1 .left)
+fits c = admitted-by (lent (c .before .before .before .before .before .before .before .before)) _ _ (c .before .admits .ensures) (not-false _ (c .if1 .left))
 
 -- the change can be carried out
 changes : (c : tie.After-take-seal) → ChangeFits (c .take-seal .result .change) (c .before .before .before .before .before .before .before .before .before .before .args .session) (cut (c .before .before .before .before .before .before .before .before .before .before .args .logs .now) (c .before .before .before .before .before .before .before .before .before .before .args .session)) (c .before .before .before .before .before .before .before .before .before .before .args .x .count) (length (c .before .before .before .before .before .before .before .before .before .before .args .values .now))
 unfolding plan
 changes c = can-change (Seal _) (lent (c .before .before .before .before .before .before .before .before .before .before)) _ _ refl (fits (c .before .before)) _ refl _ _ _ _ _ (c .take-seal .ensures (c .before .before .before .before .before .before .before .before .before .before .args .values .now))
 
+admits-requires : tie.Need-admits-requires
+admits-requires c κs = tt
+
 admit-requires : tie.Need-admit-requires
 admit-requires c κs = tt
 
 returns : tie.Need-returns
-returns c = refused (lent (c .before .before .before .before .before .before .before .before)) _ _ (c .before .admit .ensures) (Seal _) refl (c .if1 .taken) _
+returns c = refused-by (lent (c .before .before .before .before .before .before .before .before .before)) _ _ (c .before .before .admits .ensures) (not-true _ (c .before .if1 .taken)) _ (c .admit .ensures) (Seal _) refl _
 
 mul-a : tie.Need-mul-a
 mul-a c = log-start _ (fits (c) .low)
@@ -79,4 +83,4 @@ returns-2 c = let t = c .before .before .before .before .before .before .before 
 pub seal-spec : {M : Type 1} → statement M
 seal-spec =
     tie.close
-    (tie.spec admit-requires returns mul-a add-e mul-take-seal sub-take-seal part-take-seal-start part-take-seal-end take-seal-requires (λ c. search needs) mul-change-drop sub-change-drop part-change-drop-start part-change-drop-end change-drop-requires same-length returns-2)
+    (tie.spec admits-requires admit-requires returns mul-a add-e mul-take-seal sub-take-seal part-take-seal-start part-take-seal-end take-seal-requires (λ c. search needs) mul-change-drop sub-change-drop part-change-drop-start part-change-drop-end change-drop-requires same-length returns-2)
