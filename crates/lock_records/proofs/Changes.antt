@@ -53,7 +53,7 @@ unzipped-on : (f : Lock → Lock) (L : List Lock) (c : ℕ) → unzipped (set L 
 unfolding onLock
 unzipped-on f L c = unzipped-set L c (f (lockIn L c)) ∙ ap (λ (l : Lock). setLock c (f l) (unzipped L)) (sym (unzipped-at L c))
 
--- ---- all of a change of the entries' cells
+-- ---- a change of each entry's cell
 
 module _ (W : List ℕ) (s m : ℕ) (L : List Lock) where
   withdraws-to : (k : ℕ) → unzipped (swept W (Withdraw s m) k L) ≡ rolledBack (logIn W s) k s (unzipped L)

@@ -1,6 +1,5 @@
 -- A call on every run of the length given, with the lock given: refused by 7 or 1, or its turn put back, with its change carried out on the run.
 use mathlib.Core.Path.{_≡_, refl, sym, ap, _∙_}
-use mathlib.Core.Bool.{true}
 use mathlib.Core.List.{List}
 use Prim.Native.Nat.{ℕ, _%_, _<_, _≤_}
 use native.Mathlib.Omega.{arith}
@@ -8,7 +7,7 @@ use borrow.Author.Tests.{ne-eqb}
 use lib.ListN.{length, getD, set, replicate, length-replicate}
 use Rattle.model.specs.Buffers.{free, idle, sessionAt, withSession, logIn, lockAt, lengthsMatch}
 use Rattle.model.specs.Plans.{plan}
-use Rattle.model.specs.Step.{outcome, effect, planOf, sessionOf}
+use Rattle.model.specs.Step.{planOf, sessionOf}
 use Rattle.model.specs.Turns.{TurnEffect, leaves, turnOf, changed}
 use Rattle.model.specs.declared.Session.{Session}
 use Rattle.model.specs.declared.Sessions.{Sessions}
@@ -29,7 +28,7 @@ use Rattle.calls.proofs.Logs.{cut, puts, cut-is, cut-long, cut-put, put-length}
 use Rattle.calls.proofs.Whole.{planIn, takes-put}
 use Rattle.lock_records.specs.declared.Change.{Change}
 use Rattle.lock_records.specs.declared.Turn.{Turn}
-use Rattle.lock_records.specs.Run.{unzipped, lentOn, storeOn, lockIn, countOf, swept, sweptBy, ChangeFits, onRun}
+use Rattle.lock_records.specs.Run.{unzipped, lentOn, storeOn, lockIn, countOf, swept, sweptBy, onRun}
 use Rattle.lock_records.specs.Turns.{cellFor, lookOf, planWith, onlyAnswer, IsTurn}
 use Rattle.lock_records.proofs.Changes.{each-length, unzipped-at, changes, change-fits}
 
@@ -71,6 +70,15 @@ module _ (n k m : ℕ) (W : List ℕ) (s r : ℕ) (e : r ≡ admission (lengthsM
     pub log-long : (length (cut W s) ≡ 128) × (n ≤ 1024)
     log-long = (cut-long W s words low, few)
 
+-- a session's record, as the model names its place
+module _ (ss : Sessions) (s t : ℕ) (small : s < 16) (i : s ≡ t) where
+  pub mine : t % 16 ≡ s
+  mine = omega arith
+
+  pub is-mine : sessionAt ss (t % 16) ≡ getD (ss .records) s idle
+  unfolding sessionAt
+  is-mine = rw mine
+
 -- ---- one lock
 
 -- a plan reads the lock of one cell
@@ -111,17 +119,17 @@ module _ (k : Call) (vs cs W : List ℕ) (ss : Sessions) (m : ℕ) (l : Lock) (s
     abbrev x : Session
     x = getD (ss .records) s idle
 
-    mine : sessionOf k % 16 ≡ s
-    mine = let h = low (length vs) (length cs) m W s r e z in omega arith
+    own : s < 16
+    own = low (length vs) (length cs) m W s r e z
 
-    is-mine : sessionAt ss (sessionOf k % 16) ≡ x
-    unfolding sessionAt
-    is-mine = rw mine
+    long : length W ≡ 2048
+    long = words (length vs) (length cs) m W s r e z
 
     -- the lock that was looked up is the one that the plan reads
     with-lock : (L : List Lock) → lockIn L (lookOf k ss (length vs) (length cs) m W) ≡ l → planWith k (length vs) cs (cut W s) x l ≡ planIn k (lentOn vs cs L W) x
     with-lock L g =
-        let h : l ≡ lockAt (unzipped L) (cellFor k (length vs) (cut W s) x) = sym g ∙ sym (unzipped-at L _) ∙ ap (lockAt (unzipped L)) (sym (looks k ss (length vs) (length cs) m W s i r e z _ refl)) in
+        let there : lookOf k ss (length vs) (length cs) m W ≡ cellFor k (length vs) (cut W s) x = sym (looks k ss (length vs) (length cs) m W s i r e z _ refl) in
+        let h : l ≡ lockAt (unzipped L) (cellFor k (length vs) (cut W s) x) = sym g ∙ sym (unzipped-at L _) ∙ ap (lockAt (unzipped L)) there in
         rw (← i) (rw h (one-lock k (length vs) cs (cut W s) x (lockAt (unzipped L))))
 
     -- t is the turn, which left the values vs′ and the log W′
@@ -129,16 +137,14 @@ module _ (k : Call) (vs cs W : List ℕ) (ss : Sessions) (m : ℕ) (l : Lock) (s
         (h : leaves (t .answer) vs′ W′ (t .session) (t .change) ≡ turnOf (planWith k (length vs) cs (cut W s) x l) vs (cut W s) x) where
       can-change : Fits (t .change) s W′ (x .count) (length vs)
       can-change =
-          let y = low (length vs) (length cs) m W s r e z in let d = log-long (length vs) (length cs) m W s r e z in
-          rw (← h) at (call-fits (length vs) (cut W s) x s vs y (d .0) (d .1) cs (λ c. l) k _ refl)
+          let d = log-long (length vs) (length cs) m W s r e z in
+          rw (← h) at (call-fits (length vs) (cut W s) x s vs own (d .0) (d .1) cs (λ c. l) k _ refl)
 
-      long : length (puts W s W′) ≡ 2048
-      long = let w = words (length vs) (length cs) m W s r e z in put-length s (low (length vs) (length cs) m W s r e z) W w W′ whole ∙ w
+      still : length (puts W s W′) ≡ 2048
+      still = put-length s own W long W′ whole ∙ long
 
       back : logIn (puts W s W′) s ≡ W′
-      back =
-          sym (cut-is (puts W s W′) s)
-          ∙ cut-put s (low (length vs) (length cs) m W s r e z) W (words (length vs) (length cs) m W s r e z) W′ whole
+      back = sym (cut-is (puts W s W′) s) ∙ cut-put s own W long W′ whole
 
       swept-run : (L : List Lock) → length L ≡ m → unzipped (sweptBy (puts W s W′) (onRun (t .change) s (x .count)) L) ≡ changed (t .change) W′ (x .count) s (unzipped L)
       swept-run L q =
@@ -150,9 +156,9 @@ module _ (k : Call) (vs cs W : List ℕ) (ss : Sessions) (m : ℕ) (l : Lock) (s
       unfolding withSession
       taken d f =
           rw f (
-            change-fits (t .change) (puts W s W′) W′ s (x .count) (length vs) (low (length vs) (length cs) m W s r e z) whole long can-change,
+            change-fits (t .change) (puts W s W′) W′ s (x .count) (length vs) own whole still can-change,
             λ L q g.
-                rw mine at
+                rw (mine ss s (sessionOf k) own i) at
                 (takes-put k (lentOn vs cs L W) x s i (admits (length vs) (length cs) m W s r e vs cs L refl refl q z) _ (with-lock L g) (t .answer) vs′ W′ (t .session) (t .change) h
-                (unzipped (sweptBy (puts W s W′) (onRun (t .change) s (x .count)) L)) (swept-run L q) ss is-mine),
+                (unzipped (sweptBy (puts W s W′) (onRun (t .change) s (x .count)) L)) (swept-run L q) ss (is-mine ss s (sessionOf k) own i)),
           )

@@ -1,10 +1,9 @@
 -- The calls that leave the run, the values and the logs as they are, of every such list of the lengths given: begin's reply; a peek's turn, plan, number and part.
-use mathlib.Core.Path.{_≡_, refl, sym, ap, _∙_}
+use mathlib.Core.Path.{_≡_, refl, ap, _∙_}
 use mathlib.Core.Bool.{Bool}
 use mathlib.Core.Option.{Option, none, some}
 use mathlib.Core.List.{List, []}
-use Prim.Native.Nat.{ℕ, _+_, _*_, _%_, _≤_}
-use native.Mathlib.Omega.{arith}
+use Prim.Native.Nat.{ℕ, _+_, _*_, _≤_}
 use borrow.Rule.Slice.PartAt.{slPart}
 use borrow.Rule.Slice.Shared.{bySize}
 use base.Fml.{GName}
@@ -13,18 +12,16 @@ use lib.Dec.{ltb, eqb}
 use lib.ListN.{length, getD, set, replicate, length-replicate}
 use Rattle.model.specs.Buffers.{Store, size, free, idle, sessionAt, withSession, entryAt, slotIn, lengthsMatch}
 use Rattle.model.specs.Plans.{recordFits, guard, known, peekSlot, peekPlan, plan}
-use Rattle.model.specs.Step.{planOf, sessionOf}
+use Rattle.model.specs.Step.{planOf}
 use Rattle.model.specs.Turns.{TurnEffect, leaves, turnOf, changed}
 use Rattle.model.specs.declared.Session.{Session}
 use Rattle.model.specs.declared.Sessions.{Sessions}
 use Rattle.model.specs.declared.Lock.{Lock}
 use Rattle.model.specs.declared.Turn.{Turn as CallTurn}
 use Rattle.model.specs.declared.Answer.the-variants.{Done, Refused}
-use Rattle.model.specs.declared.Change.{Change}
 use Rattle.model.specs.declared.Change.the-variants.{Keep}
 use Rattle.model.specs.declared.Plan.{Plan}
 use Rattle.model.specs.declared.Plan.the-variants.{Refuse, Start, ShowStore, ShowLog}
-use Rattle.model.specs.declared.Call.{Call}
 use Rattle.model.specs.declared.Call.the-variants.{Begin, Peek}
 use Rattle.model.proofs.Tools.{split}
 use Rattle.locks.proofs.Tags.{Passed, passed}
@@ -35,7 +32,7 @@ use Rattle.calls.proofs.Whole.{planned, takes-same}
 use Rattle.calls.proofs.Peeks.{peek-inside, peek-logged, peek-refused, peek-done, hands-store, hands-log, hands-nothing}
 use Rattle.lock_records.specs.Run.{unzipped, lentOn, storeOn}
 use Rattle.lock_records.specs.Turns.{IsReply, IsPeekPlan, IsPeekPart}
-use Rattle.lock_records.proofs.OnRun.{refuses, admits, low}
+use Rattle.lock_records.proofs.OnRun.{refuses, admits, low, mine, is-mine}
 
 -- ---- turns
 
@@ -87,21 +84,15 @@ module _ (n k m : ℕ) (W : List ℕ) (ss : Sessions) (s r : ℕ) (e : r ≡ adm
   peek-refuses c h vs cs L i j q = refuses n k m W s r e vs cs L i j q (Peek s c) refl h ss
 
   module _ (z : r ≡ 0) where
-    mine : s % 16 ≡ s
-    mine = let h = low n k m W s r e z in omega arith
-
-    is-mine : sessionAt ss (s % 16) ≡ x
-    unfolding sessionAt
-    is-mine = rw mine
-
     pub begins : (t : CallTurn) → ((vs : List ℕ) → leaves (t .answer) vs (cut W s) (t .session) (t .change) ≡ turnOf (guard n (cut W s) x (eqb (x .phase) 0) Start) vs (cut W s) x)
         → IsReply (Begin s) n k m W ss (record { answer = t .answer; sessions = record { records = set (ss .records) s (t .session) } })
     unfolding withSession plan changed
     begins t h vs cs L i j q =
         let d : t .change ≡ Keep = ap (λ (f : TurnEffect). f .change) (h vs) ∙ begin-keeps vs (cut W s) x n (eqb (x .phase) 0) in
-        rw mine at
+        let own = low n k m W s r e z in
+        rw (mine ss s s own refl) at
         (takes-same (Begin s) (lentOn vs cs L W) x s refl (admits n k m W s r e vs cs L i j q z) (guard n (cut W s) x (eqb (x .phase) 0) Start) (rw i) (t .answer) vs (cut W s) (t .session) (t .change) (h vs)
-        refl (unzipped L) (rw d) ss is-mine)
+        refl (unzipped L) (rw d) ss (is-mine ss s s own refl))
 
     pub peek-decides : (c : ℕ) (p : Plan) → p ≡ peekPlan n (cut W s) x c → IsPeekPlan n k m W ss s c p
     unfolding plan sessionAt size

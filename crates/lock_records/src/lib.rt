@@ -1,7 +1,7 @@
 // The calls on locks that the caller lends as one run of records (document 01, "What the caller lends", Locks).
-// A call on the run reads one lock, lets a covered function decide and change all else, and carries out on the run the change that comes back.
+// A call on the run reads one lock, takes its turn (crate calls) with that lock by value, and carries out on the run the change that comes back.
 ghost use mathlib.Core.Path.{_≡_};
-ghost use Prim.Native.Nat.{_+_, _*_, _<_, _≤_};
+ghost use Prim.Native.Nat.{_<_, _≤_};
 ghost use lib.ListN.{length};
 ghost use Rattle.model.specs.Buffers.{logIn, cellAt};
 ghost use Rattle.model.specs.Plans.{peekPlan};

@@ -1,6 +1,6 @@
--- `lock_records::step` meets its contract: a walk of its MIR, by hand. The logs are lent to `look_up` and the run to `lock_at`; `take_turn`, which is covered, is given the lock by value and does all but the locks; then run and logs are lent to `sweep`.
+-- `lock_records::step` meets its contract: a walk of its MIR, by hand. The logs are lent to `look_up`, which answers a cell, and the run to `lock_at`; `take_turn`, which is covered, is given the lock by value and does all but the locks; then run and logs are lent to `sweep`.
 -- Assumes nothing.
-use mathlib.Core.Path.{_≡_, refl, sym, _∙_, ap, subst}
+use mathlib.Core.Path.{_≡_, refl, sym, _∙_, ap}
 use Prim.Native.Nat.{ℕ}
 use mathlib.Core.List.{List, [], _∷_}
 use lib.ListN.{length}
