@@ -1,11 +1,11 @@
 -- What a read and a write decide as if nobody were claimant, and with that what they decide with the lock: the same, unless a new cell is claimed.
 use mathlib.Core.Path.{_≡_, refl, sym, _∙_}
-use mathlib.Core.Bool.{true, false, cond, not}
+use mathlib.Core.Bool.{cond, not}
 use mathlib.Core.Option.{some}
 use mathlib.Core.List.{List}
 use Prim.Native.Nat.{ℕ, _<_}
 use native.Mathlib.Omega.{arith}
-use borrow.Author.Tests.{ltb-true, eqb-true, eq-eqb, ne-eqb}
+use borrow.Author.Tests.{ltb-true, eqb-true}
 use lib.ListN.{getD}
 use lib.Dec.{T, leb, ltb, eqb}
 use Rattle.model.specs.Buffers.{free, entryAt, slotIn, cap}
@@ -73,16 +73,6 @@ module _ (n : ℕ) (log : List ℕ) (x : Session) (l : Lock) (c : ℕ) where
       (which (slotIn log (x .count) c) (λ q. rw q (fresh (λ k. Update k v) (EnterUpdate c v) e i)) (λ k q. rw q (knows k (spot e k q) refl refl))))
       (λ b. rw (a, b) (refuses 4 refl refl)))
       (λ a. rw a (refuses 8 refl refl)))
-
--- the claimant decides
-module _ (l : Lock) where
-  pub is-claimed : (l .claimant ≡ 16 → ⊥) → claimed l ≡ true
-  unfolding claimed
-  is-claimed h = rw (ne-eqb (l .claimant) 16 h)
-
-  pub is-free : l .claimant ≡ 16 → claimed l ≡ false
-  unfolding claimed
-  is-free h = rw (eq-eqb (l .claimant) 16 h)
 
 -- what a match on p leaves; each `T` is met by `tt`
 module _ {n : ℕ} {log : List ℕ} {x : Session} {l : Lock} {c : ℕ} {p q : Plan} {known : ℕ → Plan} {new : Plan} where

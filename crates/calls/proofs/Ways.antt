@@ -304,13 +304,13 @@ module _ (log : List ℕ) (x : Session) (l : Lock) (c v m : ℕ) where
 -- ---- advance
 
 module _ (l : Lock) (s : ℕ) where
-  pub loses-free : l .claimant ≡ 16 → false ≡ (claimed l && not (eqb (l .claimant) s))
-  unfolding claimed
-  loses-free h = simp (eq-eqb (l .claimant) 16 h)
+  -- t is whether anybody is claimant
+  module _ (t : Bool) (o : t ≡ claimed l) where
+    pub loses-free : t ≡ false → false ≡ (claimed l && not (eqb (l .claimant) s))
+    loses-free h = rw (sym o ∙ h)
 
-  pub loses-to : (l .claimant ≡ 16 → ⊥) → not (eqb (l .claimant) s) ≡ (claimed l && not (eqb (l .claimant) s))
-  unfolding claimed
-  loses-to h = simp (ne-eqb (l .claimant) 16 h)
+    pub loses-to : t ≡ true → not (eqb (l .claimant) s) ≡ (claimed l && not (eqb (l .claimant) s))
+    loses-to h = rw (sym o ∙ h)
 
   -- b is whether another is claimant, a whether nobody else reads
   module _ (c : ℕ) (b : Bool) (e : b ≡ (claimed l && not (eqb (l .claimant) s))) where

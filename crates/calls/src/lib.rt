@@ -231,12 +231,11 @@ pub fn take_begin(log: &[u32], n: usize, x: Session) -> Turn
     ensures { λ r. ⌜ TurnsLog (guard n (now (log .entry)) x (eqb (x .phase) 0) Start) log x r ⌝ }
 {
     let phase = x.phase;
-    if phase == 0 {
-        let y = x.begun();
-        return keeps(Answer::Done, y);
+    if phase != 0 {
+        return keeps(Answer::Refused(tests(log, n, x, false)), x);
     }
-    let refusal = tests(log, n, x, false);
-    keeps(Answer::Refused(refusal), x)
+    let y = x.begun();
+    keeps(Answer::Done, y)
 }
 
 // Abandon: phases 1 and 2. The session is rolled back. 100.
@@ -258,6 +257,14 @@ pub fn take_abandon(log: &[u32], n: usize, x: Session) -> Turn
 }
 
 // ---- read and write: what is decided before a lock is looked at, as if nobody were claimant; then the turn, with the lock of a new cell
+
+// Somebody is claimant: any byte but 16.
+fn is_claimed(l: Lock) -> bool
+    ensures { λ r. ⌜ r ≡ claimed l ⌝ }
+{
+    let claimant = l.claimant;
+    claimant != 16
+}
 
 // A new cell with 32 entries in the log is 5.
 fn new_cell(x: Session, p: Plan) -> Plan
@@ -301,8 +308,7 @@ pub fn take_read(values: &[u32], log: &mut [u32], x: Session, l: Lock, cell: u32
     if let Plan::Refuse(number) = p {
         return keeps(Answer::Refused(number), x);
     }
-    let claimant = l.claimant;
-    if claimant != 16 {
+    if is_claimed(l) {
         let y = x.idled();
         return Turn {
             answer: Answer::Refused(6),
@@ -379,8 +385,7 @@ pub fn take_write(
     if let Plan::Refuse(number) = p {
         return keeps(Answer::Refused(number), x);
     }
-    let claimant = l.claimant;
-    if claimant != 16 {
+    if is_claimed(l) {
         let y = x.idled();
         return Turn {
             answer: Answer::Refused(6),
@@ -475,7 +480,7 @@ fn loses(l: Lock, session: u8) -> bool
     ensures { λ r. ⌜ r ≡ (claimed l && not (eqb (l .claimant) session)) ⌝ }
 {
     let claimant = l.claimant;
-    if claimant == 16 {
+    if !is_claimed(l) {
         return false;
     }
     claimant != session

@@ -7,10 +7,10 @@ use Rattle.calls.proofs.take_begin.Statement.{statement}
 use Rattle.calls.proofs.take_begin.Tie as tie
 
 returns : tie.Need-returns
-returns c = λ vs. turn-started vs _ _ _ _ _ (sym (begin-starts _ _ _ (c .before .before .if1 .taken))) (c .before .begun .ensures) (c .keeps .ensures)
+returns c = λ vs. turn-refused vs _ _ _ _ _ (sym (begin-refused _ _ _ (c .before .before .if1 .taken) _ (c .before .tests .ensures))) (c .keeps .ensures)
 
 returns-2 : tie.Need-returns-2
-returns-2 c = λ vs. turn-refused vs _ _ _ _ _ (sym (begin-refused _ _ _ (c .before .before .if1 .left) _ (c .before .tests .ensures))) (c .keeps2 .ensures)
+returns-2 c = λ vs. turn-started vs _ _ _ _ _ (sym (begin-starts _ _ _ (c .before .before .if1 .left))) (c .before .begun .ensures) (c .keeps2 .ensures)
 
 pub take-begin-spec : {M : Type 1} → statement M
 take-begin-spec =
