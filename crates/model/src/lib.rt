@@ -15,7 +15,7 @@ pub struct Session {
     pub next: u16,
 }
 
-// The records of the sixteen sessions, passed in by every call and handed back with its answer.
+// The records of the sixteen sessions, which the caller keeps: a call takes that of its session and hands it back, set-up all sixteen.
 #[repr(C)]
 pub struct Sessions {
     pub records: [Session; 16],
