@@ -1,6 +1,6 @@
-// Runs document 01's listing and a short mixed list on number slices (crate store) and on a run of lock records (crate lock_records), and compares all
-// that set-up and each call answers and leaves.
-// It writes each list as the replay does, and for a peek its number; last, whether the two forms agreed throughout.
+// Runs document 01's listing and a short mixed list on number slices (crate store) and on a run of lock records (crate lock_records). Compared are
+// set-up's answers and records, and after each call the answers, the records, and every value, lock and log word.
+// It writes each list as the replay does, with a line for a peek's number too; last, whether the two forms agreed throughout.
 ghost use Rattle.lock_records.specs.Lent.{TakesRun, SetsUpRun};
 use libc::STDOUT_FILENO;
 use model::Call;
@@ -46,10 +46,10 @@ fn step_on(
     RunReply { reply, locks: run }
 }
 
-// ---- the two lists, on two cells of class 2
+// ---- the two lists, of 13 calls each, on two cells of class 2
 
-// Document 01's listing: 13 calls.
-fn listing(i: u32) -> Call {
+// From 0 document 01's listing; from 13 a mixed list: every kind of call, every phase, the refusals 4 and 6.
+fn call_at(i: u32) -> Call {
     match i {
         0 => Call::Begin(0),
         1 => Call::Begin(1),
@@ -61,42 +61,20 @@ fn listing(i: u32) -> Call {
         7 => Call::Seal(1),
         8 => Call::Advance(0),
         9 => Call::Advance(1),
-        _ => Call::Advance(0),
-    }
-}
-
-// The mixed list: 24 calls, of every kind, in every phase, with refusals 1, 2, 3, 4, 6 and 14.
-fn mixed(i: u32) -> Call {
-    match i {
-        0 => Call::Begin(16),
-        1 => Call::Begin(0),
-        2 => Call::Begin(0),
-        3 => Call::Read(0, 2),
-        4 => Call::Read(0, 0),
-        5 => Call::Peek(0, 0),
-        6 => Call::Peek(0, 1),
-        7 => Call::Write(0, 1, 9),
-        8 => Call::Write(0, 1, 8),
-        9 => Call::Write(0, 0, 7),
-        10 => Call::Begin(1),
-        11 => Call::Read(1, 1),
-        12 => Call::Seal(0),
-        13 => Call::Advance(0),
-        14 => Call::Advance(0),
-        15 => Call::Begin(2),
-        16 => Call::Read(2, 0),
-        17 => Call::Abandon(1),
+        10..=12 => Call::Advance(0),
+        13 => Call::Begin(0),
+        14 => Call::Write(0, 1, 9),
+        15 => Call::Write(0, 1, 8),
+        16 => Call::Peek(0, 1),
+        17 => Call::Seal(0),
         18 => Call::Advance(0),
-        19 => Call::Abandon(0),
+        19 => Call::Begin(1),
+        20 => Call::Read(1, 1),
+        21 => Call::Begin(1),
+        22 => Call::Read(1, 0),
+        23 => Call::Abandon(1),
         _ => Call::Advance(0),
     }
-}
-
-fn call_at(list: u8, i: u32) -> Call {
-    if list == 0 {
-        return listing(i);
-    }
-    mixed(i)
 }
 
 // ---- what is compared
@@ -138,43 +116,27 @@ fn same_replies(a: Reply, b: Reply) -> bool {
     same
 }
 
-// The replies and all that is lent: by a, on slices; by b, on records.
-fn all_same(
-    a: Reply,
-    values: &[u32; 2],
+fn same_locks(
+    locks: [Lock; 2],
     readers: &[u16; 2],
     claimants: &[u8; 2],
     exclusives: &[u8; 2],
-    logs: &[u32; 2048],
-    b: RunReply,
-    values2: &[u32; 2],
-    logs2: &[u32; 2048],
 ) -> bool {
-    let reply = b.reply;
-    let locks = b.locks;
-    same_replies(a, reply)
-        & same_words(values, values2)
-        & same_lock(locks[0], readers[0], claimants[0], exclusives[0])
+    same_lock(locks[0], readers[0], claimants[0], exclusives[0])
         & same_lock(locks[1], readers[1], claimants[1], exclusives[1])
-        & same_words(logs, logs2)
 }
 
 // ---- what is written
 
-// The last decimal digit of a number.
-fn digit(x: u32) -> u8 {
-    b'0' + (x % 10) as u8
-}
-
 // A number below 1,000 in decimal, and a byte after it.
 fn print(x: u32, after: u8) {
     if 99 < x {
-        io::write_all(STDOUT_FILENO, &[digit(x / 100)]);
+        io::write_all(STDOUT_FILENO, &[b'0' + (x / 100 % 10) as u8]);
     }
     if 9 < x {
-        io::write_all(STDOUT_FILENO, &[digit(x / 10)]);
+        io::write_all(STDOUT_FILENO, &[b'0' + (x / 10 % 10) as u8]);
     }
-    io::write_all(STDOUT_FILENO, &[digit(x), after]);
+    io::write_all(STDOUT_FILENO, &[b'0' + (x % 10) as u8, after]);
 }
 
 fn print_call(ordinal: u32, r: Reply) {
@@ -198,8 +160,58 @@ fn print_cells(values: &[u32; 2]) {
 
 // ---- a list on both forms
 
-// Set-up and a list's calls on both forms, written; whether all was the same after each.
-fn run_both(list: u8, count: u32) -> bool {
+// What set-up or a call has left on both forms, and whether all has been the same so far.
+struct Both {
+    slices: Reply,
+    records: RunReply,
+    same: bool,
+}
+
+// One call on both forms, and all compared.
+fn call_both(
+    call: Call,
+    was: Both,
+    classes: &[u8; 2],
+    values: &mut [u32; 2],
+    readers: &mut [u16; 2],
+    claimants: &mut [u8; 2],
+    exclusives: &mut [u8; 2],
+    logs: &mut [u32; 2048],
+    values2: &mut [u32; 2],
+    logs2: &mut [u32; 2048],
+) -> Both {
+    let a = was.slices;
+    let b = was.records;
+    let x = a.sessions;
+    let y = b.reply.sessions;
+    let run = b.locks;
+    let slices = store::step(
+        call,
+        x,
+        values,
+        classes,
+        readers,
+        claimants,
+        exclusives,
+        logs,
+    );
+    let records = step_on(call, y, values2, classes, run, logs2);
+    let reply = records.reply;
+    let locks = records.locks;
+    let same = was.same
+        & same_replies(slices, reply)
+        & same_words(values, values2)
+        & same_locks(locks, readers, claimants, exclusives)
+        & same_words(logs, logs2);
+    Both {
+        slices,
+        records,
+        same,
+    }
+}
+
+// Set-up and the list that starts at a call, on both forms, and written; whether all was the same.
+fn run_both(first: u8) -> bool {
     let classes = [2u8; 2];
     let mut values = [3u32, 5];
     let mut values2 = [3u32, 5];
@@ -208,18 +220,18 @@ fn run_both(list: u8, count: u32) -> bool {
     let mut exclusives = [7u8; 2];
     let mut logs = [7u32; 2048];
     let mut logs2 = [7u32; 2048];
-    let locks = [Lock {
+    let lock = Lock {
         readers: 7,
         claimant: 7,
         exclusive: 7,
-    }; 2];
+    };
     let records = [Session {
         phase: 9,
         count: 9,
         next: 9,
     }; 16];
     let sessions = Sessions { records };
-    let mut a = store::set_up(
+    let a = store::set_up(
         sessions,
         &values,
         &classes,
@@ -228,51 +240,40 @@ fn run_both(list: u8, count: u32) -> bool {
         &mut exclusives,
         &mut logs,
     );
-    let mut b = set_up_on(sessions, &values2, &classes, locks, &mut logs2);
-    let mut same = true;
+    let b = set_up_on(sessions, &values2, &classes, [lock; 2], &mut logs2);
+    let reply = b.reply;
+    let same = same_replies(a, reply);
+    let mut both = Both {
+        slices: a,
+        records: b,
+        same,
+    };
     let mut i: u32 = 0;
-    loop {
-        same = same
-            & all_same(
-                a,
-                &values,
-                &readers,
-                &claimants,
-                &exclusives,
-                &logs,
-                b,
-                &values2,
-                &logs2,
-            );
-        if i == count {
-            break;
-        }
-        let call = call_at(list, i);
-        let x = a.sessions;
-        a = store::step(
-            call,
-            x,
-            &mut values,
+    while i < 13 {
+        both = call_both(
+            call_at(first as u32 + i),
+            both,
             &classes,
+            &mut values,
             &mut readers,
             &mut claimants,
             &mut exclusives,
             &mut logs,
+            &mut values2,
+            &mut logs2,
         );
-        let run = b.locks;
-        let y = b.reply.sessions;
-        b = step_on(call, y, &mut values2, &classes, run, &mut logs2);
         i += 1;
-        print_call(i, a);
+        let reply = both.slices;
+        print_call(i, reply);
     }
     print_cells(&values);
-    same
+    both.same
 }
 
 fn main() {
-    let first = run_both(0, 13);
-    let second = run_both(1, 24);
-    if first & second {
+    let listing = run_both(0);
+    let mixed = run_both(13);
+    if listing & mixed {
         io::write_all(STDOUT_FILENO, b"both forms agree\n");
     } else {
         io::write_all(STDOUT_FILENO, b"the forms differ\n");
