@@ -2,8 +2,8 @@
 use Prim.Native.Nat.{_≤_, _-_}
 use lib.ListN.{length}
 use borrow.Author.Needs.{needs}
-use Rattle.lockrun_check.proofs.same_words.Statement.{statement}
-use Rattle.lockrun_check.proofs.same_words.Tie as tie
+use Rattle.lock_records_check.proofs.same_words.Statement.{statement}
+use Rattle.lock_records_check.proofs.same_words.Tie as tie
 
 abbrev Inv-loop : tie.InvT-loop
 Inv-loop a b i₀ i = (i ≤ length a)

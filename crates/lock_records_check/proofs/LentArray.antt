@@ -1,6 +1,5 @@
--- A local array `[T; n]`, written whole, is lent as a `&mut [T]` or as a `&[T]` for a call, and is whole again after it. It says nothing of this program.
---     lent-array           one step for a call that takes it as `&mut`, whatever the callee: `goes` and `gets` are those of `Lent.antt`'s `lent`
---     lent-array-shared    one step for a call that takes it as `&`: they are those of `lent-shared`
+-- A local array `[T; n]`, written whole, is lent as a `&mut [T]` for a call, and is whole again after it. It says nothing of this program.
+-- `lent-array` is one step for such a call, whatever the callee: `goes` and `gets` are those of `Lent.antt`'s `lent`.
 -- T has one MIR type, its laws, and a machine value that its relation tells.
 -- Assumes `Given`, and that the table of calls is monotone under a frame.
 use mathlib.Core.Path.{_≡_, refl, sym, subst}
@@ -19,20 +18,20 @@ use types.Kit.{Goal, Given, Item, ‵, raw, some, given, later, _⊛_, mean, ⋆
 use types.Run.{Opds}
 use types.SemTy.{cells, Arr}
 use types.Share.{arr-parts}
-use types.Tokens.{lft-new, lft-end, lent-back}
+use types.Tokens.{lft-new, lft-end}
 use sound.WpLaws.{FmC}
 use denote.RattleType.{RattleType}
 use denote.Laws.{Is, Tells, shows}
 use denote.Memory.{cellAt, lone, partAt, mem, shares, partOf}
 use denote.Array.{Array, array-vals, array-tells}
 use denote.ArrayMemory.{Single, array-apart, array-whole}
-use denote.Slice.{sliceVal, MutSlice, ShrSlice, Room, finally}
-use denote.Lend.{Held, lends-slice, slice-back, lends-shr-slice}
+use denote.Slice.{sliceVal, MutSlice, Room, finally}
+use denote.Lend.{Held, lends-slice, slice-back}
 use denote.Index.{row, whole-out, whole-in}
 use denote.Steps.{only, peeks}
 use denote.Triple.Statement.{Contract, Triple}
 use denote.Triple.Call.{calls-at}
-use Rattle.lockrun.proofs.Lent.{ref-at}
+use Rattle.lock_records.proofs.Lent.{ref-at}
 
 module _ (R : RattleType) (n : ℕ) where
   -- the array's one MIR type
@@ -84,21 +83,3 @@ module _ {M : Type 1} {𝓤 : URA M} {H : Heap 𝓤} {A : Atoms 𝓤} {K : Type 
       -- [what says the last list; Q; ν is over; the lender's part; …]
       move k (2 ∷ 3 ∷ 0 ∷ []) $ use3 W (later (‵ (Arr (mem R) n .lies zs b o))) (slice-back 𝓤 H A W R (ν ∷ []) δ zs n b o) $ await k tt $ fsplit k $ drop k $
       use1 W (‵ (row R fullShare zs b o)) (whole-out 𝓤 H A W R zs b o) $ feqI k ℕ (length zs) n l $ fjoin k $ array-out k R vals tl n b o zs (then v zs)))))))
-
-  pub lent-array-shared : K → FmC 𝓤 H (W .laws) C → (c : Contract 𝓤) → Triple 𝓤 (C f) c → (R : RattleType) → Single (R .mir) → (vals : R .Denot → List Val) → Tells R (Is R) vals → (n b o : ℕ) (ys : List (R .Denot)) (v₀ : Val) → Room R n
-      → {P : Item 𝓤} (Q : Val → Item 𝓤) (to : ℕ → GName → c .Ghost)
-      → ((ν : ℕ) (δ : GName) → ent 𝓤 (⋆ 𝓤 H A (‵ (flft (ν ∷ []) fullShare) ∷ ‵ (ShrSlice (named 0) (ν ∷ []) R .own (ref-at b o δ ys) (sliceVal (b, o) n ∷ [])) ∷ P ∷ [])) (c .pre (to ν δ)))
-      → ((ν : ℕ) (δ : GName) (v : Val) → ent 𝓤 (c .post (to ν δ) v) (mean 𝓤 H A (later (‵ (flft (ν ∷ []) fullShare) ⊛ Q v))))
-      → ((ν : ℕ) (δ : GName) (i j : Item 𝓤) → Opds K W (i ∷ j ∷ Γ) E xs (c .args (to ν δ)))
-      → ((v : Val) (u : Val) → Is (Array R n) ys (u ∷ []) → Seq K W (‵ (fat fullShare (arr R n) b o u) ∷ ‵ (Array R n .own ys (u ∷ [])) ∷ Q v ∷ Γ) (lands C Λ E d v rest p))
-      → Seq K W (‵ (fat fullShare (arr R n) b o v₀) ∷ ‵ (Array R n .own ys (v₀ ∷ [])) ∷ P ∷ Γ) (runs C Λ E (seq (call f xs d) rest) p)
-  lent-array-shared k fm c known R one vals tl n b o ys v₀ room Q to goes gets os then =
-      use2 W (‵ (elems R n ys b o)) (array-in R n 𝓤 H A W one ys v₀ b o) $ fsplit k $ feqL k (λ len. feqI k ℕ (length ys) (length ys) refl $ fjoin k $ lft-new k tt (λ ν. move k (1 ∷ []) $
-      use1 W (later (some (λ (δ : GName). ‵ (ShrSlice (named 0) (ν ∷ []) R .own (ref-at b o δ ys) (sliceVal (b, o) (length ys) ∷ [])) ⊛ ‵ (flent (ν ∷ []) (elems R (length ys) ys b o))))) (lends-shr-slice 𝓤 H A W R (named 0) (ν ∷ []) fullShare ys b o (subst (Room R) (sym len) room)) $ await k tt $ pick k (λ δ. split k $
-      rewrite k 0 (λ (m : ℕ). ‵ (ShrSlice (named 0) (ν ∷ []) R .own (ref-at b o δ ys) (sliceVal (b, o) m ∷ []))) len refl $ rewrite k 1 (λ (m : ℕ). ‵ (flent (ν ∷ []) (elems R m ys b o))) len refl $
-      -- [the slice; the lender's part; the token of ν; P; …]
-      move k (2 ∷ 0 ∷ 3 ∷ []) $ use3 W (raw (c .pre (to ν δ))) (goes ν δ) $
-      calls-at k fm c known (to ν δ) (os ν δ _ _) (λ v.
-      use1 W (later (‵ (flft (ν ∷ []) fullShare) ⊛ Q v)) (gets ν δ v) $ await k tt $ split k $ lft-end k tt $
-      -- [ν is over; Q; the lender's part; …]
-      move k (0 ∷ 2 ∷ []) $ lent-back k tt $ array-out k R vals tl n b o ys (then v)))))

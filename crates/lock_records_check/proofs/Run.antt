@@ -1,4 +1,4 @@
--- What the walks of this crate cite: an array of eight locks, and the result that holds one.
+-- What the walks of this crate cite: an array of two locks, and the result that holds one.
 -- Assumes nothing.
 use mathlib.Core.Path.{refl, _∙_}
 use mathlib.Core.List.{List, [], _∷_, map}
@@ -19,24 +19,24 @@ use Rattle.model.specs.declared.Lock.{Lock}
 use Rattle.model.specs.declared.Reply.{Reply}
 use Rattle.model.proofs.Lock as T
 use Rattle.model.proofs.Lock.Laws as T′
-use Rattle.lockrun.proofs.Row.{R, makes, RA}
-use Rattle.lockrun_check.specs.declared.RunReply.{RunReply}
-use Rattle.lockrun_check.proofs.RunReply as X
-use Rattle.lockrun_check.proofs.RunReply.Laws as X′
-use Rattle.lockrun_check.proofs.LentArray.{arr}
+use Rattle.lock_records.proofs.Row.{R, makes, RA}
+use Rattle.lock_records_check.specs.declared.RunReply.{RunReply}
+use Rattle.lock_records_check.proofs.RunReply as X
+use Rattle.lock_records_check.proofs.RunReply.Laws as X′
+use Rattle.lock_records_check.proofs.LentArray.{arr}
 
-pub room : Room R 8
+pub room : Room R 2
 room = (lit< tt, lit< tt)
 
 abbrev pub RX : RattleType
 RX = X.the-row
 
 module _ {M : Type 1} (𝓤 : URA M) (H : Heap 𝓤) (A : Atoms 𝓤) (W : Given 𝓤 H A) where
-  pub typed-run : (zs : List Lock) (u : Val) → Is (Array R 8) zs (u ∷ []) → T (hasTy (arr R 8) u) × WT u
-  typed-run zs u p = array-lawful 𝓤 H A W R (LL.lawful T.the-type T′.the-laws 𝓤 H A W) 8 .typed zs (u ∷ []) p .0
+  pub typed-run : (zs : List Lock) (u : Val) → Is (Array R 2) zs (u ∷ []) → T (hasTy (arr R 2) u) × WT u
+  typed-run zs u p = array-lawful 𝓤 H A W R (LL.lawful T.the-type T′.the-laws 𝓤 H A W) 2 .typed zs (u ∷ []) p .0
 
-  pub makes-run : Makes 𝓤 H A (Array R 8) (Is (Array R 8))
-  makes-run = array-makes 𝓤 H A W R (makes 𝓤 H A) 8
+  pub makes-run : Makes 𝓤 H A (Array R 2) (Is (Array R 2))
+  makes-run = array-makes 𝓤 H A W R (makes 𝓤 H A) 2
 
   pub makes-x : Makes 𝓤 H A RX (Is RX)
   makes-x = LL.makes X.the-type X′.the-plain 𝓤 H A
@@ -52,6 +52,6 @@ each-in (z ∷ zs) [] s = s
 each-in (z ∷ zs) (u ∷ us) s = (s .0, each-in zs us (s .1))
 
 -- a reply and a run make a result
-pub run-reply-is : (r : Reply) (v : Val) → Is RA r (v ∷ []) → (zs : List Lock) (u : Val) → Is (Array R 8) zs (u ∷ [])
+pub run-reply-is : (r : Reply) (v : Val) → Is RA r (v ∷ []) → (zs : List Lock) (u : Val) → Is (Array R 2) zs (u ∷ [])
     → Is RX (record { reply = r; locks = zs }) (vstruct (ofList (v ∷ u ∷ [])) ∷ [])
 run-reply-is r v p zs u q = ((v ∷ [], (u ∷ [], tt)), (refl, (p, ((q .0, ((q .1 .0 .0, length-map zs (T.the-field .into) ∙ q .1 .0 .1), each-in zs (q .0) (q .1 .1))), tt))))
