@@ -8,7 +8,7 @@ ghost use lib.ListN.{length, getD, set};
 ghost use Rattle.model.specs.Readers.{withReader, withoutReader, otherReaders};
 ghost use Rattle.model.specs.Buffers.{cellAt, publishes, lockAt, setLock, onLock, join, leave, vacate, withdraw, claim, acquire};
 ghost use Rattle.locks.specs.Sweeps.{Swept, DropsReads, marked, mark, locksBefore, locksAfter, RollsBack, DropsAt};
-ghost use Rattle.locks.specs.Changes.{LockFor, oneOf, ChangeFits, ChangesOne, Withdraws, DropsIf};
+ghost use Rattle.locks.specs.Changes.{LockFor, oneOf, ChangeFits, ChangesOne, Withdraws, CarriesOut, DropsIf};
 use model::Change;
 use model::Lock;
 use model::Plan;
@@ -266,7 +266,7 @@ pub fn lock_for(readers: &[u16], claimants: &[u8], exclusives: &[u8], p: Plan) -
 }
 
 // One cell's lock changed, where that is the change.
-pub fn change_one(
+fn change_one(
     change: Change,
     readers: &mut [u16],
     claimants: &mut [u8],
@@ -304,7 +304,7 @@ pub fn change_one(
 }
 
 // Rolling back, where that is the change.
-pub fn change_withdraw(
+fn change_withdraw(
     change: Change,
     log: &[u32],
     count: usize,
@@ -320,6 +320,23 @@ pub fn change_withdraw(
         roll_back(log, count, readers, claimants, exclusives, session);
         return;
     }
+}
+
+// A change other than sealing.
+pub fn carry_out(
+    change: Change,
+    log: &[u32],
+    count: usize,
+    readers: &mut [u16],
+    claimants: &mut [u8],
+    exclusives: &mut [u8],
+    session: u8,
+)
+    requires { ⌜ (session < 16) × (ChangeFits change session (now log) count (length (now readers))) × (length (now claimants) ≡ length (now readers)) × (length (now exclusives) ≡ length (now readers)) ⌝ }
+    ensures { λ _. ⌜ CarriesOut change log count session readers claimants exclusives ⌝ }
+{
+    change_one(change, readers, claimants, exclusives, session);
+    change_withdraw(change, log, count, readers, claimants, exclusives, session);
 }
 
 // Sealing, where that is the change.

@@ -1,10 +1,10 @@
--- What the calls on three slices cite: which part of a change each call's turn can hand back, that a change is carried out in its parts, and that what a read or a write
--- decides with the lock looked up for it is its plan.
+-- What the calls on three slices cite: which part of a change each call's turn can hand back, and that what a read or a write decides with the lock looked up for it
+-- is its plan.
 use mathlib.Core.Path.{_≡_, refl, sym, ap, _∙_}
 use mathlib.Core.Bool.{Bool, cond, not, _&&_, _||_}
 use mathlib.Core.Option.{Option, none, some}
-use mathlib.Core.List.{List, []}
-use Prim.Native.Nat.{ℕ, _+_, _*_, _%_, _≤_}
+use mathlib.Core.List.{List}
+use Prim.Native.Nat.{ℕ, _+_, _*_, _%_, _<_, _≤_}
 use lib.Dec.{T, eqb}
 use lib.ListN.{length, getD, set}
 use Rattle.model.specs.Buffers.{Locks, Buffers, free, idle, sessionAt, withSession, entryAt, targetIn, lockAt}
@@ -48,9 +48,9 @@ module _ (n : ℕ) (log : List ℕ) (x : Session) (vs : List ℕ) where
   unfolding turnOf
   begin-keeps b = guarded (λ d. d ≡ Keep) refl b Start refl
 
-  pub abandon-withdraws : (b : Bool) → (oneOf (changeOf (guard n log x b Cancel)) ≡ Keep) × (dropOf (changeOf (guard n log x b Cancel)) ≡ Keep)
-  unfolding turnOf oneOf dropOf
-  abandon-withdraws b = guarded (λ d. (oneOf d ≡ Keep) × (dropOf d ≡ Keep)) (refl, refl) b Cancel (refl, refl)
+  pub abandon-drops-none : (b : Bool) → dropOf (changeOf (guard n log x b Cancel)) ≡ Keep
+  unfolding turnOf dropOf
+  abandon-drops-none b = guarded (λ d. dropOf d ≡ Keep) refl b Cancel refl
 
   sealed : (o : Option ℕ) → (oneOf (changeOf (sealTarget o)) ≡ Keep) × (withdrawOf (changeOf (sealTarget o)) ≡ Keep)
   unfolding turnOf oneOf withdrawOf sealTarget
@@ -88,23 +88,14 @@ module _ (n : ℕ) (log : List ℕ) (x : Session) (vs : List ℕ) where
       (λ u. split (λ r. dropOf (changeOf r) ≡ Keep) (eqb (otherReaders s (l .readers)) 0) (λ v. refl) (λ v. refl)))
       (λ t. split (λ r. dropOf (changeOf r) ≡ Keep) (eqb (x .phase) 3) (λ u. refl) (λ u. refl))
 
--- ---- a change d carried out: the locks L become M, and those N
+-- ---- a change d of the locks L
 
 module _ (d : Change) (log : List ℕ) (m s : ℕ) (L : Locks) where
   pub no-change : d ≡ Keep → L ≡ changed d log m s L
   unfolding changed
   no-change e = rw e
 
-  -- U is the log again
-  pub one-and-withdraw : dropOf d ≡ Keep → (M N : Locks) → M ≡ changed (oneOf d) [] 0 s L → (U : List ℕ) → U ≡ log → N ≡ changed (withdrawOf d) U m s M
-      → N ≡ changed d log m s L
-  unfolding changed
-  one-and-withdraw k M N f U v g = rw (g, f, v) (rw k at (in-three d log m s L))
-
-  pub withdraw-alone : (oneOf d ≡ Keep) × (dropOf d ≡ Keep) → (N : Locks) → N ≡ changed (withdrawOf d) log m s L → N ≡ changed d log m s L
-  unfolding changed
-  withdraw-alone k N g = g ∙ (rw (k .1, k .0) at (in-three d log m s L))
-
+  -- sealing alone carries it out; N are the locks afterwards
   pub drop-alone : (oneOf d ≡ Keep) × (withdrawOf d ≡ Keep) → (N : Locks) → N ≡ changed (dropOf d) log m s L → N ≡ changed d log m s L
   unfolding changed
   drop-alone k N g = g ∙ (rw (k .1, k .0) at (in-three d log m s L))
@@ -141,9 +132,6 @@ advance-planned n s ks log x L l d c e f g = rw (g, f, e) (advance-agree n s ks 
 
 -- ---- what the functions that change locks ask, of as many cells as there are reader sets
 
-pub fits-cells : (B : Buffers) (s : ℕ) → Admitted B s → (d : Change) (log : List ℕ) (m : ℕ) → ChangeFits d s log m (length (B .values)) → ChangeFits d s log m (length (B .locks .readers))
-fits-cells B s z d log m f = rw (z .lengths .readers) f
-
 pub even : (B : Buffers) (s : ℕ) → Admitted B s → (length (B .locks .claimants) ≡ length (B .locks .readers)) × (length (B .locks .exclusives) ≡ length (B .locks .readers))
 even B s z = (z .lengths .claimants ∙ sym (z .lengths .readers), z .lengths .exclusives ∙ sym (z .lengths .readers))
 
@@ -163,12 +151,10 @@ module _ (B : Buffers) (s : ℕ) (z : Admitted B s) where
     pub read-back : cut (puts (B .logs) s W) s ≡ W
     read-back = cut-put s (z .low) (B .logs) (z .lengths .logs) W whole
 
-  -- what rolling back asks, of locks R, C and E as long as before; U is the log W again
-  pub can-withdraw : (d : Change) (W : List ℕ) (m : ℕ) (R C E U : List ℕ) → length R ≡ length (B .locks .readers) → length C ≡ length (B .locks .claimants)
-      → length E ≡ length (B .locks .exclusives) → U ≡ W → ChangeFits d s W m (length (B .values))
-      → ChangeFits d s U m (length R) × (length C ≡ length R) × (length E ≡ length R)
-  can-withdraw d W m R C E U r c e v f =
-      (rw (v, r) (fits-cells B s z d W m f), c ∙ even B s z .0 ∙ sym r, e ∙ even B s z .1 ∙ sym r)
+  -- what carrying a change out asks; U is the log W again
+  pub can-carry : (d : Change) (W : List ℕ) (m : ℕ) (U : List ℕ) → U ≡ W → ChangeFits d s W m (length (B .values))
+      → (s < 16) × ChangeFits d s U m (length (B .locks .readers)) × (length (B .locks .claimants) ≡ length (B .locks .readers)) × (length (B .locks .exclusives) ≡ length (B .locks .readers))
+  can-carry d W m U u f = (z .low, rw (u, z .lengths .readers) f, even B s z .0, even B s z .1)
 
 -- of all sixteen, where the code takes the record out and puts the one handed back in its place
 pub of-sixteen : (k : Call) (B C : Buffers) (ss : Sessions) (s : ℕ) → s ≡ sessionOf k → (a : Answer) (y : Session) → TakesRecord k B (getD (ss .records) (s % 16) idle) a C y

@@ -171,8 +171,7 @@ pub fn read(
     let t = calls::take_read(values, &mut logs[a..e], x, l, cell, p);
     let change = t.change;
     let count = x.count as usize;
-    locks::change_one(change, readers, claimants, exclusives, session);
-    locks::change_withdraw(
+    locks::carry_out(
         change,
         &logs[a..e],
         count,
@@ -232,8 +231,7 @@ pub fn write(
     let t = calls::take_write(values, classes, &mut logs[a..e], x, l, cell, value, p);
     let change = t.change;
     let count = x.count as usize;
-    locks::change_one(change, readers, claimants, exclusives, session);
-    locks::change_withdraw(
+    locks::carry_out(
         change,
         &logs[a..e],
         count,
@@ -340,8 +338,7 @@ pub fn advance(
     let t = calls::take_advance(values, &logs[a..e], x, l, session, due);
     let change = t.change;
     let count = x.count as usize;
-    locks::change_one(change, readers, claimants, exclusives, session);
-    locks::change_withdraw(
+    locks::carry_out(
         change,
         &logs[a..e],
         count,
@@ -397,7 +394,7 @@ pub fn abandon(
     let t = calls::take_abandon(&logs[a..e], n, x);
     let change = t.change;
     let count = x.count as usize;
-    locks::change_withdraw(
+    locks::carry_out(
         change,
         &logs[a..e],
         count,

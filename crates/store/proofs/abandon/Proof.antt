@@ -1,16 +1,16 @@
--- `store::abandon` meets its contract: 7 and 1 are the model's; past them the turn is, and the session withdraws.
+-- `store::abandon` meets its contract: 7 and 1 are the model's; past them the turn is, and the change of the locks.
 use mathlib.Core.Path.{_≡_, refl, sym, ap, _∙_}
 use borrow.Author.Tests.{not-true, not-false}
 use Rattle.model.specs.Buffers.{Buffers}
 use Rattle.model.specs.Plans.{plan}
 use Rattle.model.specs.declared.Call.the-variants.{Abandon}
-use Rattle.locks.specs.Changes.{ChangeFits}
+use Rattle.locks.specs.Changes.{dropOf, ChangeFits}
 use lib.ListN.{length}
 use Rattle.calls.proofs.Lengths.{Admitted, admitted-by, refused-by}
 use Rattle.calls.proofs.Logs.{cut-long, log-start, log-stop, log-bytes, log-some}
 use Rattle.calls.proofs.Logs.{cut}
 use Rattle.calls.proofs.Whole.{can-change, takes-same}
-use Rattle.store.proofs.Forms.{log-inside, withdraw-alone, change-is, abandon-withdraws, fits-cells, even}
+use Rattle.store.proofs.Forms.{log-inside, can-carry, change-is, abandon-drops-none}
 use Rattle.store.specs.Lent.{buffersOf}
 use borrow.Author.Needs.{needs}
 use Rattle.store.proofs.abandon.Statement.{statement}
@@ -58,35 +58,35 @@ part-take-abandon-end c = log-inside _ _ (fits (c))
 take-abandon-requires : tie.Need-take-abandon-requires
 take-abandon-requires c κs = (cut-long _ _ (fits (c .before) .lengths .logs) (fits (c .before) .low), fits (c .before) .lengths .few)
 
-mul-change-withdraw : tie.Need-mul-change-withdraw
-mul-change-withdraw c = log-bytes _ (fits (c .before .before .before) .low)
+mul-carry-out : tie.Need-mul-carry-out
+mul-carry-out c = log-bytes _ (fits (c .before .before .before) .low)
 
-sub-change-withdraw : tie.Need-sub-change-withdraw
-sub-change-withdraw c = log-some _
+sub-carry-out : tie.Need-sub-carry-out
+sub-carry-out c = log-some _
 
-part-change-withdraw-start : tie.Need-part-change-withdraw-start
-part-change-withdraw-start c = log-some _
+part-carry-out-start : tie.Need-part-carry-out-start
+part-carry-out-start c = log-some _
 
-part-change-withdraw-end : tie.Need-part-change-withdraw-end
-part-change-withdraw-end c = log-inside _ _ (fits (c .before .before .before))
+part-carry-out-end : tie.Need-part-carry-out-end
+part-carry-out-end c = log-inside _ _ (fits (c .before .before .before))
 
-change-withdraw-requires : tie.Need-change-withdraw-requires
-change-withdraw-requires c κs = let e = even _ _ (fits (c .before .before .before .before .before .before .before)) in (fits-cells _ _ (fits (c .before .before .before .before .before .before .before)) _ _ _ (changes (c .before .before .before .before .before)), e .0, e .1)
+carry-out-requires : tie.Need-carry-out-requires
+carry-out-requires c κs = can-carry _ _ (fits (c .before .before .before .before .before .before .before)) _ _ _ (cut (c .before .before .before .before .before .before .before .before .before .before .before .before .before .before .before .args .logs .now) (c .before .before .before .before .before .before .before .before .before .before .before .before .before .before .before .args .session)) refl (changes (c .before .before .before .before .before))
 
 same-length : tie.Need-same-length
-same-length c = c .before .before .before .before .before .before .before .change-withdraw .kept .1 .1 .1 .0
+same-length c = c .before .before .before .before .before .before .before .carry-out .kept .1 .1 .1 .0
 
 same-length-2 : tie.Need-same-length-2
-same-length-2 c = c .before .before .before .before .before .before .before .change-withdraw .kept .1 .1 .1 .1 .0
+same-length-2 c = c .before .before .before .before .before .before .before .carry-out .kept .1 .1 .1 .1 .0
 
 same-length-3 : tie.Need-same-length-3
-same-length-3 c = c .before .before .before .before .before .before .before .change-withdraw .kept .1 .1 .1 .1 .1 .0
+same-length-3 c = c .before .before .before .before .before .before .before .carry-out .kept .1 .1 .1 .1 .1 .0
 
 returns-2 : tie.Need-returns-2
 unfolding plan
-returns-2 c = let t = c .before .before .before .before .before .before .before .before .before .before .before .before .before .take-abandon .ensures (c .before .before .before .before .before .before .before .before .before .before .before .before .before .before .before .before .before .before .before .before .before .before .before .args .values .now) in takes-same (Abandon _) (lent (c .before .before .before .before .before .before .before .before .before .before .before .before .before .before .before .before .before .before .before .before .before .before .before)) _ _ refl (fits (c .before .before .before .before .before .before .before .before .before .before .before .before .before .before .before)) _ refl _ _ _ _ _ t refl _ (withdraw-alone _ _ _ _ _ (rw (change-is _ _ _ _ _ _ _ _ _ t) (abandon-withdraws _ _ _ _ _)) _ (c .before .before .before .before .before .before .before .change-withdraw .ensures))
+returns-2 c = let t = c .before .before .before .before .before .before .before .before .before .before .before .before .before .take-abandon .ensures (c .before .before .before .before .before .before .before .before .before .before .before .before .before .before .before .before .before .before .before .before .before .before .before .args .values .now) in takes-same (Abandon _) (lent (c .before .before .before .before .before .before .before .before .before .before .before .before .before .before .before .before .before .before .before .before .before .before .before)) _ _ refl (fits (c .before .before .before .before .before .before .before .before .before .before .before .before .before .before .before)) _ refl _ _ _ _ _ t refl _ (c .before .before .before .before .before .before .before .carry-out .ensures (ap dropOf (change-is _ _ _ _ _ _ _ _ _ t) ∙ abandon-drops-none _ _ _ _ _))
 
 pub abandon-spec : {M : Type 1} → statement M
 abandon-spec =
     tie.close
-    (tie.spec admits-requires admit-requires returns mul-a add-e mul-take-abandon sub-take-abandon part-take-abandon-start part-take-abandon-end take-abandon-requires (λ c. search needs) mul-change-withdraw sub-change-withdraw part-change-withdraw-start part-change-withdraw-end change-withdraw-requires same-length same-length-2 same-length-3 returns-2)
+    (tie.spec admits-requires admit-requires returns mul-a add-e mul-take-abandon sub-take-abandon part-take-abandon-start part-take-abandon-end take-abandon-requires (λ c. search needs) mul-carry-out sub-carry-out part-carry-out-start part-carry-out-end carry-out-requires same-length same-length-2 same-length-3 returns-2)

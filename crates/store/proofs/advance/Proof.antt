@@ -6,9 +6,8 @@ use lib.ListN.{length}
 use Rattle.model.specs.declared.Call.the-variants.{Advance}
 use Rattle.calls.specs.Pieces.{duePlan}
 use Rattle.calls.proofs.Agree.{due-fits}
-use Rattle.store.proofs.Forms.{fits-cells, even, log-inside, can-withdraw, one-and-withdraw, change-is, advance-planned, advance-drops-none}
+use Rattle.store.proofs.Forms.{even, log-inside, can-carry, change-is, advance-planned, advance-drops-none}
 use Rattle.locks.specs.Changes.{dropOf, ChangeFits}
-use Rattle.locks.proofs.Changes.{one-fits}
 use Rattle.calls.proofs.Lengths.{Admitted, admitted-by, refused-by}
 use Rattle.calls.proofs.Logs.{cut-long, log-start, log-stop, log-bytes, log-some}
 use Rattle.calls.proofs.Logs.{cut}
@@ -96,40 +95,37 @@ part-take-advance-end c = log-inside _ _ (fits (c .before .before .before .befor
 take-advance-requires : tie.Need-take-advance-requires
 take-advance-requires c κs = let z = fits (c .before .before .before .before .before .before .before .before .before .before) in (cut-long _ _ (z .lengths .logs) (z .low), z .lengths .few, z .low, c .before .before .before .before .before .before .before .before .due-slot .ensures)
 
-change-one-requires : tie.Need-change-one-requires
-change-one-requires c κs = let z = fits (c .before .before .before .before .before .before .before .before .before .before .before .before .before .before .before .before .before) in let e = even _ _ z in (z .low, one-fits _ _ _ _ _ (fits-cells _ _ z _ _ _ (changes (c .before .before .before .before .before .before))), e .0, e .1)
+mul-carry-out : tie.Need-mul-carry-out
+mul-carry-out c = log-bytes _ (fits (c .before .before .before .before .before .before .before .before .before .before .before .before .before .before) .low)
 
-mul-change-withdraw : tie.Need-mul-change-withdraw
-mul-change-withdraw c = log-bytes _ (fits (c .before .before .before .before .before .before .before .before .before .before .before .before .before .before .before .before .before .before .before .before .before .before .before .before) .low)
+sub-carry-out : tie.Need-sub-carry-out
+sub-carry-out c = log-some _
 
-sub-change-withdraw : tie.Need-sub-change-withdraw
-sub-change-withdraw c = log-some _
+part-carry-out-start : tie.Need-part-carry-out-start
+part-carry-out-start c = log-some _
 
-part-change-withdraw-start : tie.Need-part-change-withdraw-start
-part-change-withdraw-start c = log-some _
+part-carry-out-end : tie.Need-part-carry-out-end
+part-carry-out-end c = log-inside _ _ (fits (c .before .before .before .before .before .before .before .before .before .before .before .before .before .before))
 
-part-change-withdraw-end : tie.Need-part-change-withdraw-end
-part-change-withdraw-end c = log-inside _ _ (fits (c .before .before .before .before .before .before .before .before .before .before .before .before .before .before .before .before .before .before .before .before .before .before .before .before))
-
-change-withdraw-requires : tie.Need-change-withdraw-requires
-change-withdraw-requires c κs = can-withdraw _ _ (fits (c .before .before .before .before .before .before .before .before .before .before .before .before .before .before .before .before .before .before .before .before .before .before .before .before .before .before .before .before)) _ _ _ (c .before .before .before .before .before .before .before .before .before .before .change-one .last .1 .0) (c .before .before .before .before .before .before .before .before .before .before .change-one .last .1 .1 .0) (c .before .before .before .before .before .before .before .before .before .before .change-one .last .1 .1 .1 .0) _ (c .before .before .before .before .before .before .before .before .before .before .change-one .kept .1 .0) (c .before .before .before .before .before .before .before .before .before .before .change-one .kept .1 .1 .0) (c .before .before .before .before .before .before .before .before .before .before .change-one .kept .1 .1 .1 .0) refl (changes (c .before .before .before .before .before .before .before .before .before .before .before .before .before .before .before .before .before))
+carry-out-requires : tie.Need-carry-out-requires
+carry-out-requires c κs = can-carry _ _ (fits (c .before .before .before .before .before .before .before .before .before .before .before .before .before .before .before .before .before .before)) _ _ _ (cut (c .before .before .before .before .before .before .before .before .before .before .before .before .before .before .before .before .before .before .before .before .before .before .before .before .before .before .args .logs .now) (c .before .before .before .before .before .before .before .before .before .before .before .before .before .before .before .before .before .before .before .before .before .before .before .before .before .before .args .session)) refl (changes (c .before .before .before .before .before .before .before))
 
 same-length : tie.Need-same-length
-same-length c = c .before .before .before .before .before .before .before .before .before .before .before .before .before .before .before .before .before .before .before .before .before .before .before .before .before .take-advance .kept .0
+same-length c = c .before .before .before .before .before .before .before .before .before .before .before .before .before .before .before .take-advance .kept .0
 
 same-length-2 : tie.Need-same-length-2
-same-length-2 c = c .before .before .before .before .before .before .before .change-withdraw .kept .1 .1 .1 .0 ∙ c .before .before .before .before .before .before .before .before .before .before .before .before .before .before .before .before .before .before .change-one .kept .1 .0
+same-length-2 c = c .before .before .before .before .before .before .before .carry-out .kept .1 .1 .1 .0
 
 same-length-3 : tie.Need-same-length-3
-same-length-3 c = c .before .before .before .before .before .before .before .change-withdraw .kept .1 .1 .1 .1 .0 ∙ c .before .before .before .before .before .before .before .before .before .before .before .before .before .before .before .before .before .before .change-one .kept .1 .1 .0
+same-length-3 c = c .before .before .before .before .before .before .before .carry-out .kept .1 .1 .1 .1 .0
 
 same-length-4 : tie.Need-same-length-4
-same-length-4 c = c .before .before .before .before .before .before .before .change-withdraw .kept .1 .1 .1 .1 .1 .0 ∙ c .before .before .before .before .before .before .before .before .before .before .before .before .before .before .before .before .before .before .change-one .kept .1 .1 .1 .0
+same-length-4 c = c .before .before .before .before .before .before .before .carry-out .kept .1 .1 .1 .1 .1 .0
 
 returns-2 : tie.Need-returns-2
-returns-2 c = let t = c .before .before .before .before .before .before .before .before .before .before .before .before .before .before .before .before .before .before .before .before .before .before .before .before .before .take-advance .ensures in takes-same (Advance _) (lent (c .before .before .before .before .before .before .before .before .before .before .before .before .before .before .before .before .before .before .before .before .before .before .before .before .before .before .before .before .before .before .before .before .before .before .before .before .before .before .before .before .before .before .before .before)) _ _ refl (fits (c .before .before .before .before .before .before .before .before .before .before .before .before .before .before .before .before .before .before .before .before .before .before .before .before .before .before .before .before .before .before .before .before .before .before .before .before)) _ (planned (c .before .before .before .before .before .before .before .before .before .before .before .before .before .before .before .before .before .before .before .before .before .before .before .before .before)) _ _ _ _ _ t refl _ (one-and-withdraw _ _ _ _ _ (ap dropOf (change-is _ _ _ _ _ _ _ _ _ t) ∙ advance-drops-none (length (c .before .before .before .before .before .before .before .before .before .before .before .before .before .before .before .before .before .before .before .before .before .before .before .before .before .before .before .before .before .before .before .before .before .before .before .before .before .before .before .before .before .before .before .before .args .values .now)) _ _ _ _ _ _) _ _ (c .before .before .before .before .before .before .before .before .before .before .before .before .before .before .before .before .before .before .change-one .ensures) (cut (c .before .before .before .before .before .before .before .before .before .before .before .before .before .before .before .before .before .before .before .before .before .before .before .before .before .before .before .before .before .before .before .before .before .before .before .before .before .before .before .before .before .before .before .before .args .logs .now) (c .before .before .before .before .before .before .before .before .before .before .before .before .before .before .before .before .before .before .before .before .before .before .before .before .before .before .before .before .before .before .before .before .before .before .before .before .before .before .before .before .before .before .before .before .args .session)) refl (c .before .before .before .before .before .before .before .change-withdraw .ensures))
+returns-2 c = let t = c .before .before .before .before .before .before .before .before .before .before .before .before .before .before .before .take-advance .ensures in takes-same (Advance _) (lent (c .before .before .before .before .before .before .before .before .before .before .before .before .before .before .before .before .before .before .before .before .before .before .before .before .before .before .before .before .before .before .before .before .before .before)) _ _ refl (fits (c .before .before .before .before .before .before .before .before .before .before .before .before .before .before .before .before .before .before .before .before .before .before .before .before .before .before)) _ (planned (c .before .before .before .before .before .before .before .before .before .before .before .before .before .before .before)) _ _ _ _ _ t refl _ (c .before .before .before .before .before .before .before .carry-out .ensures (ap dropOf (change-is _ _ _ _ _ _ _ _ _ t) ∙ advance-drops-none (length (c .before .before .before .before .before .before .before .before .before .before .before .before .before .before .before .before .before .before .before .before .before .before .before .before .before .before .before .before .before .before .before .before .before .before .args .values .now)) _ _ _ _ _ _))
 
 pub advance-spec : {M : Type 1} → statement M
 advance-spec =
     tie.close
-    (tie.spec admits-requires admit-requires returns mul-a add-e mul-due-slot sub-due-slot part-due-slot-start part-due-slot-end due-slot-requires mul-due-cell sub-due-cell part-due-cell-start part-due-cell-end due-cell-requires at-requires mul-take-advance sub-take-advance part-take-advance-start part-take-advance-end take-advance-requires (λ c. search needs) change-one-requires mul-change-withdraw sub-change-withdraw part-change-withdraw-start part-change-withdraw-end change-withdraw-requires same-length same-length-2 same-length-3 same-length-4 returns-2)
+    (tie.spec admits-requires admit-requires returns mul-a add-e mul-due-slot sub-due-slot part-due-slot-start part-due-slot-end due-slot-requires mul-due-cell sub-due-cell part-due-cell-start part-due-cell-end due-cell-requires at-requires mul-take-advance sub-take-advance part-take-advance-start part-take-advance-end take-advance-requires (λ c. search needs) mul-carry-out sub-carry-out part-carry-out-start part-carry-out-end carry-out-requires same-length same-length-2 same-length-3 same-length-4 returns-2)

@@ -10,7 +10,7 @@ use Rattle.calls.proofs.Lengths.{Admitted, admitted-by, refused-by}
 use Rattle.calls.proofs.Logs.{cut-long, log-start, log-stop, log-bytes, log-some}
 use Rattle.calls.proofs.Logs.{cut}
 use Rattle.calls.proofs.Whole.{can-change, takes-same}
-use Rattle.store.proofs.Forms.{log-inside, drop-alone, change-is, seal-drops, fits-cells, even}
+use Rattle.store.proofs.Forms.{log-inside, drop-alone, change-is, seal-drops, can-carry, even}
 use Rattle.store.specs.Lent.{buffersOf}
 use borrow.Author.Needs.{needs}
 use Rattle.store.proofs.seal.Statement.{statement}
@@ -71,7 +71,7 @@ part-change-drop-end : tie.Need-part-change-drop-end
 part-change-drop-end c = log-inside _ _ (fits (c .before .before .before))
 
 change-drop-requires : tie.Need-change-drop-requires
-change-drop-requires c κs = fits-cells _ _ (fits (c .before .before .before .before .before)) _ _ _ (changes (c .before .before .before))
+change-drop-requires c κs = can-carry _ _ (fits (c .before .before .before .before .before)) _ _ _ (cut (c .before .before .before .before .before .before .before .before .before .before .before .before .before .args .logs .now) (c .before .before .before .before .before .before .before .before .before .before .before .before .before .args .session)) refl (changes (c .before .before .before)) .1
 
 same-length : tie.Need-same-length
 same-length c = c .before .before .before .change-drop .kept .1 .1 .1 .0

@@ -5,9 +5,11 @@ use Rattle.model.specs.Buffers.{Buffers}
 use lib.ListN.{length}
 use Rattle.model.specs.Plans.{plan, writePlan}
 use Rattle.model.specs.declared.Call.the-variants.{Write}
-use Rattle.store.proofs.Forms.{fits-cells, even, log-inside, put-inside, put-same, read-back, can-withdraw, one-and-withdraw, change-is, write-planned, write-drops-none}
+use Rattle.store.proofs.Forms.{even, log-inside, put-inside, put-same, read-back, can-carry, change-is, write-planned, write-drops-none}
 use Rattle.locks.specs.Changes.{dropOf, ChangeFits}
-use Rattle.locks.proofs.Changes.{one-fits}
+use mathlib.Core.List.{List}
+use Prim.Native.Nat.{ℕ}
+use Rattle.model.specs.Turns.{changed}
 use Rattle.calls.proofs.Lengths.{Admitted, admitted-by, refused-by}
 use Rattle.calls.proofs.Logs.{cut-long, log-start, log-stop, log-bytes, log-some}
 use Rattle.calls.proofs.Logs.{cut}
@@ -85,40 +87,37 @@ part-take-write-end c = log-inside _ _ (fits (c .before .before .before .before 
 take-write-requires : tie.Need-take-write-requires
 take-write-requires c κs = let z = fits (c .before .before .before .before .before .before .before .before) in (cut-long _ _ (z .lengths .logs) (z .low), z .lengths .classes, rw (z .lengths .classes) at (c .before .before .before .before .before .write-plan .ensures))
 
-change-one-requires : tie.Need-change-one-requires
-change-one-requires c κs = let z = fits (c .before .before .before .before .before .before .before .before .before .before .before .before .before .before .before) in let e = even _ _ z in (z .low, one-fits _ _ _ _ _ (fits-cells _ _ z _ _ _ (changes (c .before .before .before .before .before .before))), e .0, e .1)
+mul-carry-out : tie.Need-mul-carry-out
+mul-carry-out c = log-bytes _ (fits (c .before .before .before .before .before .before .before .before .before .before .before .before) .low)
 
-mul-change-withdraw : tie.Need-mul-change-withdraw
-mul-change-withdraw c = log-bytes _ (fits (c .before .before .before .before .before .before .before .before .before .before .before .before .before .before .before .before .before .before .before .before .before .before) .low)
+sub-carry-out : tie.Need-sub-carry-out
+sub-carry-out c = log-some _
 
-sub-change-withdraw : tie.Need-sub-change-withdraw
-sub-change-withdraw c = log-some _
+part-carry-out-start : tie.Need-part-carry-out-start
+part-carry-out-start c = log-some _
 
-part-change-withdraw-start : tie.Need-part-change-withdraw-start
-part-change-withdraw-start c = log-some _
+part-carry-out-end : tie.Need-part-carry-out-end
+part-carry-out-end c = put-inside _ _ (fits (c .before .before .before .before .before .before .before .before .before .before .before .before .before)) (c .before .before .before .before .take-write .last .1 .1 .0) (whole (c .before .before .before .before))
 
-part-change-withdraw-end : tie.Need-part-change-withdraw-end
-part-change-withdraw-end c = put-inside _ _ (fits (c .before .before .before .before .before .before .before .before .before .before .before .before .before .before .before .before .before .before .before .before .before .before .before)) (c .before .before .before .before .before .before .before .before .before .before .before .before .before .before .take-write .last .1 .1 .0) (whole (c .before .before .before .before .before .before .before .before .before .before .before .before .before .before))
-
-change-withdraw-requires : tie.Need-change-withdraw-requires
-change-withdraw-requires c κs = can-withdraw _ _ (fits (c .before .before .before .before .before .before .before .before .before .before .before .before .before .before .before .before .before .before .before .before .before .before .before .before .before .before .before)) _ _ _ (c .before .before .before .before .before .before .before .before .before .before .before .change-one .last .1 .0) (c .before .before .before .before .before .before .before .before .before .before .before .change-one .last .1 .1 .0) (c .before .before .before .before .before .before .before .before .before .before .before .change-one .last .1 .1 .1 .0) _ (c .before .before .before .before .before .before .before .before .before .before .before .change-one .kept .1 .0) (c .before .before .before .before .before .before .before .before .before .before .before .change-one .kept .1 .1 .0) (c .before .before .before .before .before .before .before .before .before .before .before .change-one .kept .1 .1 .1 .0) (read-back _ _ (fits (c .before .before .before .before .before .before .before .before .before .before .before .before .before .before .before .before .before .before .before .before .before .before .before .before .before .before .before)) (c .before .before .before .before .before .before .before .before .before .before .before .before .before .before .before .before .before .before .take-write .last .1 .1 .0) (whole (c .before .before .before .before .before .before .before .before .before .before .before .before .before .before .before .before .before .before))) (changes (c .before .before .before .before .before .before .before .before .before .before .before .before .before .before .before .before .before .before))
+carry-out-requires : tie.Need-carry-out-requires
+carry-out-requires c κs = can-carry _ _ (fits (c .before .before .before .before .before .before .before .before .before .before .before .before .before .before .before .before .before)) _ _ _ _ (read-back _ _ (fits (c .before .before .before .before .before .before .before .before .before .before .before .before .before .before .before .before .before)) (c .before .before .before .before .before .before .before .before .take-write .last .1 .1 .0) (whole (c .before .before .before .before .before .before .before .before))) (changes (c .before .before .before .before .before .before .before .before))
 
 same-length : tie.Need-same-length
-same-length c = c .before .before .before .before .before .before .before .change-withdraw .kept .1 .1 .1 .0 ∙ c .before .before .before .before .before .before .before .before .before .before .before .before .before .before .before .before .before .before .before .change-one .kept .1 .0
+same-length c = c .before .before .before .before .before .before .before .carry-out .kept .1 .1 .1 .0
 
 same-length-2 : tie.Need-same-length-2
-same-length-2 c = c .before .before .before .before .before .before .before .change-withdraw .kept .1 .1 .1 .1 .0 ∙ c .before .before .before .before .before .before .before .before .before .before .before .before .before .before .before .before .before .before .before .change-one .kept .1 .1 .0
+same-length-2 c = c .before .before .before .before .before .before .before .carry-out .kept .1 .1 .1 .1 .0
 
 same-length-3 : tie.Need-same-length-3
-same-length-3 c = c .before .before .before .before .before .before .before .change-withdraw .kept .1 .1 .1 .1 .1 .0 ∙ c .before .before .before .before .before .before .before .before .before .before .before .before .before .before .before .before .before .before .before .change-one .kept .1 .1 .1 .0
+same-length-3 c = c .before .before .before .before .before .before .before .carry-out .kept .1 .1 .1 .1 .1 .0
 
 same-length-4 : tie.Need-same-length-4
-same-length-4 c = put-same _ _ (fits (c .before .before .before .before .before .before .before .before .before .before .before .before .before .before .before .before .before .before .before .before .before .before .before .before .before .before .before .before .before .before .before .before .before .before .before)) (c .before .before .before .before .before .before .before .before .before .before .before .before .before .before .before .before .before .before .before .before .before .before .before .before .before .before .take-write .last .1 .1 .0) (whole (c .before .before .before .before .before .before .before .before .before .before .before .before .before .before .before .before .before .before .before .before .before .before .before .before .before .before))
+same-length-4 c = put-same _ _ (fits (c .before .before .before .before .before .before .before .before .before .before .before .before .before .before .before .before .before .before .before .before .before .before .before .before .before)) (c .before .before .before .before .before .before .before .before .before .before .before .before .before .before .before .before .take-write .last .1 .1 .0) (whole (c .before .before .before .before .before .before .before .before .before .before .before .before .before .before .before .before))
 
 returns-2 : tie.Need-returns-2
-returns-2 c = let t = c .before .before .before .before .before .before .before .before .before .before .before .before .before .before .before .before .before .before .before .before .before .before .before .before .before .before .take-write .ensures in takes-put (Write _ _ _) (lent (c .before .before .before .before .before .before .before .before .before .before .before .before .before .before .before .before .before .before .before .before .before .before .before .before .before .before .before .before .before .before .before .before .before .before .before .before .before .before .before .before .before .before .before)) _ _ refl (fits (c .before .before .before .before .before .before .before .before .before .before .before .before .before .before .before .before .before .before .before .before .before .before .before .before .before .before .before .before .before .before .before .before .before .before .before)) _ (planned (c .before .before .before .before .before .before .before .before .before .before .before .before .before .before .before .before .before .before .before .before .before .before .before .before .before .before)) _ _ _ _ _ t _ (one-and-withdraw _ _ _ _ _ (ap dropOf (change-is _ _ _ _ _ _ _ _ _ t) ∙ write-drops-none _ _ _ _ _ _ _ _) _ _ (c .before .before .before .before .before .before .before .before .before .before .before .before .before .before .before .before .before .before .before .change-one .ensures) _ (read-back _ _ (fits (c .before .before .before .before .before .before .before .before .before .before .before .before .before .before .before .before .before .before .before .before .before .before .before .before .before .before .before .before .before .before .before .before .before .before .before)) (c .before .before .before .before .before .before .before .before .before .before .before .before .before .before .before .before .before .before .before .before .before .before .before .before .before .before .take-write .last .1 .1 .0) (whole (c .before .before .before .before .before .before .before .before .before .before .before .before .before .before .before .before .before .before .before .before .before .before .before .before .before .before))) (c .before .before .before .before .before .before .before .change-withdraw .ensures))
+returns-2 c = let t = c .before .before .before .before .before .before .before .before .before .before .before .before .before .before .before .before .take-write .ensures in takes-put (Write _ _ _) (lent (c .before .before .before .before .before .before .before .before .before .before .before .before .before .before .before .before .before .before .before .before .before .before .before .before .before .before .before .before .before .before .before .before .before)) _ _ refl (fits (c .before .before .before .before .before .before .before .before .before .before .before .before .before .before .before .before .before .before .before .before .before .before .before .before .before)) _ (planned (c .before .before .before .before .before .before .before .before .before .before .before .before .before .before .before .before)) _ _ _ _ _ t _ (c .before .before .before .before .before .before .before .carry-out .ensures (ap dropOf (change-is _ _ _ _ _ _ _ _ _ t) ∙ write-drops-none _ _ _ _ _ _ _ _) ∙ ap (λ (w : List ℕ). changed (c .before .before .before .before .before .before .before .before .before .before .before .before .before .before .before .before .take-write .result .change) w (c .before .before .before .before .before .before .before .before .before .before .before .before .before .before .before .before .before .before .before .before .before .before .before .before .before .before .before .before .before .before .before .before .before .args .x .count) (c .before .before .before .before .before .before .before .before .before .before .before .before .before .before .before .before .before .before .before .before .before .before .before .before .before .before .before .before .before .before .before .before .before .args .session) (lent (c .before .before .before .before .before .before .before .before .before .before .before .before .before .before .before .before .before .before .before .before .before .before .before .before .before .before .before .before .before .before .before .before .before) .locks)) (read-back _ _ (fits (c .before .before .before .before .before .before .before .before .before .before .before .before .before .before .before .before .before .before .before .before .before .before .before .before .before)) (c .before .before .before .before .before .before .before .before .before .before .before .before .before .before .before .before .take-write .last .1 .1 .0) (whole (c .before .before .before .before .before .before .before .before .before .before .before .before .before .before .before .before))))
 
 pub write-spec : {M : Type 1} → statement M
 write-spec =
     tie.close
-    (tie.spec admits-requires admit-requires returns mul-a add-e mul-write-plan sub-write-plan part-write-plan-start part-write-plan-end write-plan-requires lock-for-requires mul-take-write sub-take-write part-take-write-start part-take-write-end take-write-requires (λ c. search needs) change-one-requires mul-change-withdraw sub-change-withdraw part-change-withdraw-start part-change-withdraw-end change-withdraw-requires same-length same-length-2 same-length-3 same-length-4 returns-2)
+    (tie.spec admits-requires admit-requires returns mul-a add-e mul-write-plan sub-write-plan part-write-plan-start part-write-plan-end write-plan-requires lock-for-requires mul-take-write sub-take-write part-take-write-start part-take-write-end take-write-requires (λ c. search needs) mul-carry-out sub-carry-out part-carry-out-start part-carry-out-end carry-out-requires same-length same-length-2 same-length-3 same-length-4 returns-2)
