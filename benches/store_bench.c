@@ -2,7 +2,7 @@
    Under callgrind the counts of each call's function are read off the profile (benches/instructions).
    usage: store_bench WORKLOAD ENTRIES CELLS SESSIONS CYCLES */
 #include "plain_store.h"
-#include "rukkanei_store.h"
+#include "rukkanei.h"
 
 #include <stdio.h>
 #include <stdlib.h>
@@ -75,40 +75,45 @@ __attribute__((noinline)) static uint32_t plain_run(size_t n)
 
 #define LENT values[0], n, classes, n, readers[0], n, claimants[0], n, exclusives[0], n, logs[0], PLAIN_LOG_WORDS
 
-/* The proved store's run of the same list, by its exported calls. */
+/* The proved store's run of the same list, by its calls for C: the record of the session that calls goes in, and what comes back takes its place. */
 __attribute__((noinline)) static uint32_t proved_run(size_t n)
 {
     rukkanei_sessions sessions;
-    uint32_t up, none;
     memset(&sessions, 0, sizeof sessions);
-    sessions = rukkanei_set_up(sessions, LENT, &up, &none);
+    rukkanei_set_up_reply up = rukkanei_set_up(sessions, LENT);
+    sessions = up.sessions;
     for (size_t i = 0; i < count; i++) {
-        uint32_t *c = calls + 4 * i, *number = &answers[0][2 * i], *value = number + 1;
+        uint32_t *c = calls + 4 * i;
         uint8_t s = (uint8_t)c[1];
+        rukkanei_session *own = &sessions.records[s];
+        rukkanei_reply r;
         switch (c[0]) {
         case BEGIN:
-            sessions = rukkanei_begin(sessions, LENT, s, number, value);
+            r = rukkanei_begin(*own, LENT, s);
             break;
         case READ:
-            sessions = rukkanei_read(sessions, LENT, s, c[2], number, value);
+            r = rukkanei_read(*own, LENT, s, c[2]);
             break;
         case WRITE:
-            sessions = rukkanei_write(sessions, LENT, s, c[2], c[3], number, value);
+            r = rukkanei_write(*own, LENT, s, c[2], c[3]);
             break;
         case SEAL:
-            sessions = rukkanei_seal(sessions, LENT, s, number, value);
+            r = rukkanei_seal(*own, LENT, s);
             break;
         case ADVANCE:
-            sessions = rukkanei_advance(sessions, LENT, s, number, value);
+            r = rukkanei_advance(*own, LENT, s);
             break;
         case ABANDON:
-            sessions = rukkanei_abandon(sessions, LENT, s, number, value);
+            r = rukkanei_abandon(*own, LENT, s);
             break;
         default:
-            sessions = rukkanei_peek_number(sessions, LENT, s, c[2], number, value);
+            r = rukkanei_peek_number(*own, LENT, s, c[2]);
         }
+        *own = r.session;
+        answers[0][2 * i] = r.number;
+        answers[0][2 * i + 1] = r.value;
     }
-    return up;
+    return up.number;
 }
 
 /* Cells of a session's transaction: spread over the store, each session its own, in an order that is neither up nor down. */

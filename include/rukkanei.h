@@ -1,4 +1,55 @@
-/* Rukkanei's call fields for firmware in C99: one field is read, or written, per call. Link with the archive that `rt staticlib field` makes.
+/* Rukkanei for C99 and C++: the call fields and the store of document 01. One archive has every function of this file: link librukkanei.a, which
+ * scripts/install puts beside this header. It needs memcpy and memset of the C library at most.
+ *
+ * Every function answers for every number and every content of what it is lent. None keeps a pointer, allocates, or calls anything of yours.
+ * A function asks this of its caller, and nothing else:
+ *
+ *   - no pointer is NULL, not even with a length of 0, and each is aligned for its type;
+ *   - a buffer has as many elements as the length after it says;
+ *   - what a call may write, behind each pointer that is not to const, overlaps nothing else that the call is lent;
+ *   - while the call runs, nothing else (a thread, an interrupt handler) writes what is lent, or reads what the call may write: whoever has
+ *     several threads puts a lock around the calls. */
+#ifndef RUKKANEI_H
+#define RUKKANEI_H
+
+#include <stddef.h>
+#include <stdint.h>
+
+#ifdef __cplusplus
+extern "C" {
+#endif
+
+/* ---- Answers ---- */
+
+/* Good answers. */
+#define RUKKANEI_DONE 100          /* done: of a field too */
+#define RUKKANEI_VALUE 101         /* read, and the value is beside it */
+#define RUKKANEI_SEALED 102        /* sealed, with written cells to promote */
+#define RUKKANEI_MOVED 103         /* one written cell further */
+#define RUKKANEI_WAITING 104       /* others read the cell that is to be promoted */
+#define RUKKANEI_COMMITTED 105     /* the transaction is over, and the session idle */
+#define RUKKANEI_END_OF_FIELDS 106 /* no bytes are left at the place */
+
+/* Refusals of the calls, in the order in which they are tested. */
+#define RUKKANEI_WRONG_LENGTHS 7   /* n outside 1 to 1,024, classes or locks not n long, logs not 2,048 words */
+#define RUKKANEI_NO_SUCH_SESSION 1 /* session above 15 */
+#define RUKKANEI_DAMAGED_RECORD 9  /* phase above 4; in phases 1 to 4 a count above 32 or an entered cell not below n;
+                                      in phases 2 to 4 no written cell at or above next */
+#define RUKKANEI_WRONG_PHASE 2     /* the call does not fit the session's phase */
+#define RUKKANEI_NO_SUCH_CELL 3    /* cell not below n */
+#define RUKKANEI_NO_SUCH_CLASS 8   /* class above 15; at set-up also a value above its cap */
+#define RUKKANEI_ABOVE_CAP 4       /* written value above its cap */
+#define RUKKANEI_NOT_IN_LOG 14     /* peeked cell not in the log */
+#define RUKKANEI_LOG_FULL 5        /* new cell with 32 entries in the log */
+#define RUKKANEI_CONFLICT 6        /* lock claimed: the session has been rolled back */
+
+/* Refusals of the field functions. */
+#define RUKKANEI_CUT_SHORT 10    /* fewer bytes are left than the field has */
+#define RUKKANEI_UNKNOWN_TAG 11  /* no field has this tag */
+#define RUKKANEI_WRONG_LENGTH 12 /* the field's length is not the tag's own */
+#define RUKKANEI_SHORT_TARGET 13 /* the target is shorter than the field */
+
+/* ---- Call fields: how a call travels ----
  *
  * A field is a tag byte, a two-byte length and a body. Numbers of several bytes are little-endian.
  *
@@ -11,29 +62,7 @@
  *   06    abandon         session (1)                                                    4
  *   08    starting cell   class (1), value (4)                                           8
  *
- * No session, class, cell or value is judged here: the store does that.
- *
- * Both functions answer for every number and every content of the bytes. They keep no pointer, call nothing and allocate nothing. The caller
- * sees to it that
- *
- *   - no pointer is NULL, not even with a length of 0;
- *   - `bytes` and `target` point to as many bytes as the length after them says;
- *   - the numbers that are lent (*tag, *session, *cell_class, *cell, *value and *length) lie apart from each other, from the bytes that are
- *     read and from the target;
- *   - *cell, *value and *length are aligned for their types;
- *   - while the call runs, nothing else (a thread, an interrupt handler) writes the bytes that are read, or reads or writes the target and the
- *     lent numbers. */
-#ifndef RUKKANEI_H
-#define RUKKANEI_H
-
-#include <stddef.h>
-#include <stdint.h>
-
-#ifdef __cplusplus
-extern "C" {
-#endif
-
-/* Tags. */
+ * No session, class, cell or value is judged here: the store does that. */
 #define RUKKANEI_TAG_BEGIN 0x01
 #define RUKKANEI_TAG_READ 0x02
 #define RUKKANEI_TAG_WRITE 0x03
@@ -41,14 +70,6 @@ extern "C" {
 #define RUKKANEI_TAG_ADVANCE 0x05
 #define RUKKANEI_TAG_ABANDON 0x06
 #define RUKKANEI_TAG_STARTING_CELL 0x08
-
-/* Answers. */
-#define RUKKANEI_DONE 100          /* the field was read, or written */
-#define RUKKANEI_END_OF_FIELDS 106 /* no bytes are left at the place */
-#define RUKKANEI_CUT_SHORT 10      /* fewer bytes are left than the field has */
-#define RUKKANEI_UNKNOWN_TAG 11    /* no field has this tag */
-#define RUKKANEI_WRONG_LENGTH 12   /* the field's length is not the tag's own */
-#define RUKKANEI_SHORT_TARGET 13   /* the target is shorter than the field */
 
 /* A target of this many bytes has room for any field. */
 #define RUKKANEI_FIELD_MAX 10
@@ -65,8 +86,7 @@ extern "C" {
  *
  * With 100, *tag, *session, *cell_class, *cell and *value hold the call's numbers, those that the tag does not carry as 0, and *length holds
  * the field's length: the next field starts at `place + *length`. With any other answer all six are as before. A refused field's place, its
- * first byte, is always the `place` that was passed, so it is not handed back (`refused-where-asked`, crates/field/proofs/Readings.antt).
- * The bytes are never written. */
+ * first byte, is always the `place` that was passed, so it is not handed back (`refused-where-asked`, crates/field/proofs/Readings.antt). */
 uint8_t rukkanei_field_read(const uint8_t *bytes, size_t bytes_len, size_t place, uint8_t *tag, uint8_t *session, uint8_t *cell_class,
                             uint16_t *cell, uint32_t *value, size_t *length);
 
@@ -81,6 +101,106 @@ uint8_t rukkanei_field_read(const uint8_t *bytes, size_t bytes_len, size_t place
  * before. With 11 and 13, *length holds 0 and every byte of the target is as before. */
 uint8_t rukkanei_field_write(uint8_t *target, size_t target_len, uint8_t tag, uint8_t session, uint8_t cell_class, uint16_t cell,
                              uint32_t value, size_t *length);
+
+/* ---- The store: one function for each call of document 01 ----
+ *
+ * The caller lends every buffer and keeps it between calls. With n cells, n from 1 to 1,024:
+ *
+ *   values      n words, one number to a cell
+ *   classes     n bytes, 0 to 15; the cap of a cell's values goes by its class
+ *   readers     n 16-bit sets, bit s for session s
+ *   claimants   n bytes, a session or 16 for nobody
+ *   exclusives  n bytes, the writer marks
+ *   logs        2,048 words, 128 to a session
+ *
+ * The caller also keeps sixteen records, one to a session. A call takes the record of the session that calls, by value, and hands it back in the
+ * reply; the caller puts it in its place, whatever the number. A record belongs to its session's number: what is promised of a list of calls is of
+ * a list in which each session is passed the record that set-up or its own last call handed back.
+ *
+ * In a reply `number` is one of the answers above, and `value` is 0 except with 101. A refusal other than 6 leaves everything as before and hands the
+ * record back as it came; 6 has rolled the session back. A session above 15 has no record, so do not look one up: pass any, and it comes back as it
+ * came, with 1 (or with 7, which is tested first). */
+#define RUKKANEI_SESSIONS 16
+#define RUKKANEI_CELLS_MAX 1024
+#define RUKKANEI_LOG_WORDS 2048
+
+/* A session's record: phase (0 idle, 1 running, 2 promoting, 3 publishing, 4 releasing), entry count, next cell. */
+typedef struct {
+    uint8_t phase;
+    uint8_t count;
+    uint16_t next;
+} rukkanei_session;
+
+/* All records: session s has records[s]. */
+typedef struct {
+    rukkanei_session records[RUKKANEI_SESSIONS];
+} rukkanei_sessions;
+
+typedef struct {
+    uint32_t number;
+    uint32_t value;
+    rukkanei_session session;
+} rukkanei_reply;
+
+typedef struct {
+    uint32_t number;
+    uint32_t value;
+    rukkanei_sessions sessions;
+} rukkanei_set_up_reply;
+
+/* Makes all sessions idle, all locks empty and all log words 0. 100; 7 or 8, and all is as before. */
+rukkanei_set_up_reply rukkanei_set_up(rukkanei_sessions sessions, const uint32_t *values, size_t values_len, const uint8_t *classes,
+                                      size_t classes_len, uint16_t *readers, size_t readers_len, uint8_t *claimants, size_t claimants_len,
+                                      uint8_t *exclusives, size_t exclusives_len, uint32_t *logs, size_t logs_len);
+
+/* An idle session runs, with no entry. 100. */
+rukkanei_reply rukkanei_begin(rukkanei_session record, const uint32_t *values, size_t values_len, const uint8_t *classes, size_t classes_len,
+                              const uint16_t *readers, size_t readers_len, const uint8_t *claimants, size_t claimants_len,
+                              const uint8_t *exclusives, size_t exclusives_len, const uint32_t *logs, size_t logs_len, uint8_t session);
+
+/* A running session reads a cell. 101 with the value; the first time the cell is locked for reading and entered in the log. */
+rukkanei_reply rukkanei_read(rukkanei_session record, const uint32_t *values, size_t values_len, const uint8_t *classes, size_t classes_len,
+                             uint16_t *readers, size_t readers_len, uint8_t *claimants, size_t claimants_len, uint8_t *exclusives,
+                             size_t exclusives_len, uint32_t *logs, size_t logs_len, uint8_t session, uint32_t cell);
+
+/* A running session writes a cell, into its log. 100; a new cell is locked and entered as by read. */
+rukkanei_reply rukkanei_write(rukkanei_session record, const uint32_t *values, size_t values_len, const uint8_t *classes, size_t classes_len,
+                              uint16_t *readers, size_t readers_len, uint8_t *claimants, size_t claimants_len, uint8_t *exclusives,
+                              size_t exclusives_len, uint32_t *logs, size_t logs_len, uint8_t session, uint32_t cell, uint32_t written);
+
+/* A running session takes its snapshot: it leaves the readers of what it only read. 105 where it wrote nothing, and it is idle; else 102. */
+rukkanei_reply rukkanei_seal(rukkanei_session record, const uint32_t *values, size_t values_len, const uint8_t *classes, size_t classes_len,
+                             uint16_t *readers, size_t readers_len, const uint8_t *claimants, size_t claimants_len, const uint8_t *exclusives,
+                             size_t exclusives_len, const uint32_t *logs, size_t logs_len, uint8_t session);
+
+/* A sealed session goes one written cell further: promotes, publishes or releases it. 103; 104 while others read the cell; 105 at the end. */
+rukkanei_reply rukkanei_advance(rukkanei_session record, uint32_t *values, size_t values_len, const uint8_t *classes, size_t classes_len,
+                                uint16_t *readers, size_t readers_len, uint8_t *claimants, size_t claimants_len, uint8_t *exclusives,
+                                size_t exclusives_len, const uint32_t *logs, size_t logs_len, uint8_t session);
+
+/* A running or promoting session is rolled back. 100. */
+rukkanei_reply rukkanei_abandon(rukkanei_session record, const uint32_t *values, size_t values_len, const uint8_t *classes, size_t classes_len,
+                                uint16_t *readers, size_t readers_len, uint8_t *claimants, size_t claimants_len, uint8_t *exclusives,
+                                size_t exclusives_len, const uint32_t *logs, size_t logs_len, uint8_t session);
+
+/* Whether a running session has a cell in its log: 100, or a refusal. Nothing changes, and the record comes back as it came. */
+rukkanei_reply rukkanei_peek_number(rukkanei_session record, const uint32_t *values, size_t values_len, const uint8_t *classes,
+                                    size_t classes_len, const uint16_t *readers, size_t readers_len, const uint8_t *claimants,
+                                    size_t claimants_len, const uint8_t *exclusives, size_t exclusives_len, const uint32_t *logs,
+                                    size_t logs_len, uint8_t session, uint32_t cell);
+
+/* Where a peek's word is. */
+#define RUKKANEI_NOWHERE 0
+#define RUKKANEI_IN_VALUES 1
+#define RUKKANEI_IN_LOGS 2
+
+/* The word that a running session's peek shows, in place of the part that a peek hands back: the store's own, `values[*index]`, of a cell that
+   it has not written, or the log's own, `logs[*index]`, of one that it has. 0, with *index as before, where the peek is refused;
+   rukkanei_peek_number tells why. */
+uint8_t rukkanei_peek_place(rukkanei_session record, const uint32_t *values, size_t values_len, const uint8_t *classes, size_t classes_len,
+                            const uint16_t *readers, size_t readers_len, const uint8_t *claimants, size_t claimants_len,
+                            const uint8_t *exclusives, size_t exclusives_len, const uint32_t *logs, size_t logs_len, uint8_t session,
+                            uint32_t cell, size_t *index);
 
 #ifdef __cplusplus
 }

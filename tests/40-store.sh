@@ -11,9 +11,8 @@ work=$PWD/target/store-tests
 
 # The proved calls in the place of the plain C store.
 calls_for_c() {
-    rt staticlib exports
     mkdir -p target/c/proved-store
-    gcc -O3 $c_flags -fPIC -shared -Itools/src -Iinclude -Ibenches/c tests/c/proved_store.c tests/plain_fields.c target/staticlib/libexports.a \
+    gcc -O3 $c_flags -fPIC -shared -Itools/src -Iinclude -Ibenches/c tests/c/proved_store.c tests/plain_fields.c "$(bash scripts/archive)" \
         -o target/c/proved-store/libplain.so
 }
 
@@ -26,12 +25,22 @@ example() {
 corpus() {
     local file count=0
     for file in tests/fuzz/corpus/*; do
-        target/bin/replay <"$file" >"$work/corpus.proved" && "$replay_peer" <"$file" >"$work/corpus.peer" && cmp "$work/corpus.proved" "$work/corpus.peer" ||
+        target/bin/replay <"$file" >"$work/corpus.proved" && "$replay_reference" <"$file" >"$work/corpus.reference" && cmp "$work/corpus.proved" "$work/corpus.reference" ||
             { echo "$file differs"; return 1; }
         count=$((count + 1))
     done
     echo "$count files"
     [ "$count" -ge 100 ]
+}
+
+# The lists of the benchmark: the same answers and buffers on the proved store and on plain C.
+benchmark() {
+    bash benches/build || return 1
+    for list in known reads write commit update; do
+        for entries in 2 32; do
+            target/bench/store_bench $list $entries 1024 16 20 || return 1
+        done
+    done
 }
 
 check "the second program is built" bash -c '. tests/fuzz/build.sh'
@@ -42,6 +51,7 @@ for name in listing skew mixed; do
 done
 check "the calls for C are built" calls_for_c
 check "the proved calls on arbitrary buffers" beside "proved calls for C" env LD_LIBRARY_PATH="$PWD/target/c/proved-store" "$compare" calls --seed "$seed" --count 1000000
+check "the proved calls and plain C on the benchmark's lists" benchmark
 check "the replay on the fuzzer's corpus" shown corpus
 check "the proved replay on random files" shown "$compare" replays --program "$PWD/target/bin/replay" --mode spawn --seed "$seed" --count "$replays"
 

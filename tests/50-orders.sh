@@ -37,9 +37,9 @@ check "n of 0 is 7" prints "$work/none.txt" "$work/seven.expected"
 check "n of 1,025 is 7" prints "$work/many.txt" "$work/seven.expected"
 
 odd_buffers() {
-    [ -e target/staticlib/libexports.a ] || rt staticlib exports
-    gcc -Wall -Wextra -Werror -std=c99 -O2 -Iinclude tests/c/odd_buffers.c target/staticlib/libexports.a -o "$work/odd" && "$work/odd" | diff tests/c/odd_buffers.expected -
+    gcc -Wall -Wextra -Werror -std=c99 -O2 -Iinclude tests/c/odd_buffers.c "$(bash scripts/archive)" -o "$work/odd" && "$work/odd" | diff tests/c/odd_buffers.expected -
 }
-check "numbers 9 and 14 and odd buffers" odd_buffers
+check "numbers 9 and 14, odd buffers and odd records" odd_buffers
+check "the same, clean under valgrind" valgrind -q --error-exitcode=9 "$work/odd"
 
 finish

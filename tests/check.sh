@@ -30,7 +30,7 @@ shown() {
 beside() {
     local name=$1
     shift
-    shown "$@" && grep -q "^peer beside $name" "$work/shown"
+    shown "$@" && grep -q "^reference beside $name" "$work/shown"
 }
 
 # add PASSED FAILED: counts what a program counted by itself.

@@ -1,8 +1,9 @@
-/* A start for a maker's firmware: it writes a begin, two reads, a write and a seal into one buffer, reads them back and prints them, and
- * shows what each refusal looks like. Build it with
+/* A start for a maker's firmware. First the fields: it writes a begin, two reads, a write and a seal into one buffer, reads them back and prints
+ * them, and shows what each refusal looks like. Then the store: it carries out one transaction, call for call as fields bring them. Build it with
  *
- *   rt staticlib field
- *   gcc -Wall -Wextra -Werror -std=c99 -Iinclude -o firmware examples/firmware/firmware.c target/staticlib/libfield.a */
+ *   bash scripts/install PREFIX
+ *   export PKG_CONFIG_PATH=PREFIX/lib/pkgconfig
+ *   gcc -Wall -Wextra -Werror -std=c99 -o firmware examples/firmware/firmware.c $(pkg-config --cflags --libs rukkanei) */
 #include <inttypes.h>
 #include <stdio.h>
 
@@ -100,12 +101,93 @@ static uint8_t print_fields(const uint8_t *bytes, size_t size) {
     }
 }
 
-/* One of the wrong inputs below answers something else than it should: say so. */
-static int expect(uint8_t answer, uint8_t wanted) {
+/* Something below answers otherwise than it should: say so. */
+static int expect(uint32_t answer, uint32_t wanted) {
     if (answer == wanted)
         return 0;
-    printf("answer %u where %u was expected\n", answer, wanted);
+    printf("answer %" PRIu32 " where %" PRIu32 " was expected\n", answer, wanted);
     return 1;
+}
+
+/* The store: four cells of class 2, whose cap is 8. All of it is the firmware's own memory. */
+#define CELLS 4
+static uint32_t values[CELLS] = {3, 5, 0, 8};
+static const uint8_t classes[CELLS] = {2, 2, 2, 2};
+static uint16_t readers[CELLS];
+static uint8_t claimants[CELLS];
+static uint8_t exclusives[CELLS];
+static uint32_t logs[RUKKANEI_LOG_WORDS];
+static rukkanei_sessions sessions;
+#define LENT values, CELLS, classes, CELLS, readers, CELLS, claimants, CELLS, exclusives, CELLS, logs, RUKKANEI_LOG_WORDS
+
+/* Carries out one call and keeps the record that it hands back. A session above 15 has no record: any is passed, and none is kept. */
+static rukkanei_reply carry_out(const struct call *c) {
+    rukkanei_session idle = {0, 0, 0};
+    rukkanei_session *own = c->session < RUKKANEI_SESSIONS ? &sessions.records[c->session] : &idle;
+    rukkanei_reply reply = {RUKKANEI_UNKNOWN_TAG, 0, *own};
+    switch (c->tag) {
+    case RUKKANEI_TAG_BEGIN:
+        reply = rukkanei_begin(*own, LENT, c->session);
+        break;
+    case RUKKANEI_TAG_READ:
+        reply = rukkanei_read(*own, LENT, c->session, c->cell);
+        break;
+    case RUKKANEI_TAG_WRITE:
+        reply = rukkanei_write(*own, LENT, c->session, c->cell, c->value);
+        break;
+    case RUKKANEI_TAG_SEAL:
+        reply = rukkanei_seal(*own, LENT, c->session);
+        break;
+    case RUKKANEI_TAG_ADVANCE:
+        reply = rukkanei_advance(*own, LENT, c->session);
+        break;
+    case RUKKANEI_TAG_ABANDON:
+        reply = rukkanei_abandon(*own, LENT, c->session);
+        break;
+    }
+    *own = reply.session;
+    return reply;
+}
+
+/* Carries out a call, prints it with its answer, and says if that is not the wanted one. */
+static int carried(struct call c, uint32_t wanted) {
+    rukkanei_reply reply = carry_out(&c);
+    printf("answer %" PRIu32, reply.number);
+    if (reply.number == RUKKANEI_VALUE)
+        printf(" value %" PRIu32, reply.value);
+    printf(": ");
+    print_call(&c);
+    return expect(reply.number, wanted);
+}
+
+/* One transaction of session 2: it reads cells 0 and 1, writes one more to cell 1, seals, and advances until the cell is promoted, published
+ * and released. Beside it, what a call that does not fit is answered. */
+static int transact(void) {
+    rukkanei_set_up_reply up = rukkanei_set_up(sessions, LENT);
+    size_t index;
+    int wrong = expect(up.number, RUKKANEI_DONE);
+    sessions = up.sessions;
+
+    wrong += carried((struct call){RUKKANEI_TAG_READ, 2, 0, 0, 0}, RUKKANEI_WRONG_PHASE);
+    wrong += carried((struct call){RUKKANEI_TAG_BEGIN, 16, 0, 0, 0}, RUKKANEI_NO_SUCH_SESSION);
+    wrong += carried((struct call){RUKKANEI_TAG_BEGIN, 2, 0, 0, 0}, RUKKANEI_DONE);
+    wrong += carried((struct call){RUKKANEI_TAG_READ, 2, 0, 0, 0}, RUKKANEI_VALUE);
+    wrong += carried((struct call){RUKKANEI_TAG_READ, 2, 0, 1, 0}, RUKKANEI_VALUE);
+    wrong += carried((struct call){RUKKANEI_TAG_READ, 2, 0, 300, 0}, RUKKANEI_NO_SUCH_CELL);
+    wrong += carried((struct call){RUKKANEI_TAG_WRITE, 2, 0, 1, 9}, RUKKANEI_ABOVE_CAP);
+    wrong += carried((struct call){RUKKANEI_TAG_WRITE, 2, 0, 1, 6}, RUKKANEI_DONE);
+
+    /* What the session would read, in place: its own word of the log where it has written, the store's where it has not. */
+    if (rukkanei_peek_place(sessions.records[2], LENT, 2, 1, &index) == RUKKANEI_IN_LOGS)
+        printf("peek cell 1: %" PRIu32 " in the log, %" PRIu32 " in the store\n", logs[index], values[1]);
+
+    wrong += carried((struct call){RUKKANEI_TAG_SEAL, 2, 0, 0, 0}, RUKKANEI_SEALED);
+    wrong += carried((struct call){RUKKANEI_TAG_ADVANCE, 2, 0, 0, 0}, RUKKANEI_MOVED);
+    wrong += carried((struct call){RUKKANEI_TAG_ADVANCE, 2, 0, 0, 0}, RUKKANEI_MOVED);
+    wrong += carried((struct call){RUKKANEI_TAG_ADVANCE, 2, 0, 0, 0}, RUKKANEI_COMMITTED);
+    for (size_t i = 0; i < CELLS; i++)
+        printf("cell %zu: %" PRIu32 "\n", i, values[i]);
+    return wrong;
 }
 
 int main(void) {
@@ -145,5 +227,7 @@ int main(void) {
         wrong += expect(print_fields(unknown, sizeof unknown), RUKKANEI_UNKNOWN_TAG);
         wrong += expect(print_fields(length, sizeof length), RUKKANEI_WRONG_LENGTH);
     }
+
+    wrong += transact();
     return wrong != 0;
 }

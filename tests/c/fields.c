@@ -1,4 +1,4 @@
-/* Compares the exported reader and writer with the reference of reference.h: all tags, lengths and truncations, then random buffers.
+/* Compares the exported reader and writer with those of expected_fields.h: all tags, lengths and truncations, then random buffers.
  *
  *   fields SEED ROUNDS
  *
@@ -7,7 +7,7 @@
 #include <stdio.h>
 #include <stdlib.h>
 
-#include "reference.h"
+#include "expected_fields.h"
 #include "rukkanei.h"
 
 static uint64_t state;
@@ -59,7 +59,7 @@ static unsigned compare_read(const uint8_t *bytes, size_t size, size_t place, si
     struct numbers mine = before, theirs = before;
     size_t my_length = length_before, their_length = length_before;
     uint8_t *copy = malloc(size + 1);
-    unsigned wanted = reference_read(bytes, size, place, &mine, &my_length);
+    unsigned wanted = expected_read(bytes, size, place, &mine, &my_length);
     unsigned answer;
     memcpy(copy, bytes, size);
     answer = rukkanei_field_read(bytes, size, place, &theirs.tag, &theirs.session, &theirs.class_byte, &theirs.cell, &theirs.value,
@@ -82,7 +82,7 @@ static void compare_write(const uint8_t *filled, size_t size, struct numbers n) 
     unsigned wanted, answer;
     memcpy(mine, filled, size);
     memcpy(theirs, filled, size);
-    wanted = reference_write(mine, size, n, &my_length);
+    wanted = expected_write(mine, size, n, &my_length);
     answer = rukkanei_field_write(theirs, size, n.tag, n.session, n.class_byte, n.cell, n.value, &their_length);
     check(answer == wanted, "writer's answer", filled, size, n.tag);
     check(my_length == their_length, "writer's length", filled, size, n.tag);
@@ -139,6 +139,15 @@ static void constants(void) {
     check(RUKKANEI_TAG_ADVANCE == 5 && RUKKANEI_TAG_ABANDON == 6 && RUKKANEI_TAG_STARTING_CELL == 8, "tags", NULL, 0, 0);
     check(RUKKANEI_DONE == 100 && RUKKANEI_END_OF_FIELDS == 106 && RUKKANEI_CUT_SHORT == 10, "answers", NULL, 0, 0);
     check(RUKKANEI_UNKNOWN_TAG == 11 && RUKKANEI_WRONG_LENGTH == 12 && RUKKANEI_SHORT_TARGET == 13, "answers", NULL, 0, 0);
+    check(RUKKANEI_VALUE == 101 && RUKKANEI_SEALED == 102 && RUKKANEI_MOVED == 103 && RUKKANEI_WAITING == 104 && RUKKANEI_COMMITTED == 105,
+          "answers of the calls", NULL, 0, 0);
+    check(RUKKANEI_NO_SUCH_SESSION == 1 && RUKKANEI_WRONG_PHASE == 2 && RUKKANEI_NO_SUCH_CELL == 3 && RUKKANEI_ABOVE_CAP == 4 &&
+              RUKKANEI_LOG_FULL == 5 && RUKKANEI_CONFLICT == 6 && RUKKANEI_WRONG_LENGTHS == 7 && RUKKANEI_NO_SUCH_CLASS == 8 &&
+              RUKKANEI_DAMAGED_RECORD == 9 && RUKKANEI_NOT_IN_LOG == 14,
+          "refusals of the calls", NULL, 0, 0);
+    check(RUKKANEI_SESSIONS == 16 && RUKKANEI_CELLS_MAX == 1024 && RUKKANEI_LOG_WORDS == 2048, "sizes", NULL, 0, 0);
+    check(sizeof(rukkanei_session) == 4 && sizeof(rukkanei_sessions) == 64 && sizeof(rukkanei_reply) == 12 && sizeof(rukkanei_set_up_reply) == 72,
+          "sizes of the structs", NULL, 0, 0);
     for (unsigned tag = 0; tag < 256; tag++)
         check(body_of(tag) == NULL || 3 + strlen(body_of(tag)) <= RUKKANEI_FIELD_MAX, "longest field", NULL, 0, tag);
 }
@@ -209,7 +218,7 @@ static void random_buffers(unsigned long rounds) {
                 struct numbers n = any_numbers();
                 if (below(8) != 0)
                     n.tag = (uint8_t)below(9);
-                reference_write(made + size, 64 - size, n, &length);
+                expected_write(made + size, 64 - size, n, &length);
                 size += length;
             }
             if (size > 0 && below(2) == 0)

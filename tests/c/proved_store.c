@@ -1,7 +1,7 @@
-/* plain_store.h over the proved calls of include/rukkanei_store.h, so that whatever runs the plain store can run the proved one.
-   Links with the archive that `rt staticlib exports` makes. */
+/* plain_store.h over the proved calls of include/rukkanei.h, so that whatever runs the plain store can run the proved one. A call is passed its
+   session's record alone, and the one handed back is put in its place: the other fifteen are out of its reach. Links with the archive for C. */
 #include "plain_store.h"
-#include "rukkanei_store.h"
+#include "rukkanei.h"
 
 #include <string.h>
 
@@ -14,72 +14,84 @@ const char *store_name(void)
     return "proved calls for C";
 }
 
-static rukkanei_sessions load(const plain_session *sessions)
+/* The record to pass: the session's own; for a session above 15, which has none, one of the sixteen. */
+static rukkanei_session record_of(const plain_session *sessions, uint8_t session)
 {
-    rukkanei_sessions s;
-    memcpy(&s, sessions, sizeof s);
-    return s;
+    rukkanei_session record;
+    memcpy(&record, &sessions[session % PLAIN_SESSIONS], sizeof record);
+    return record;
 }
 
-/* Runs one call: the records in and back, the answer in two numbers. */
-#define CALL(...) \
-    plain_answer a; \
-    rukkanei_sessions s = __VA_ARGS__; \
-    memcpy(sessions, &s, sizeof s); \
-    return a
+/* The answer 0, which no call gives, tells of a record that should have come back as it came and did not. */
+static plain_answer unchanged(rukkanei_session passed, rukkanei_reply reply)
+{
+    plain_answer a = {reply.number, reply.value};
+    if (memcmp(&passed, &reply.session, sizeof passed) != 0) {
+        a.number = 0;
+    }
+    return a;
+}
+
+/* Puts the record handed back in its place; that of a session above 15 must be the one passed. */
+static plain_answer put_back(plain_session *sessions, uint8_t session, rukkanei_reply reply)
+{
+    if (session >= PLAIN_SESSIONS) {
+        return unchanged(record_of(sessions, session), reply);
+    }
+    memcpy(&sessions[session], &reply.session, sizeof reply.session);
+    return (plain_answer){reply.number, reply.value};
+}
 
 plain_answer plain_set_up(const plain_lent *lent, plain_session *sessions)
 {
-    CALL(rukkanei_set_up(load(sessions), LENT, &a.number, &a.value));
+    rukkanei_sessions all;
+    memcpy(&all, sessions, sizeof all);
+    rukkanei_set_up_reply reply = rukkanei_set_up(all, LENT);
+    memcpy(sessions, &reply.sessions, sizeof reply.sessions);
+    return (plain_answer){reply.number, reply.value};
 }
 
 plain_answer plain_begin(const plain_lent *lent, plain_session *sessions, uint8_t session)
 {
-    CALL(rukkanei_begin(load(sessions), LENT, session, &a.number, &a.value));
+    return put_back(sessions, session, rukkanei_begin(record_of(sessions, session), LENT, session));
 }
 
 plain_answer plain_read(const plain_lent *lent, plain_session *sessions, uint8_t session, uint32_t cell)
 {
-    CALL(rukkanei_read(load(sessions), LENT, session, cell, &a.number, &a.value));
+    return put_back(sessions, session, rukkanei_read(record_of(sessions, session), LENT, session, cell));
 }
 
 plain_answer plain_write(const plain_lent *lent, plain_session *sessions, uint8_t session, uint32_t cell, uint32_t value)
 {
-    CALL(rukkanei_write(load(sessions), LENT, session, cell, value, &a.number, &a.value));
+    return put_back(sessions, session, rukkanei_write(record_of(sessions, session), LENT, session, cell, value));
 }
 
 plain_answer plain_seal(const plain_lent *lent, plain_session *sessions, uint8_t session)
 {
-    CALL(rukkanei_seal(load(sessions), LENT, session, &a.number, &a.value));
+    return put_back(sessions, session, rukkanei_seal(record_of(sessions, session), LENT, session));
 }
 
 plain_answer plain_advance(const plain_lent *lent, plain_session *sessions, uint8_t session)
 {
-    CALL(rukkanei_advance(load(sessions), LENT, session, &a.number, &a.value));
+    return put_back(sessions, session, rukkanei_advance(record_of(sessions, session), LENT, session));
 }
 
 plain_answer plain_abandon(const plain_lent *lent, plain_session *sessions, uint8_t session)
 {
-    CALL(rukkanei_abandon(load(sessions), LENT, session, &a.number, &a.value));
+    return put_back(sessions, session, rukkanei_abandon(record_of(sessions, session), LENT, session));
 }
 
-/* The records are handed back as they came: the caller's are not written. */
 plain_answer plain_peek_number(const plain_lent *lent, const plain_session *sessions, uint8_t session, uint32_t cell)
 {
-    plain_answer a;
-    rukkanei_sessions s = load(sessions);
-    rukkanei_sessions back = rukkanei_peek_number(s, LENT, session, cell, &a.number, &a.value);
-    if (memcmp(&s, &back, sizeof s) != 0) {
-        a.number = 0;
-    }
-    return a;
+    rukkanei_session record = record_of(sessions, session);
+    return unchanged(record, rukkanei_peek_number(record, LENT, session, cell));
 }
 
 plain_part plain_peek(const plain_lent *lent, const plain_session *sessions, uint8_t session, uint32_t cell)
 {
     size_t index = 0;
     plain_part none = {lent->values, 0};
-    switch (rukkanei_peek_place(load(sessions), LENT, session, cell, &index)) {
+    switch (rukkanei_peek_place(record_of(sessions, session), LENT, session, cell, &index)) {
     case RUKKANEI_IN_VALUES:
         return (plain_part){lent->values + index, 1};
     case RUKKANEI_IN_LOGS:

@@ -1,4 +1,4 @@
-/* field_io.h over the proved functions of include/rukkanei.h. Links with the archive that `rt staticlib field` makes. */
+/* field_io.h over the proved functions of include/rukkanei.h. Links with the archive for C (scripts/archive). */
 #include "field_io.h"
 #include "rukkanei.h"
 

@@ -1,2 +1,4 @@
 pub mod Digits
 pub mod Sweeps
+pub mod Tags
+pub mod Changes

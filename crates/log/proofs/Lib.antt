@@ -1,3 +1,4 @@
 pub mod Searches
 pub mod Targets
+pub mod Twos
 pub mod Fills

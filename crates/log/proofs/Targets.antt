@@ -51,9 +51,10 @@ module _ (log : List ℕ) where
 
   -- ---- the lowest cell of entries judged each by itself
 
-  record LowestPublishing (n from k r : ℕ) : Type 0 where
+  pub record LowestPublishing (n from k r : ℕ) : Type 0 where
     pub least : (j : ℕ) → j < k → from ≤ cellAt log j → publishes (entryAt log j) ≡ true → r ≤ cellAt log j
-    pub place : r < n → (j : ℕ) × (j < k) × (cellAt log j ≡ r) × (from ≤ r)
+    pub place : r < n → (j : ℕ) × (j < k) × (cellAt log j ≡ r) × (from ≤ r) × (publishes (entryAt log j) ≡ true)
+    pub most : r ≤ n
 
   publishing-step : (n from k held : ℕ) → LowestPublishing n from k held → LowestPublishing n from (suc k) (better log from k held)
   unfolding better
@@ -63,10 +64,12 @@ module _ (log : List ℕ) where
       split (LowestPublishing n from (suc k)) (leb from c && (ltb c held && p))
       (λ t.
       let u = leb-true from c (both-l (leb from c) (ltb c held && p) t) in
-      let v = ltb-true c held (both-l (ltb c held) p (both-r (leb from c) (ltb c held && p) t)) in
+      let y = both-r (leb from c) (ltb c held && p) t in
+      let v = ltb-true c held (both-l (ltb c held) p y) in
       record {
         least = λ j l f o. same j k (λ e. rw e (omega arith)) (λ d. omega (arith, w .least j (omega arith) f o));
-        place = λ l. (k, omega arith, refl, u);
+        place = λ l. (k, omega arith, refl, u, both-r (ltb c held) p y);
+        most = omega (arith, w .most);
       })
       (λ t.
       record {
@@ -76,12 +79,13 @@ module _ (log : List ℕ) where
             (λ q. let f′ : from ≤ c = rw e at f in let o′ : p ≡ true = rw e at o in absurd (clash true refl (simp (le-leb from c f′, q, o′) at t)))
             (λ q. rw e (ltb-false c held q)))
             (λ d. w .least j (omega arith) f o);
-        place = λ l. let h = w .place l in (h .0, omega (arith, h .1), h .2, h .3);
+        place = λ l. let h = w .place l in (h .0, omega (arith, h .1), h .2, h .3, h .4);
+        most = w .most;
       })
 
-  lowest-publishing : (n from k : ℕ) → LowestPublishing n from k (lowestPublishing log n from k)
+  pub lowest-publishing : (n from k : ℕ) → LowestPublishing n from k (lowestPublishing log n from k)
   unfolding lowestPublishing
-  lowest-publishing n from zero = record { least = λ j l f o. absurd (omega arith); place = λ l. absurd (omega arith) }
+  lowest-publishing n from zero = record { least = λ j l f o. absurd (omega arith); place = λ l. absurd (omega arith); most = omega arith }
   lowest-publishing n from (suc k) = publishing-step n from k (lowestPublishing log n from k) (lowest-publishing n from k)
 
   -- the four ways through one entry, with its cell read
@@ -155,7 +159,7 @@ module _ (log : List ℕ) where
   -- ---- one turn of the search
 
   module _ (n m from r : ℕ) (is : r ≡ lowestPublishing log n from m) where
-    lowest-r : LowestPublishing n from m r
+    pub lowest-r : LowestPublishing n from m r
     lowest-r = rw is (lowest-publishing n from m)
 
     -- the lowest cell is not above a written one
@@ -177,7 +181,7 @@ module _ (log : List ℕ) where
 
     -- the cell found is one of the log's, and not below the start
     module _ (lt : r < n) (k : ℕ) (f : found m k ≡ slotIn log m r) where
-      turn-slot : slotIn log m r ≡ some k
+      pub turn-slot : slotIn log m r ≡ some k
       turn-slot =
           which (slotIn log m r) (λ e. let p = lowest-r .place lt in absurd (slot-none m r e (p .0) (p .1) (p .2)))
           (λ i e. e ∙ ap some (sym (found-some m k (f ∙ e) .1)))

@@ -1,8 +1,9 @@
 -- What the searches of one session's log answer, in the model's terms.
 use Prim.Native.Nat.{ℕ, zero, suc}
-use mathlib.Core.Bool.{Bool, cond, not, _&&_}
+use mathlib.Core.Bool.{Bool, false, cond, not, _&&_}
 use mathlib.Core.Option.{Option, none, some}
 use mathlib.Core.List.{List}
+use mathlib.Core.Path.{_≡_}
 use lib.Dec.{leb, ltb}
 use Rattle.model.specs.Search.{some?}
 use Rattle.model.specs.Buffers.{cellAt, entryAt, slotIn, publishes, targetIn}
@@ -29,6 +30,21 @@ slotOf log m (some c) = slotIn log m c
 -- the first entry of the lowest written cell not below a cell
 unfoldable pub targetSlot : List ℕ → ℕ → ℕ → Option ℕ
 targetSlot log m from = slotOf log m (targetIn log m from)
+
+-- the lowest two such cells of k entries; n for each that there is not
+pub record LowestTwo (log : List ℕ) (n from k low high : ℕ) : Type 0 where
+  pub low-is : low ≡ lowestPublishing log n from k
+  pub high-is : high ≡ lowestPublishing log n (suc low) k
+
+-- whether a written cell is left above that of an entry
+unfoldable pub isMore : List ℕ → ℕ → Option ℕ → Bool
+isMore log m none = false
+isMore log m (some k) = some? (targetIn log m (suc (cellAt log k)))
+
+-- what a next advance is told: the entry that it handles, and whether another is left
+pub record IsNext (log : List ℕ) (m from slot : ℕ) (more : Bool) : Type 0 where
+  pub slot-is : found m slot ≡ targetSlot log m from
+  pub more-is : more ≡ isMore log m (targetSlot log m from)
 
 -- entry i publishes and no entry before it has its cell
 unfoldable pub firstPublishes : List ℕ → ℕ → Bool

@@ -2,11 +2,11 @@
 // Entries are looked at where they lie; contracts are the model's definitions.
 ghost use mathlib.Core.Path.{_≡_};
 ghost use mathlib.Core.Bool.{true, false};
-ghost use Prim.Native.Nat.{_+_, _*_, _<_, _≤_};
+ghost use Prim.Native.Nat.{ℕ, _+_, _*_, _<_, _≤_};
 ghost use lib.ListN.{length, replicate};
 ghost use Rattle.model.specs.Search.{some?, below};
 ghost use Rattle.model.specs.Buffers.{cellAt, entryAt, slotIn, publishes, targetIn, appended, updated};
-ghost use Rattle.log.specs.Slots.{found, better, lowestPublishing, targetSlot, firstPublishes};
+ghost use Rattle.log.specs.Slots.{found, better, lowestPublishing, targetSlot, firstPublishes, LowestTwo, IsNext};
 
 // The cell of entry k.
 pub fn cell_at(log: &[u32], k: usize) -> u32
@@ -124,6 +124,118 @@ pub fn target(log: &[u32], count: usize, n: u32, from: u32) -> usize
         start = cell + 1;
     };
     slot
+}
+
+// The lowest two cells of some entries.
+struct Two {
+    low: u32,
+    high: u32,
+}
+
+// The lowest two of the cells held so far and entry i's, where that is not below from and publishes.
+fn lower_two(log: &[u32], i: usize, from: u32, held: Two) -> Two
+    requires { ⌜ 4 * i + 3 < length (now log) ⌝ }
+    ensures { λ r. ⌜ ((n : ℕ) → LowestTwo (now (log .entry)) n from i (held .low) (held .high) → LowestTwo (now (log .entry)) n from (i + 1) (r .low) (r .high)) ⌝ }
+{
+    let cell = cell_at(log, i);
+    let low = held.low;
+    let high = held.high;
+    if cell < from {
+        return held;
+    }
+    if high <= cell {
+        return held;
+    }
+    if !publishes(log, i) {
+        return held;
+    }
+    if cell < low {
+        return Two {
+            low: cell,
+            high: low,
+        };
+    }
+    if low < cell {
+        return Two {
+            low: low,
+            high: cell,
+        };
+    }
+    held
+}
+
+// The lowest two cells not below from and below n of the first count entries that publish, each judged by itself; n for each that there is not.
+fn lowest_two(log: &[u32], count: usize, n: u32, from: u32) -> Two
+    requires { ⌜ 4 * count ≤ length (now log) ⌝ }
+    ensures { λ r. ⌜ LowestTwo (now (log .entry)) n from count (r .low) (r .high) ⌝ }
+{
+    let mut i = 0;
+    let mut held = Two { low: n, high: n };
+    while i < count {
+        held = lower_two(log, i, from, held);
+        i += 1;
+    }
+    held
+}
+
+// The entry that an advance handles, count where there is none, and whether another written cell is left above its cell.
+pub struct Next {
+    pub slot: usize,
+    pub more: bool,
+}
+
+// The same by a search for each of the two cells.
+fn next_by_targets(log: &[u32], count: usize, n: u32, from: u32) -> Next
+    requires { ⌜ (4 * count ≤ length (now log)) × (n ≤ 1024) × (below n (cellAt (now log)) count ≡ true) ⌝ }
+    ensures { λ r. ⌜ IsNext (now (log .entry)) count from (r .slot) (r .more) ⌝ }
+{
+    let slot = target(log, count, n, from);
+    if count <= slot {
+        return Next {
+            slot: slot,
+            more: false,
+        };
+    }
+    let above = cell_at(log, slot) + 1;
+    let other = target(log, count, n, above);
+    Next {
+        slot: slot,
+        more: other < count,
+    }
+}
+
+// The entry that an advance handles, and whether another is left: by one pass where the first entries of the lowest two cells publish,
+// and by a search for each where a later entry of a cell publishes and its first does not.
+pub fn next_two(log: &[u32], count: usize, n: u32, from: u32) -> Next
+    requires { ⌜ (4 * count ≤ length (now log)) × (n ≤ 1024) × (below n (cellAt (now log)) count ≡ true) ⌝ }
+    ensures { λ r. ⌜ IsNext (now (log .entry)) count from (r .slot) (r .more) ⌝ }
+{
+    let two = lowest_two(log, count, n, from);
+    let low = two.low;
+    let high = two.high;
+    if n <= low {
+        return Next {
+            slot: count,
+            more: false,
+        };
+    }
+    let k = find(log, count, low);
+    if publishes(log, k) {
+        if n <= high {
+            return Next {
+                slot: k,
+                more: false,
+            };
+        }
+        let j = find(log, count, high);
+        if publishes(log, j) {
+            return Next {
+                slot: k,
+                more: true,
+            };
+        }
+    }
+    next_by_targets(log, count, n, from)
 }
 
 // Whether any cell is written: the first entry of some cell publishes.

@@ -1,5 +1,6 @@
 pub mod Tools
 pub mod Laws
+pub mod Carried
 pub mod Passing
 pub mod Telling
 pub mod Quiet

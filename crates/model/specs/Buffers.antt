@@ -13,7 +13,7 @@ use Rattle.model.specs.declared.Session.{Session}
 use Rattle.model.specs.declared.Sessions.{Sessions}
 use Rattle.model.specs.declared.Lock.{Lock}
 
--- the locks: for each cell a reader set, a claimant and a writer mark, each kind in a list of its own (crate lockrun: as one run of records)
+-- the locks: for each cell a reader set, a claimant and a writer mark, each kind in a list of its own (crate lock_records: as one run of records)
 pub record Locks : Type 0 where
   pub readers : List ℕ
   pub claimants : List ℕ

@@ -16,3 +16,4 @@ pub mod SetUpCases
 pub mod Anomalies
 pub mod Words
 pub mod Slices
+pub mod Turns

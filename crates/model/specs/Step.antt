@@ -1,6 +1,9 @@
 -- The calls and set-up (document 01, "The steps"): a call is its plan, and what the plan does.
-use Prim.Native.Nat.{ℕ}
-use Rattle.model.specs.Buffers.{Buffers, Store, size, lockAt, allFit, lengthsFit, fresh}
+use mathlib.Core.Path.{_≡_}
+use Prim.Native.Nat.{ℕ, _%_}
+use Rattle.model.specs.Buffers.{Buffers, Store, size, sessionAt, withSession, lockAt, allFit, lengthsFit, fresh}
+use Rattle.model.specs.declared.Session.{Session}
+use Rattle.model.specs.declared.Sessions.{Sessions}
 use Rattle.model.specs.declared.Call.{Call}
 use Rattle.model.specs.declared.Call.the-variants.{Begin, Read, Write, Seal, Advance, Abandon, Peek}
 use Rattle.model.specs.declared.Answer.{Answer}
@@ -54,3 +57,11 @@ effect k σ = outcome (answerOf k σ) (step k σ)
 
 unfoldable pub setUpEffect : Store → Outcome
 setUpEffect σ = outcome (setUpAnswer (σ .lent)) (setUp σ)
+
+-- a call that is handed the lent buffers B and its session's record x, answers a, and leaves the buffers C and the record y: of every sixteen records of which x
+-- is the session's it answers and leaves what the model says. A session above 15 has no record: the one handed in stands for that of its number modulo 16, and
+-- comes back as it came, since the call is refused
+abbrev pub TakesRecord : Call → Buffers → Session → Answer → Buffers → Session → Type 0
+TakesRecord k B x a C y =
+    (ss : Sessions) → sessionAt ss (sessionOf k % 16) ≡ x
+    → outcome a (record { lent = C; sessions = withSession ss (sessionOf k % 16) y }) ≡ effect k (record { lent = B; sessions = ss })

@@ -5,6 +5,7 @@ ghost use Prim.Native.Nat.{suc, _<_};
 ghost use lib.ListN.{replicate};
 ghost use Rattle.model.specs.Buffers.{idle, running, withEntry, moveTo};
 ghost use Rattle.model.specs.Effects.{number, valueOf};
+ghost use Rattle.model.specs.Step.{sessionOf};
 
 // A session's record: phase (0 idle, 1 running, 2 promoting, 3 publishing, 4 releasing), entry count, next cell.
 #[repr(C)]
@@ -14,7 +15,7 @@ pub struct Session {
     pub next: u16,
 }
 
-// The records of the sixteen sessions, passed in by every call and handed back with its answer.
+// The records of the sixteen sessions, which the caller keeps: a call takes that of its session and hands it back, set-up all sixteen.
 #[repr(C)]
 pub struct Sessions {
     pub records: [Session; 16],
@@ -36,6 +37,23 @@ pub enum Call {
     Advance(u8),
     Abandon(u8),
     Peek(u8, u32),
+}
+
+impl Call {
+    // The calling session.
+    pub fn session(self) -> u8
+        ensures { λ r. ⌜ r ≡ sessionOf self ⌝ }
+    {
+        match self {
+            Call::Begin(s) => s,
+            Call::Read(s, _) => s,
+            Call::Write(s, _, _) => s,
+            Call::Seal(s) => s,
+            Call::Advance(s) => s,
+            Call::Abandon(s) => s,
+            Call::Peek(s, _) => s,
+        }
+    }
 }
 
 // What a call answers.
@@ -108,6 +126,32 @@ pub enum Plan {
     // a cell of the store, an entry of the log
     ShowStore(u32),
     ShowLog(u32),
+}
+
+// What becomes of the locks when a plan is carried out: nothing; one cell's changes; or those of the session's entries do.
+pub enum Change {
+    Keep,
+    Join(u32),
+    Claim(u32),
+    Acquire(u32),
+    Vacate(u32),
+    // rolling back: from each entry's cell
+    Withdraw,
+    // sealing: from the cells not written
+    DropReads,
+}
+
+// A call carried out on its session's log and record: what it answers, the record in its next phase, and what becomes of the locks.
+pub struct Turn {
+    pub answer: Answer,
+    pub session: Session,
+    pub change: Change,
+}
+
+// A call's answer and the record that it hands back.
+pub struct SessionReply {
+    pub answer: Answer,
+    pub session: Session,
 }
 
 // A call's answer and the records that it hands back.

@@ -1,12 +1,1 @@
-pub mod Advances
-pub mod Carry
-pub mod Choices
-pub mod Entering
-pub mod OneRecord
-pub mod Parts
-pub mod Peeks
-pub mod Refusals
-pub mod Seals
-pub mod SetUp
-pub mod Tags
-pub mod Tested
+pub mod Forms

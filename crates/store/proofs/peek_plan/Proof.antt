@@ -1,43 +1,59 @@
--- `store::peek_plan` meets its contract: refused by the lengths or the session, or what `decide::peek` plans on the session's part.
-use mathlib.Core.Path.{sym, _∙_}
+-- `store::peek_plan` meets its contract: refused by 7 or 1, or what is decided from the session's log and record.
+use mathlib.Core.Path.{_≡_, refl, sym, ap, _∙_}
 use borrow.Author.Tests.{not-true, not-false}
-use Rattle.model.specs.Buffers.{Store}
-use Rattle.store.specs.Lent.{storeOf, LengthsFit}
-use Rattle.store.proofs.Refusals.{fit-is, plan-7, plan-1, sized}
-use Rattle.store.proofs.Parts.{part-fits, can-decide, part-start, part-stop, part-bytes, record-bytes, part-some}
-use Rattle.store.proofs.Peeks.{peek-planned}
+use Rattle.model.specs.Buffers.{Buffers}
+use Rattle.model.specs.Plans.{plan}
+use Rattle.model.specs.declared.Call.the-variants.{Peek}
+use Rattle.calls.proofs.Lengths.{Admitted, admitted-by, plan-refused-by}
+use Rattle.calls.proofs.Logs.{cut-long, log-start, log-stop, log-bytes, log-some}
+use Rattle.calls.proofs.Whole.{is-plan}
+use Rattle.store.proofs.Forms.{log-inside}
+use Rattle.store.specs.Lent.{buffersOf}
 use Rattle.store.proofs.peek_plan.Statement.{statement}
 use Rattle.store.proofs.peek_plan.Tie as tie
 
--- the store at the entry, and what is known past refusals 7 and 1
-abbrev given : tie.Start → Store
-given c =
-    storeOf (c .args .values .now) (c .args .classes .now) (c .args .readers .now) (c .args .claimants .now) (c .args .exclusives .now) (c .args .logs .now) (c .args .t1)
+-- the buffers at the entry, and what is known past 7 and 1
+abbrev lent : tie.Start → Buffers
+lent c = buffersOf (c .args .values .now) (c .args .classes .now) (c .args .readers .now) (c .args .claimants .now) (c .args .exclusives .now) (c .args .logs .now)
 
-abbrev start : tie.Else2 → tie.Start
-start c = c .before .before .before .before .before .before .before .before .before
+fits : (c : tie.Else1) → Admitted (lent (c .before .before .before .before .before .before .before .before)) (c .before .before .before .before .before .before .before .before .args .session)
+fits c = admitted-by (lent (c .before .before .before .before .before .before .before .before)) _ _ (c .before .admits .ensures) (not-false _ (c .if1 .left))
 
-fits : (c : tie.Else2) → LengthsFit (given (start c)) (start c .args .session)
-fits c = sized (given (start c)) _ (c .before .before .lengths-fit .ensures) _ (not-false _ (c .before .if1 .left)) (c .if2 .left)
+admits-requires : tie.Need-admits-requires
+admits-requires c κs = tt
+
+admit-requires : tie.Need-admit-requires
+admit-requires c κs = tt
 
 returns : tie.Need-returns
-returns c = sym (plan-7 _ _ (sym (fit-is (given (c .before .before .before .before .before .before .before .before)) _ (c .before .lengths-fit .ensures)) ∙ not-true _ (c .if1 .taken)))
+returns c = λ ss o. plan-refused-by (lent (c .before .before .before .before .before .before .before .before .before)) _ _ (c .before .before .admits .ensures) (not-true _ (c .before .if1 .taken)) _ (c .admit .ensures) (Peek _ _) refl _ refl
+
+mul-a : tie.Need-mul-a
+mul-a c = log-start _ (fits (c) .low)
+
+add-e : tie.Need-add-e
+add-e c = log-stop _ (fits (c) .low)
+
+mul-peek-plan : tie.Need-mul-peek-plan
+mul-peek-plan c = log-bytes _ (fits (c) .low)
+
+sub-peek-plan : tie.Need-sub-peek-plan
+sub-peek-plan c = log-some _
+
+part-peek-plan-start : tie.Need-part-peek-plan-start
+part-peek-plan-start c = log-some _
+
+part-peek-plan-end : tie.Need-part-peek-plan-end
+part-peek-plan-end c = log-inside _ _ (fits (c))
+
+peek-plan-requires : tie.Need-peek-plan-requires
+peek-plan-requires c κs = (cut-long _ _ (fits (c .before) .lengths .logs) (fits (c .before) .low), fits (c .before) .lengths .few)
 
 returns-2 : tie.Need-returns-2
-returns-2 c = sym (plan-1 _ _ (sym (fit-is (given (c .before .before .before .before .before .before .before .before .before)) _ (c .before .before .lengths-fit .ensures)) ∙ not-false _ (c .before .if1 .left)) (c .if2 .taken))
-
-part-peek-end : tie.Need-part-peek-end
-part-peek-end c = part-fits _ _ (fits (c .before))
-
-peek-requires : tie.Need-peek-requires
-peek-requires c κs = can-decide _ _ (fits (c .before .before))
-
-returns-3 : tie.Need-returns-3
-returns-3 c = peek-planned _ _ (fits (c .before .before .before)) _ _ (c .peek .ensures)
+unfolding plan
+returns-2 c = λ ss o. c .peek-plan .ensures ∙ is-plan (Peek _ _) (lent (c .before .before .before .before .before .before .before .before .before .before)) _ _ refl (fits (c .before .before)) ss o
 
 pub peek-plan-spec : {M : Type 1} → statement M
 peek-plan-spec =
     tie.close
-    (tie.spec
-    (λ c κs. tt) returns returns-2 (λ c. part-start _ _ (fits c)) (λ c. part-stop _ _ (fits c)) (λ c. record-bytes _ _ (fits c))
-    (λ c. (fits c) .session) (λ c. part-bytes _ _ (fits (c .before))) (λ c. part-some _) (λ c. part-some _) part-peek-end peek-requires returns-3)
+    (tie.spec admits-requires admit-requires returns mul-a add-e mul-peek-plan sub-peek-plan part-peek-plan-start part-peek-plan-end peek-plan-requires returns-2)

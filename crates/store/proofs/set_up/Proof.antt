@@ -4,8 +4,8 @@ use mathlib.Core.Bool.{true}
 use borrow.Author.Tests.{not-true, not-false}
 use Rattle.model.specs.Buffers.{Store, lengthsFit}
 use Rattle.store.specs.Lent.{storeOf}
-use Rattle.store.proofs.Refusals.{fit-is, lengths-of}
-use Rattle.store.proofs.SetUp.{set-7, set-8, set-done}
+use Rattle.calls.proofs.Lengths.{match-is, lengths-of}
+use Rattle.calls.proofs.SetUp.{set-7, set-8, set-done}
 use Rattle.store.proofs.set_up.Statement.{statement}
 use Rattle.store.proofs.set_up.Tie as tie
 
@@ -18,10 +18,10 @@ abbrev start : tie.Else1 → tie.Start
 start c = c .before .before .before .before .before .before .before .before
 
 fits : (c : tie.Else1) → lengthsFit (given (start c) .lent) ≡ true
-fits c = sym (fit-is (given (start c)) _ (c .before .lengths-fit .ensures)) ∙ not-false _ (c .if1 .left)
+fits c = sym (c .before .lengths-fit .ensures ∙ match-is (given (start c) .lent)) ∙ not-false _ (c .if1 .left)
 
 returns : tie.Need-returns
-returns c = set-7 _ (sym (fit-is (given (c .before .before .before .before .before .before .before .before)) _ (c .before .lengths-fit .ensures)) ∙ not-true _ (c .if1 .taken))
+returns c = set-7 _ (sym (c .before .lengths-fit .ensures ∙ match-is (given (c .before .before .before .before .before .before .before .before) .lent)) ∙ not-true _ (c .if1 .taken))
 
 all-fit-requires : tie.Need-all-fit-requires
 all-fit-requires c κs = lengths-of (given (start c) .lent) (fits c) .classes

@@ -1,50 +1,35 @@
--- Each call's outcome is the callee's.
-use mathlib.Core.Path.{refl}
+-- `store::step` meets its contract: the record of the calling session is taken out and put back, and `step_one` is the call.
+use Rattle.store.specs.Lent.{buffersOf}
+use Rattle.store.proofs.Forms.{of-sixteen}
+use borrow.Author.Needs.{needs}
 use Rattle.store.proofs.step.Statement.{statement}
 use Rattle.store.proofs.step.Tie as tie
 
+session-requires : tie.Need-session-requires
+session-requires c κs = tt
+
+step-one-requires : tie.Need-step-one-requires
+step-one-requires c κs = tt
+
+same-length : tie.Need-same-length
+same-length c = c .before .before .before .before .before .before .before .before .before .before .before .step-one .kept .1 .1 .0
+
+same-length-2 : tie.Need-same-length-2
+same-length-2 c = c .before .before .before .before .before .before .before .before .before .before .before .step-one .kept .1 .1 .1 .1 .0
+
+same-length-3 : tie.Need-same-length-3
+same-length-3 c = c .before .before .before .before .before .before .before .before .before .before .before .step-one .kept .1 .1 .1 .1 .1 .0
+
+same-length-4 : tie.Need-same-length-4
+same-length-4 c = c .before .before .before .before .before .before .before .before .before .before .before .step-one .kept .1 .1 .1 .1 .1 .1 .0
+
+same-length-5 : tie.Need-same-length-5
+same-length-5 c = c .before .before .before .before .before .before .before .before .before .before .before .step-one .kept .1 .1 .1 .1 .1 .1 .1 .0
+
 returns : tie.Need-returns
-returns c = rw (c .before .before .before .before .before .before .before .call .given .1) (c .begin .ensures)
-
-returns-2 : tie.Need-returns-2
-returns-2 c = let r = c .before .before .before .before .before .before .before .before in rw (r .before .before .before .before .before .before .before .call2 .given .1) (r .read .ensures)
-
-returns-3 : tie.Need-returns-3
-returns-3 c = let r = c .before .before .before .before .before .before .before .before in rw (r .before .before .before .before .before .before .before .call3 .given .1) (r .write .ensures)
-
-returns-4 : tie.Need-returns-4
-returns-4 c = let r = c .before .before in rw (r .before .before .before .before .before .before .before .call4 .given .1) (r .seal .ensures)
-
-returns-5 : tie.Need-returns-5
-returns-5 c = let r = c .before .before .before .before .before .before .before .before in rw (r .before .before .before .before .before .before .before .call5 .given .1) (r .advance .ensures)
-
-returns-6 : tie.Need-returns-6
-returns-6 c = let r = c .before .before .before .before .before .before in rw (r .before .before .before .before .before .before .before .call6 .given .1) (r .abandon .ensures)
-
-returns-7 : tie.Need-returns-7
-returns-7 c = rw (c .before .before .before .before .before .before .before .call7 .given .1) (c .peek-number .ensures)
+returns c = of-sixteen (c .before .before .before .before .before .before .before .before .before .before .before .before .before .before .before .before .before .before .before .before .before .before .before .before .before .args .call) (buffersOf (c .before .before .before .before .before .before .before .before .before .before .before .before .before .before .before .before .before .before .before .before .before .before .before .before .before .args .values .now) (c .before .before .before .before .before .before .before .before .before .before .before .before .before .before .before .before .before .before .before .before .before .before .before .before .before .args .classes .now) (c .before .before .before .before .before .before .before .before .before .before .before .before .before .before .before .before .before .before .before .before .before .before .before .before .before .args .readers .now) (c .before .before .before .before .before .before .before .before .before .before .before .before .before .before .before .before .before .before .before .before .before .before .before .before .before .args .claimants .now) (c .before .before .before .before .before .before .before .before .before .before .before .before .before .before .before .before .before .before .before .before .before .before .before .before .before .args .exclusives .now) (c .before .before .before .before .before .before .before .before .before .before .before .before .before .before .before .before .before .before .before .before .before .before .before .before .before .args .logs .now)) _ _ _ (c .before .before .before .before .before .before .before .before .before .before .before .before .before .before .before .before .before .before .session .ensures) _ _ (c .before .before .before .before .before .before .before .before .before .before .before .step-one .ensures)
 
 pub step-spec : {M : Type 1} → statement M
 step-spec =
     tie.close
-    (tie.spec
-    (λ c. c .match .keys1) (λ c κs. tt) (λ c. c .match .keys2) (λ c κs. tt) (λ c. c .match .keys3) (λ c κs. tt) (λ c. c .match .keys4)
-    (λ c κs. tt) (λ c. c .match .keys5) (λ c κs. tt) (λ c. c .match .keys6) (λ c κs. tt) (λ c. c .match .keys7) (λ c κs. tt) (λ c. refl)
-    (λ c. refl) (λ c. refl) (λ c. refl) (λ c. refl) returns (λ c. refl)
-    (λ c. c .before .before .before .before .before .before .before .before .read .kept .1 .1 .1 .0)
-    (λ c. c .before .before .before .before .before .before .before .before .read .kept .1 .1 .1 .1 .0)
-    (λ c. c .before .before .before .before .before .before .before .before .read .kept .1 .1 .1 .1 .1 .0)
-    (λ c. c .before .before .before .before .before .before .before .before .read .kept .1 .1 .1 .1 .1 .1 .0) returns-2 (λ c. refl)
-    (λ c. c .before .before .before .before .before .before .before .before .write .kept .1 .1 .1 .0)
-    (λ c. c .before .before .before .before .before .before .before .before .write .kept .1 .1 .1 .1 .0)
-    (λ c. c .before .before .before .before .before .before .before .before .write .kept .1 .1 .1 .1 .1 .0)
-    (λ c. c .before .before .before .before .before .before .before .before .write .kept .1 .1 .1 .1 .1 .1 .0) returns-3 (λ c. refl)
-    (λ c. c .before .before .seal .kept .1 .1 .1 .0) (λ c. refl) (λ c. refl) (λ c. refl) returns-4
-    (λ c. c .before .before .before .before .before .before .before .before .advance .kept .1 .0)
-    (λ c. c .before .before .before .before .before .before .before .before .advance .kept .1 .1 .1 .0)
-    (λ c. c .before .before .before .before .before .before .before .before .advance .kept .1 .1 .1 .1 .0)
-    (λ c. c .before .before .before .before .before .before .before .before .advance .kept .1 .1 .1 .1 .1 .0) (λ c. refl) returns-5 (λ c. refl)
-    (λ c. c .before .before .before .before .before .before .abandon .kept .1 .1 .1 .0)
-    (λ c. c .before .before .before .before .before .before .abandon .kept .1 .1 .1 .1 .0)
-    (λ c. c .before .before .before .before .before .before .abandon .kept .1 .1 .1 .1 .1 .0) (λ c. refl) returns-6 (λ c. refl) (λ c. refl)
-    (λ c. refl) (λ c. refl) (λ c. refl) returns-7)
+    (tie.spec session-requires (λ c. search needs) (λ c. search needs) (λ c. search needs) step-one-requires (λ c. search needs) (λ c. search needs) same-length same-length-2 same-length-3 same-length-4 same-length-5 returns)

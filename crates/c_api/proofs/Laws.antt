@@ -1,0 +1,40 @@
+-- A call's outcome in numbers, from its answer taken apart: the one law behind every exported call; and where a peek's word is, by its plan.
+use Prim.Native.Nat.{ℕ, _+_, _*_, _%_}
+use mathlib.Core.Path.{_≡_, sym, ap, _∙_}
+use Rattle.model.specs.Buffers.{Buffers, Store, sessionAt, withSession}
+use Rattle.model.specs.Effects.{number, valueOf, shown}
+use Rattle.model.specs.Step.{Outcome, outcome, effect, sessionOf, TakesRecord}
+use Rattle.model.specs.declared.Answer.{Answer}
+use Rattle.model.specs.declared.Session.{Session}
+use Rattle.model.specs.declared.Sessions.{Sessions}
+use Rattle.model.specs.declared.SessionReply.{SessionReply}
+use Rattle.model.specs.declared.Call.{Call}
+use Rattle.model.specs.declared.Plan.{Plan}
+use Rattle.model.specs.declared.Plan.the-variants.{Refuse, ShowStore, ShowLog}
+use Rattle.c_api.specs.declared.NumberReply.{NumberReply}
+use Rattle.c_api.specs.InNumbers.{numbersOf, replied, inNumbers, at, placeOf}
+
+pub in-numbers : (a : Answer) (σ : Store) (o : Outcome) (n v : ℕ) → outcome a σ ≡ o → n ≡ number a → v ≡ valueOf a → replied n v σ ≡ inNumbers o
+in-numbers a σ o n v e p q = rw (p, q) (ap inNumbers e)
+
+-- a call on one record: what the store's function replied, in numbers
+pub told : (k : Call) (B C : Buffers) (x : Session) (r : SessionReply) (n : NumberReply) → n ≡ numbersOf r → TakesRecord k B x (r .answer) C (r .session)
+    → (ss : Sessions) → sessionAt ss (sessionOf k % 16) ≡ x
+    → replied (n .number) (n .value) (record { lent = C; sessions = withSession ss (sessionOf k % 16) (n .session) })
+    ≡ inNumbers (effect k (record { lent = B; sessions = ss }))
+told k B C x r n e t ss o = rw e (ap inNumbers (t ss o))
+
+-- ---- the three plans of a peek
+
+module _ (s j : ℕ) (σ : Store) {p q : Plan} (e : p ≡ q) where
+  pub place-store : {c : ℕ} → p ≡ ShowStore c → at 1 c ≡ placeOf (shown s q σ) j
+  unfolding shown
+  place-store f = rw (sym e ∙ f)
+
+  pub place-log : {k : ℕ} → p ≡ ShowLog k → at 2 (128 * s + (4 * k + 2)) ≡ placeOf (shown s q σ) j
+  unfolding shown
+  place-log f = rw (sym e ∙ f)
+
+  pub place-none : {r : ℕ} → p ≡ Refuse r → at 0 j ≡ placeOf (shown s q σ) j
+  unfolding shown
+  place-none f = rw (sym e ∙ f)

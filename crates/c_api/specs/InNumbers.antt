@@ -1,0 +1,91 @@
+-- What a call tells a caller in C: document 01's number and value, the record of its session, and the buffers that it leaves.
+use Prim.Native.Nat.{ℕ, _%_}
+use mathlib.Core.Path.{_≡_}
+use mathlib.Core.List.{List, [], _∷_, map}
+use denote.Ref.{now}
+use Rattle.model.specs.Buffers.{Store, sessionAt, withSession}
+use Rattle.model.specs.Slices.{Slice, Number}
+use Rattle.model.specs.History.{Event}
+use Rattle.model.specs.Isolation.{Demand3OfCode}
+use Rattle.model.specs.Effects.{number, valueOf, Part, storeWord, logWord, noWord}
+use Rattle.model.specs.Step.{Outcome, effect, setUpEffect, peekShows, sessionOf}
+use Rattle.model.specs.declared.Call.{Call}
+use Rattle.model.specs.declared.Session.{Session}
+use Rattle.model.specs.declared.Sessions.{Sessions}
+use Rattle.model.specs.declared.SessionReply.{SessionReply}
+use Rattle.store.specs.Lent.{before, afterwards}
+use Rattle.c_api.specs.declared.NumberReply.{NumberReply}
+use Rattle.c_api.specs.declared.SetUpReply.{SetUpReply}
+
+-- a reply in numbers
+abbrev pub numbersOf : SessionReply → NumberReply
+numbersOf r = record { number = number (r .answer); value = valueOf (r .answer); session = r .session }
+
+-- a call's number, value, and all that it leaves
+pub record NumberOutcome : Type 0 where
+  pub number : ℕ
+  pub value : ℕ
+  pub store : Store
+
+abbrev pub replied : ℕ → ℕ → Store → NumberOutcome
+replied n v σ = record { number = n; value = v; store = σ }
+
+abbrev pub inNumbers : Outcome → NumberOutcome
+inNumbers o = replied (number (o .answer)) (valueOf (o .answer)) (o .store)
+
+-- the call k, handed the record x of its session, tells its answer in numbers and leaves what the model says: of every sixteen records of which x is the session's,
+-- with the one handed back in its place. A session above 15 has no record: what is handed in comes back as it came
+abbrev pub TakesInNumbers : Call → Slice → Slice → Slice → Slice → Slice → Slice → Session → NumberReply → Type 0
+TakesInNumbers k values classes readers claimants exclusives logs x r =
+    (ss : Sessions) → sessionAt ss (sessionOf k % 16) ≡ x
+    → replied (r .number) (r .value) (afterwards values classes readers claimants exclusives logs (withSession ss (sessionOf k % 16) (r .session)))
+    ≡ inNumbers (effect k (before values classes readers claimants exclusives logs ss))
+
+-- set-up
+abbrev pub SetsUpInNumbers : Slice → Slice → Slice → Slice → Slice → Slice → Sessions → SetUpReply → Type 0
+SetsUpInNumbers values classes readers claimants exclusives logs ss r =
+    replied (r .number) (r .value) (afterwards values classes readers claimants exclusives logs (r .sessions))
+    ≡ inNumbers (setUpEffect (before values classes readers claimants exclusives logs ss))
+
+-- where a peek's word is: kind 1 in the values, 2 in the logs, and the index there; 0 nowhere, and the index stays j
+pub record Place : Type 0 where
+  pub kind : ℕ
+  pub index : ℕ
+
+abbrev pub at : ℕ → ℕ → Place
+at k i = record { kind = k; index = i }
+
+abbrev pub placeOf : Part → ℕ → Place
+placeOf (storeWord i) j = at 1 i
+placeOf (logWord i) j = at 2 i
+placeOf noWord j = at 0 j
+
+-- the peek of cell c by session s, with its record x, tells where its word is: the kind r, and in a lent number the index
+abbrev pub TellsPlace : ℕ → ℕ → Slice → Slice → Slice → Slice → Slice → Slice → Session → Number → ℕ → Type 0
+TellsPlace s c values classes readers claimants exclusives logs x index r =
+    (ss : Sessions) → sessionAt ss (s % 16) ≡ x
+    → at r (now (index .exit)) ≡ placeOf (peekShows s c (before values classes readers claimants exclusives logs ss)) (now (index .entry))
+
+-- ---- lists of calls for C
+
+-- a call with the two numbers that it told
+pub record Heard : Type 0 where
+  pub call : Call
+  pub number : ℕ
+  pub value : ℕ
+
+-- what a caller in C hears of an event
+abbrev pub heard : Event → Heard
+heard e = record { call = e .call; number = number (e .answer); value = valueOf (e .answer) }
+
+-- calls for C made one after the other, the newest first: each kept its contract on what the call before left, the record handed back put in its place
+pub data Called (σ : Store) : List Call → List Heard → Store → Type 0 where
+  none : Called σ [] [] σ
+  then : {ks : List Call} {h : List Heard} {x : Store} → Called σ ks h x → (k : Call) (n v : ℕ) (y : Store) → replied n v y ≡ inNumbers (effect k x)
+      → Called σ (k ∷ ks) (record { call = k; number = n; value = v } ∷ h) y
+
+-- what C was told of a list of calls in their order is what it hears of events of which demand 3 holds
+pub record Demand3InNumbers (σ : Store) (calls : List Call) (h : List Heard) (τ : Store) : Type 0 where
+  pub events : List Event
+  pub told : h ≡ map heard events
+  pub meets : Demand3OfCode σ calls events τ

@@ -1,0 +1,298 @@
+// The calls for C: the fields, and each call of the store with the record of its session passed in and handed back by value, the answer as two numbers beside it.
+mod fields;
+
+ghost use mathlib.Core.Path.{_≡_};
+ghost use Rattle.model.specs.declared.Call.the-variants.{Begin, Read, Write, Seal, Advance, Abandon, Peek};
+ghost use Rattle.c_api.specs.InNumbers.{SetsUpInNumbers, TakesInNumbers, TellsPlace, numbersOf};
+use model::Plan;
+use model::Session;
+use model::SessionReply;
+use model::Sessions;
+
+// A call's answer as document 01's number and value, and the record that it hands back.
+#[repr(C)]
+pub struct NumberReply {
+    pub number: u32,
+    pub value: u32,
+    pub session: Session,
+}
+
+// Set-up's answer, and the sixteen records.
+#[repr(C)]
+pub struct SetUpReply {
+    pub number: u32,
+    pub value: u32,
+    pub sessions: Sessions,
+}
+
+// An answer in numbers.
+fn in_numbers(r: SessionReply) -> NumberReply
+    ensures { λ n. ⌜ n ≡ numbersOf r ⌝ }
+{
+    let answer = r.answer;
+    let session = r.session;
+    NumberReply {
+        number: answer.number() as u32,
+        value: answer.value(),
+        session,
+    }
+}
+
+// Set-up: 100, 7 or 8.
+#[no_mangle]
+pub extern "C" fn rukkanei_set_up(
+    sessions: Sessions,
+    values: &[u32],
+    classes: &[u8],
+    readers: &mut [u16],
+    claimants: &mut [u8],
+    exclusives: &mut [u8],
+    logs: &mut [u32],
+) -> SetUpReply
+    ensures { λ r. ⌜ SetsUpInNumbers values classes readers claimants exclusives logs sessions r ⌝ }
+{
+    let reply = store::set_up(
+        sessions,
+        values,
+        classes,
+        readers,
+        claimants,
+        exclusives,
+        logs,
+    );
+    let answer = reply.answer;
+    let after = reply.sessions;
+    SetUpReply {
+        number: answer.number() as u32,
+        value: answer.value(),
+        sessions: after,
+    }
+}
+
+// Begin: 100, or a refusal.
+#[no_mangle]
+pub extern "C" fn rukkanei_begin(
+    x: Session,
+    values: &[u32],
+    classes: &[u8],
+    readers: &[u16],
+    claimants: &[u8],
+    exclusives: &[u8],
+    logs: &[u32],
+    session: u8,
+) -> NumberReply
+    ensures { λ r. ⌜ TakesInNumbers (Begin session) values classes readers claimants exclusives logs x r ⌝ }
+{
+    in_numbers(store::begin(
+        x,
+        values,
+        classes,
+        readers,
+        claimants,
+        exclusives,
+        logs,
+        session,
+    ))
+}
+
+// Read: 101 with the value, 6 with the session rolled back, or a refusal.
+#[no_mangle]
+pub extern "C" fn rukkanei_read(
+    x: Session,
+    values: &[u32],
+    classes: &[u8],
+    readers: &mut [u16],
+    claimants: &mut [u8],
+    exclusives: &mut [u8],
+    logs: &mut [u32],
+    session: u8,
+    cell: u32,
+) -> NumberReply
+    ensures { λ r. ⌜ TakesInNumbers (Read session cell) values classes readers claimants exclusives logs x r ⌝ }
+{
+    in_numbers(store::read(
+        x,
+        values,
+        classes,
+        readers,
+        claimants,
+        exclusives,
+        logs,
+        session,
+        cell,
+    ))
+}
+
+// Write: 100, 6 with the session rolled back, or a refusal.
+#[no_mangle]
+pub extern "C" fn rukkanei_write(
+    x: Session,
+    values: &[u32],
+    classes: &[u8],
+    readers: &mut [u16],
+    claimants: &mut [u8],
+    exclusives: &mut [u8],
+    logs: &mut [u32],
+    session: u8,
+    cell: u32,
+    written: u32,
+) -> NumberReply
+    ensures { λ r. ⌜ TakesInNumbers (Write session cell written) values classes readers claimants exclusives logs x r ⌝ }
+{
+    in_numbers(store::write(
+        x,
+        values,
+        classes,
+        readers,
+        claimants,
+        exclusives,
+        logs,
+        session,
+        cell,
+        written,
+    ))
+}
+
+// Seal: 102, 105, or a refusal.
+#[no_mangle]
+pub extern "C" fn rukkanei_seal(
+    x: Session,
+    values: &[u32],
+    classes: &[u8],
+    readers: &mut [u16],
+    claimants: &[u8],
+    exclusives: &[u8],
+    logs: &[u32],
+    session: u8,
+) -> NumberReply
+    ensures { λ r. ⌜ TakesInNumbers (Seal session) values classes readers claimants exclusives logs x r ⌝ }
+{
+    in_numbers(store::seal(
+        x,
+        values,
+        classes,
+        readers,
+        claimants,
+        exclusives,
+        logs,
+        session,
+    ))
+}
+
+// Advance: 103, 104, 105, 6 with the session rolled back, or a refusal.
+#[no_mangle]
+pub extern "C" fn rukkanei_advance(
+    x: Session,
+    values: &mut [u32],
+    classes: &[u8],
+    readers: &mut [u16],
+    claimants: &mut [u8],
+    exclusives: &mut [u8],
+    logs: &[u32],
+    session: u8,
+) -> NumberReply
+    ensures { λ r. ⌜ TakesInNumbers (Advance session) values classes readers claimants exclusives logs x r ⌝ }
+{
+    in_numbers(store::advance(
+        x,
+        values,
+        classes,
+        readers,
+        claimants,
+        exclusives,
+        logs,
+        session,
+    ))
+}
+
+// Abandon: 100, or a refusal.
+#[no_mangle]
+pub extern "C" fn rukkanei_abandon(
+    x: Session,
+    values: &[u32],
+    classes: &[u8],
+    readers: &mut [u16],
+    claimants: &mut [u8],
+    exclusives: &mut [u8],
+    logs: &[u32],
+    session: u8,
+) -> NumberReply
+    ensures { λ r. ⌜ TakesInNumbers (Abandon session) values classes readers claimants exclusives logs x r ⌝ }
+{
+    in_numbers(store::abandon(
+        x,
+        values,
+        classes,
+        readers,
+        claimants,
+        exclusives,
+        logs,
+        session,
+    ))
+}
+
+// Peek's twin: 100, or a refusal.
+#[no_mangle]
+pub extern "C" fn rukkanei_peek_number(
+    x: Session,
+    values: &[u32],
+    classes: &[u8],
+    readers: &[u16],
+    claimants: &[u8],
+    exclusives: &[u8],
+    logs: &[u32],
+    session: u8,
+    cell: u32,
+) -> NumberReply
+    ensures { λ r. ⌜ TakesInNumbers (Peek session cell) values classes readers claimants exclusives logs x r ⌝ }
+{
+    in_numbers(store::peek_number(
+        x,
+        values,
+        classes,
+        readers,
+        claimants,
+        exclusives,
+        logs,
+        session,
+        cell,
+    ))
+}
+
+// Where a peek's word is: 1 and its index in the values, 2 and its index in the logs; 0, with the index as before, where the peek is refused.
+#[no_mangle]
+pub extern "C" fn rukkanei_peek_place(
+    x: Session,
+    values: &[u32],
+    classes: &[u8],
+    readers: &[u16],
+    claimants: &[u8],
+    exclusives: &[u8],
+    logs: &[u32],
+    session: u8,
+    cell: u32,
+    index: &mut usize,
+) -> u8
+    ensures { λ r. ⌜ TellsPlace session cell values classes readers claimants exclusives logs x index r ⌝ }
+{
+    let p = store::peek_plan(
+        x,
+        values,
+        classes,
+        readers,
+        claimants,
+        exclusives,
+        logs,
+        session,
+        cell,
+    );
+    if let Plan::ShowStore(c) = p {
+        *index = c as usize;
+        return 1;
+    }
+    if let Plan::ShowLog(k) = p {
+        *index = 128 * (session as usize) + (4 * (k as usize) + 2);
+        return 2;
+    }
+    0
+}

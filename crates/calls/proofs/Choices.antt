@@ -1,0 +1,96 @@
+-- What a read and a write decide as if nobody were claimant, and with that what they decide with the lock: the same, unless a new cell is claimed.
+use mathlib.Core.Path.{_≡_, refl, sym, _∙_}
+use mathlib.Core.Bool.{cond, not}
+use mathlib.Core.Option.{some}
+use mathlib.Core.List.{List}
+use Prim.Native.Nat.{ℕ, _<_}
+use native.Mathlib.Omega.{arith}
+use borrow.Author.Tests.{ltb-true, eqb-true}
+use lib.ListN.{getD}
+use lib.Dec.{T, leb, ltb, eqb}
+use Rattle.model.specs.Buffers.{free, entryAt, slotIn, cap}
+use Rattle.model.specs.Plans
+use Rattle.model.specs.Plans.{newCell, claimed, recordFits, guard, readSlot, readPlan, writeSlot, writeCapped, writePlan}
+use Rattle.model.specs.declared.Session.{Session}
+use Rattle.model.specs.declared.Lock.{Lock}
+use Rattle.model.specs.declared.Plan.{Plan}
+use Rattle.model.specs.declared.Plan.the-variants.{Refuse, Tell, Enter, Update, EnterUpdate, RollBack}
+use Rattle.model.proofs.Tools.{test, which}
+use Rattle.log.proofs.Targets.{slot-some}
+use Rattle.locks.proofs.Tags.{tag, Passed, Passes, passed, clashes}
+use Rattle.calls.proofs.Ways.{Entries, record-entries}
+
+-- p is decided as if nobody were claimant, q with the lock l: both refuse; both are that of entry k in the log; or the cell is new
+pub data Choice (n : ℕ) (log : List ℕ) (x : Session) (l : Lock) (c : ℕ) (known : ℕ → Plan) (new p q : Plan) : Type 0 where
+  refuses : (r : ℕ) → p ≡ Refuse r → q ≡ Refuse r → Choice n log x l c known new p q
+  knows : (k : ℕ) → k < 32 → p ≡ known k → q ≡ known k → Choice n log x l c known new p q
+  enters : c < n → x .count < 32 → Entries n log x → p ≡ new → q ≡ cond (claimed l) RollBack new → Choice n log x l c known new p q
+
+module _ (n : ℕ) (log : List ℕ) (x : Session) (l : Lock) (c : ℕ) where
+  -- past the tests, and with no entry of the cell
+  module _ (known : ℕ → Plan) (new : Plan) where
+    past : (p q : Plan) → (Entries n log x → c < n → Choice n log x l c known new p q)
+        → Choice n log x l c known new (guard n log x (eqb (x .phase) 1) (Plans.known n c p)) (guard n log x (eqb (x .phase) 1) (Plans.known n c q))
+    unfolding guard Plans.known
+    past p q f =
+        test (recordFits n log x)
+        (λ w.
+        test (eqb (x .phase) 1)
+        (λ r.
+        test (ltb c n)
+        (λ i. let h = eqb-true (x .phase) 1 r in rw (w, r, i) (f (record-entries n log x w (omega arith)) (ltb-true c n i)))
+        (λ i. rw (w, r, i) (refuses 3 refl refl)))
+        (λ r. rw (w, r) (refuses 2 refl refl)))
+        (λ w. rw w (refuses 9 refl refl))
+
+    fresh : Entries n log x → c < n → Choice n log x l c known new (newCell x free new) (newCell x l new)
+    unfolding newCell claimed
+    fresh e i =
+        test (ltb (x .count) 32) (λ a. rw a (enters i (ltb-true (x .count) 32 a) e refl refl)) (λ a. rw a (refuses 5 refl refl))
+
+  -- an entry found is one of at most 32
+  spot : Entries n log x → (k : ℕ) → slotIn log (x .count) c ≡ some k → k < 32
+  spot e k q = let i = slot-some log (x .count) c q .0 in let f = e .count in omega arith
+
+  pub read-choice : Choice n log x l c (λ k. Tell (entryAt log k .current)) (Enter c) (readPlan n log x free c) (readPlan n log x l c)
+  unfolding readPlan readSlot
+  read-choice =
+      past (λ k. Tell (entryAt log k .current)) (Enter c) _ _
+      (λ e i.
+      which (slotIn log (x .count) c) (λ q. rw q (fresh (λ k. Tell (entryAt log k .current)) (Enter c) e i))
+      (λ k q. rw q (knows k (spot e k q) refl refl)))
+
+  pub write-choice : (ks : List ℕ) (v : ℕ) → Choice n log x l c (λ k. Update k v) (EnterUpdate c v) (writePlan ks n log x free c v) (writePlan ks n log x l c v)
+  unfolding writePlan writeCapped writeSlot
+  write-choice ks v =
+      past (λ k. Update k v) (EnterUpdate c v) _ _
+      (λ e i.
+      test (ltb (getD ks c 0) 16)
+      (λ a.
+      test (leb v (cap (getD ks c 0)))
+      (λ b.
+      rw (a, b)
+      (which (slotIn log (x .count) c) (λ q. rw q (fresh (λ k. Update k v) (EnterUpdate c v) e i)) (λ k q. rw q (knows k (spot e k q) refl refl))))
+      (λ b. rw (a, b) (refuses 4 refl refl)))
+      (λ a. rw a (refuses 8 refl refl)))
+
+-- what a match on p leaves; each `T` is met by `tt`
+module _ {n : ℕ} {log : List ℕ} {x : Session} {l : Lock} {c : ℕ} {p q : Plan} {known : ℕ → Plan} {new : Plan} where
+  -- a plan other than the new cell's stands
+  pub when-told : Choice n log x l c known new p q → (o : Plan) → T (not (eqb (tag new) (tag o))) → p ≡ o → q ≡ o
+  when-told (refuses r f g) o t e = g ∙ sym f ∙ e
+  when-told (knows k i f g) o t e = g ∙ sym f ∙ e
+  when-told (enters i j w f g) o t e = absurd (clashes p new o t f e)
+
+  -- past a known cell's variant a and the refusals, the cell is new
+  pub when-new : Choice n log x l c known new p q → (a : ℕ) → ((k : ℕ) → Passes a (known k)) → Passed a p → Passed 0 p
+      → (c < n) × (x .count < 32) × Entries n log x × (q ≡ cond (claimed l) RollBack new)
+  when-new (refuses r f g) a t i j = absurd (passed 0 p (Refuse r) tt f j)
+  when-new (knows k h f g) a t i j = absurd (passed a p (known k) (t k) f i)
+  when-new (enters h m w f g) a t i j = (h, m, w, g)
+
+pub when-known : {n : ℕ} {log : List ℕ} {x : Session} {l : Lock} {c v : ℕ} {p q : Plan} → Choice n log x l c (λ k. Update k v) (EnterUpdate c v) p q
+    → (k u : ℕ) → p ≡ Update k u → k < 32
+when-known {p = p} (refuses r f g) k u e = absurd (clashes p (Refuse r) (Update k u) tt f e)
+when-known (knows j i f g) k u e = let z : j ≡ k = cc in omega arith
+when-known {c = c} {v = v} {p = p} (enters i j w f g) k u e = absurd (clashes p (EnterUpdate c v) (Update k u) tt f e)

@@ -1,0 +1,11 @@
+pub mod Caps
+pub mod Ways
+pub mod Agree
+pub mod Turning
+pub mod Choices
+pub mod Fitting
+pub mod Lengths
+pub mod Logs
+pub mod Whole
+pub mod Peeks
+pub mod SetUp

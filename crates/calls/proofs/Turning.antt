@@ -1,0 +1,92 @@
+-- What each way out of a call's function leaves is the turn of its plan.
+use mathlib.Core.Path.{_≡_, ap}
+use mathlib.Core.List.{List}
+use mathlib.Core.Bool.{Bool}
+use Prim.Native.Nat.{ℕ}
+use lib.ListN.{getD, set}
+use Rattle.model.specs.Buffers.{idle, running, withEntry, moveTo, appended, updated}
+use Rattle.model.specs.Effects.{isLeft}
+use Rattle.model.specs.Turns.{leaves, turnOf}
+use Rattle.model.specs.declared.Session.{Session}
+use Rattle.model.specs.declared.Answer.the-variants as say
+use Rattle.model.specs.declared.Plan.{Plan}
+use Rattle.model.specs.declared.Plan.the-variants.{Refuse, Start, Tell, Enter, Update, EnterUpdate, RollBack, Cancel, CommitReads, BeginPromotion, Wait, Acquire, Publish, Release}
+use Rattle.model.specs.declared.Change.the-variants as to
+use Rattle.model.specs.declared.Turn.{Turn}
+use Rattle.calls.specs.Pieces.{handledBy}
+use Rattle.calls.specs.declared.Handled.{Handled}
+use Rattle.calls.proofs.Ways.{handled-is, released-is}
+
+-- p is the plan
+module _ (vs log : List ℕ) (x : Session) (p : Plan) where
+  module _ (t : Turn) where
+    pub turn-refused : (r : ℕ) → p ≡ Refuse r → t ≡ record { answer = say.Refused r; session = x; change = to.Keep }
+        → leaves (t .answer) vs log (t .session) (t .change) ≡ turnOf p vs log x
+    unfolding turnOf
+    turn-refused r h f = rw (h, f)
+
+    pub turn-started : (y : Session) → p ≡ Start → y ≡ running → t ≡ record { answer = say.Done; session = y; change = to.Keep }
+        → leaves (t .answer) vs log (t .session) (t .change) ≡ turnOf p vs log x
+    unfolding turnOf
+    turn-started y h i f = rw (h, f, i)
+
+    pub turn-told : (v : ℕ) → p ≡ Tell v → t ≡ record { answer = say.Value v; session = x; change = to.Keep }
+        → leaves (t .answer) vs log (t .session) (t .change) ≡ turnOf p vs log x
+    unfolding turnOf
+    turn-told v h f = rw (h, f)
+
+    pub turn-updated : (k v : ℕ) (W : List ℕ) → p ≡ Update k v → W ≡ updated log k v → t ≡ record { answer = say.Done; session = x; change = to.Keep }
+        → leaves (t .answer) vs W (t .session) (t .change) ≡ turnOf p vs log x
+    unfolding turnOf
+    turn-updated k v W h i f = rw (h, f, i)
+
+    pub turn-published : (c v : ℕ) (more : Bool) (d : Handled) → p ≡ Publish c v → more ≡ isLeft log c x → d ≡ handledBy more x c
+        → t ≡ record { answer = say.Moved; session = d .session; change = to.Keep }
+        → leaves (t .answer) (set vs c v) log (t .session) (t .change) ≡ turnOf p vs log x
+    unfolding turnOf
+    turn-published c v more d h m i f = rw (h, f, i, handled-is log x c more m)
+
+  pub turn-entered : (c v : ℕ) (W : List ℕ) (y : Session) → p ≡ Enter c → v ≡ getD vs c 0 → W ≡ appended log (x .count) c v → y ≡ withEntry x
+      → leaves (say.Value v) vs W y (to.Join c) ≡ turnOf p vs log x
+  unfolding turnOf
+  turn-entered c v W y h i j k = rw (h, j, k, i)
+
+  pub turn-enter-updated : (c v u : ℕ) (U W : List ℕ) (y : Session) → p ≡ EnterUpdate c v → u ≡ getD vs c 0 → U ≡ appended log (x .count) c u
+      → W ≡ updated U (x .count) v → y ≡ withEntry x → leaves say.Done vs W y (to.Join c) ≡ turnOf p vs log x
+  unfolding turnOf
+  turn-enter-updated c v u U W y h i j k l = rw (h, k, j, l, i)
+
+  module _ (y : Session) where
+    pub turn-rolled-back : p ≡ RollBack → y ≡ idle → leaves (say.Refused 6) vs log y to.Withdraw ≡ turnOf p vs log x
+    unfolding turnOf
+    turn-rolled-back h k = rw (h, k)
+
+    pub turn-cancelled : p ≡ Cancel → y ≡ idle → leaves say.Done vs log y to.Withdraw ≡ turnOf p vs log x
+    unfolding turnOf
+    turn-cancelled h k = rw (h, k)
+
+    pub turn-committed : p ≡ CommitReads → y ≡ idle → leaves say.Committed vs log y to.DropReads ≡ turnOf p vs log x
+    unfolding turnOf
+    turn-committed h k = rw (h, k)
+
+    pub turn-sealed : p ≡ BeginPromotion → y ≡ moveTo 2 0 x → leaves say.Sealed vs log y to.DropReads ≡ turnOf p vs log x
+    unfolding turnOf
+    turn-sealed h k = rw (h, k)
+
+  module _ (c : ℕ) where
+    pub turn-waiting : p ≡ Wait c → leaves say.Waiting vs log x (to.Claim c) ≡ turnOf p vs log x
+    unfolding turnOf
+    turn-waiting h = rw h
+
+    module _ (more : Bool) (m : more ≡ isLeft log c x) (d : Handled) (i : d ≡ handledBy more x c) where
+      pub turn-acquired : p ≡ Acquire c → leaves say.Moved vs log (d .session) (to.Acquire c) ≡ turnOf p vs log x
+      unfolding turnOf
+      turn-acquired h = rw (h, i, handled-is log x c more m)
+
+      pub turn-released : p ≡ Release c → x .phase ≡ 4 → leaves (d .answer) vs log (d .session) (to.Vacate c) ≡ turnOf p vs log x
+      unfolding turnOf
+      turn-released h f = rw (h, i, handled-is log x c more m, released-is log x c more m f)
+
+-- a plan's turn is that of the plan that it is
+pub turn-at : (vs log : List ℕ) (x : Session) (p q : Plan) → p ≡ q → turnOf p vs log x ≡ turnOf q vs log x
+turn-at vs log x p q e = ap (λ (r : Plan). turnOf r vs log x) e

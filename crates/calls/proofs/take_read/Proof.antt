@@ -1,0 +1,42 @@
+-- Each return is the turn of what is decided with the lock.
+use mathlib.Core.Path.{refl, sym, _∙_}
+use native.Mathlib.Omega.{arith}
+use lib.ListN.{length}
+use Rattle.model.specs.Buffers.{entryAt}
+use Rattle.model.specs.Plans.{readPlan}
+use Rattle.model.specs.declared.Plan.the-variants.{Tell, Enter}
+use Rattle.calls.proofs.Choices.{Choice, read-choice, when-told, when-new}
+use Rattle.calls.proofs.Turning.{turn-told, turn-refused, turn-rolled-back, turn-entered}
+use borrow.Author.Needs.{needs}
+use Rattle.calls.proofs.take_read.Statement.{statement}
+use Rattle.calls.proofs.take_read.Tie as tie
+
+-- what is decided, with the lock
+chosen : (c : tie.Start) → let a = c .args in Choice (length (a .values .now)) (a .log .now) (a .x) (a .l) (a .cell) (λ k. Tell (entryAt (a .log .now) k .current)) (Enter (a .cell)) (a .p) (readPlan (length (a .values .now)) (a .log .now) (a .x) (a .l) (a .cell))
+chosen c = rw (c .pre .1) (read-choice _ _ _ _ _)
+
+returns : tie.Need-returns
+returns c = turn-told _ _ _ _ _ _ (when-told (chosen (c .before .before .before .before .before .before)) _ tt (c .before .before .p .given .1)) (c .keeps .ensures)
+
+returns-2 : tie.Need-returns-2
+returns-2 c = turn-refused _ _ _ _ _ _ (when-told (chosen (c .before .before .before .before .before .before .before)) _ tt (c .before .before .p2 .given .1)) (c .keeps2 .ensures)
+
+returns-3 : tie.Need-returns-3
+returns-3 c = let w = when-new (chosen (c .before .before .before .before .before .before .before)) 2 (λ j. tt) (c .before .before .before .before .match .keys2) (c .before .before .before .match2 .keys2) in turn-rolled-back _ _ _ _ _ (rw (sym (c .before .before .is-claimed .ensures) ∙ c .before .if1 .taken) at (w .3)) (c .idled .ensures)
+
+shared-slice-read-value : tie.Need-shared-slice-read-value
+shared-slice-read-value c = when-new (chosen (c .before .before .before .before .before .before .before .before)) 2 (λ j. tt) (c .before .before .before .before .before .match .keys2) (c .before .before .before .before .match2 .keys2) .0
+
+append-requires : tie.Need-append-requires
+append-requires c κs = let w = when-new (chosen (c .before .before .before .before .before .before .before .before .before)) 2 (λ j. tt) (c .before .before .before .before .before .before .match .keys2) (c .before .before .before .before .before .match2 .keys2) in omega (arith, w .1, c .before .before .before .before .before .before .before .before .before .pre .0)
+
+with-entry-requires : tie.Need-with-entry-requires
+with-entry-requires c κs = when-new (chosen (c .before .before .before .before .before .before .before .before .before .before .before .before)) 2 (λ j. tt) (c .before .before .before .before .before .before .before .before .before .match .keys2) (c .before .before .before .before .before .before .before .before .match2 .keys2) .1
+
+returns-4 : tie.Need-returns-4
+returns-4 c = let w = when-new (chosen (c .before .before .before .before .before .before .before .before .before .before .before .before .before)) 2 (λ j. tt) (c .before .before .before .before .before .before .before .before .before .before .match .keys2) (c .before .before .before .before .before .before .before .before .before .match2 .keys2) in turn-entered _ _ _ _ _ _ _ _ (rw (sym (c .before .before .before .before .before .before .before .before .is-claimed .ensures) ∙ c .before .before .before .before .before .before .before .if1 .left) at (w .3)) refl (c .before .before .before .append .ensures) (c .with-entry .ensures)
+
+pub take-read-spec : {M : Type 1} → statement M
+take-read-spec =
+    tie.close
+    (tie.spec (λ c. search needs) (λ c κs. search needs) returns (λ c. search needs) (λ c κs. search needs) returns-2 (λ c κs. search needs) (λ c κs. search needs) returns-3 (λ c. search needs) (λ c. search needs) shared-slice-read-value append-requires with-entry-requires (λ c. search needs) returns-4)

@@ -1,0 +1,47 @@
+-- Each return is the turn of what is decided with the lock.
+use mathlib.Core.Path.{refl, sym, _∙_}
+use native.Mathlib.Omega.{arith}
+use lib.ListN.{length}
+use Rattle.model.specs.Plans.{writePlan}
+use Rattle.model.specs.declared.Plan.the-variants.{Update, EnterUpdate}
+use Rattle.calls.proofs.Choices.{Choice, write-choice, when-told, when-new, when-known}
+use Rattle.calls.proofs.Turning.{turn-updated, turn-refused, turn-rolled-back, turn-enter-updated}
+use borrow.Author.Needs.{needs}
+use Rattle.calls.proofs.take_write.Statement.{statement}
+use Rattle.calls.proofs.take_write.Tie as tie
+
+-- what is decided, with the lock
+chosen : (c : tie.Start) → let a = c .args in Choice (length (a .values .now)) (a .log .now) (a .x) (a .l) (a .cell) (λ k. Update k (a .written)) (EnterUpdate (a .cell) (a .written)) (a .p) (writePlan (a .classes .now) (length (a .values .now)) (a .log .now) (a .x) (a .l) (a .cell) (a .written))
+chosen c = rw (c .pre .2) (write-choice _ _ _ _ _ _ _)
+
+update-requires : tie.Need-update-requires
+update-requires c κs = let h = when-known (chosen (c .before .before .before .before .before .before .before)) _ _ (c .before .before .p .given .1) in omega (arith, h, c .before .before .before .before .before .before .before .pre .0)
+
+returns : tie.Need-returns
+returns c = turn-updated _ _ _ _ _ _ _ _ (when-told (chosen (c .before .before .before .before .before .before .before .before .before .before .before)) _ tt (c .before .before .before .before .before .before .p .given .1)) (c .before .before .before .update .ensures) (c .keeps .ensures)
+
+returns-2 : tie.Need-returns-2
+returns-2 c = turn-refused _ _ _ _ _ _ (when-told (chosen (c .before .before .before .before .before .before .before .before)) _ tt (c .before .before .p2 .given .1)) (c .keeps2 .ensures)
+
+returns-3 : tie.Need-returns-3
+returns-3 c = let w = when-new (chosen (c .before .before .before .before .before .before .before .before)) 4 (λ j. tt) (c .before .before .before .before .match .keys2) (c .before .before .before .match2 .keys2) in turn-rolled-back _ _ _ _ _ (rw (sym (c .before .before .is-claimed .ensures) ∙ c .before .if1 .taken) at (w .3)) (c .idled .ensures)
+
+shared-slice-read-value : tie.Need-shared-slice-read-value
+shared-slice-read-value c = when-new (chosen (c .before .before .before .before .before .before .before .before .before)) 4 (λ j. tt) (c .before .before .before .before .before .match .keys2) (c .before .before .before .before .match2 .keys2) .0
+
+append-requires : tie.Need-append-requires
+append-requires c κs = let w = when-new (chosen (c .before .before .before .before .before .before .before .before .before .before)) 4 (λ j. tt) (c .before .before .before .before .before .before .match .keys2) (c .before .before .before .before .before .match2 .keys2) in omega (arith, w .1, c .before .before .before .before .before .before .before .before .before .before .pre .0)
+
+update-requires-2 : tie.Need-update-requires-2
+update-requires-2 c κs = let w = when-new (chosen (c .before .before .before .before .before .before .before .before .before .before .before .before .before .before)) 4 (λ j. tt) (c .before .before .before .before .before .before .before .before .before .before .match .keys2) (c .before .before .before .before .before .before .before .before .before .match2 .keys2) in omega (arith, w .1, c .before .before .before .before .before .before .before .before .before .before .before .before .before .before .pre .0, c .before .before .before .append .kept .0)
+
+with-entry-requires : tie.Need-with-entry-requires
+with-entry-requires c κs = when-new (chosen (c .before .before .before .before .before .before .before .before .before .before .before .before .before .before .before .before .before)) 4 (λ j. tt) (c .before .before .before .before .before .before .before .before .before .before .before .before .before .match .keys2) (c .before .before .before .before .before .before .before .before .before .before .before .before .match2 .keys2) .1
+
+returns-4 : tie.Need-returns-4
+returns-4 c = let w = when-new (chosen (c .before .before .before .before .before .before .before .before .before .before .before .before .before .before .before .before .before .before)) 4 (λ j. tt) (c .before .before .before .before .before .before .before .before .before .before .before .before .before .before .match .keys2) (c .before .before .before .before .before .before .before .before .before .before .before .before .before .match2 .keys2) in turn-enter-updated _ _ _ _ _ _ _ _ _ _ (rw (sym (c .before .before .before .before .before .before .before .before .before .before .before .before .is-claimed .ensures) ∙ c .before .before .before .before .before .before .before .before .before .before .before .if1 .left) at (w .3)) refl (c .before .before .before .before .before .before .before .append .ensures) (c .before .before .before .update2 .ensures) (c .with-entry .ensures)
+
+pub take-write-spec : {M : Type 1} → statement M
+take-write-spec =
+    tie.close
+    (tie.spec (λ c. search needs) (λ c. search needs) update-requires (λ c κs. search needs) (λ c. search needs) returns (λ c. search needs) (λ c κs. search needs) returns-2 (λ c κs. search needs) (λ c κs. search needs) returns-3 (λ c. search needs) (λ c. search needs) shared-slice-read-value append-requires update-requires-2 with-entry-requires (λ c. search needs) returns-4)

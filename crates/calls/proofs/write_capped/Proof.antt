@@ -1,0 +1,21 @@
+-- Each return is a way through `writePlan`.
+use borrow.Author.Needs.{needs}
+use Rattle.calls.proofs.Ways.{write-above, write-known, write-new}
+use Rattle.calls.proofs.write_capped.Statement.{statement}
+use Rattle.calls.proofs.write_capped.Tie as tie
+
+returns : tie.Need-returns
+returns c = write-above _ _ _ _ _ _ (c .if1 .taken)
+
+returns-2 : tie.Need-returns-2
+returns-2 c = write-known _ _ _ _ _ _ (c .before .before .if1 .left) _ (c .before .find .ensures) (c .if2 .taken)
+
+returns-3 : tie.Need-returns-3
+returns-3 c =
+    let f = c .before .before in
+    write-new _ _ _ _ _ _ (f .before .if1 .left) _ (f .find .ensures) (c .before .if2 .left) _ (c .new-cell .ensures)
+
+pub write-capped-spec : {M : Type 1} → statement M
+write-capped-spec =
+    tie.close
+    (tie.spec (λ c. search needs) returns (λ c κs. search needs) (λ c. search needs) returns-2 (λ c κs. search needs) returns-3)

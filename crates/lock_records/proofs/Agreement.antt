@@ -1,0 +1,67 @@
+-- The two forms agree: unzipping the records into three lists, calling, and zipping the lists is calling on the records.
+-- So the contract of a call on the run fixes every lock. Lists of calls on the run are lists of calls that keep the model's contract: `demand3-of-code`
+-- of model speaks of them as it stands.
+use mathlib.Core.Path.{_≡_, refl, sym, ap, _∙_}
+use mathlib.Core.List.{List, [], _∷_}
+use Prim.Native.Nat.{ℕ}
+use Rattle.model.specs.Buffers.{Locks, Store}
+use Rattle.model.specs.Step.{Outcome, outcome, effect, setUpEffect, planOf}
+use Rattle.model.specs.declared.Lock.{Lock}
+use Rattle.model.specs.declared.Sessions.{Sessions}
+use Rattle.model.specs.declared.Call.{Call}
+use Rattle.lock_records.specs.Run.{unzipped, storeOn}
+use Rattle.lock_records.specs.Forms.{zipped, OutcomeIn}
+
+-- the store that three lists are
+abbrev pub storeOf : List ℕ → List ℕ → List ℕ → List ℕ → List ℕ → List ℕ → Sessions → Store
+storeOf values classes readers claimants exclusives logs sessions =
+    record {
+      lent = record { values = values; classes = classes; locks = record { readers = readers; claimants = claimants; exclusives = exclusives }; logs = logs };
+      sessions = sessions;
+    }
+
+-- ---- unzipped and zipped
+
+pub zipped-unzipped : (L : List Lock) → zipped (unzipped L .readers) (unzipped L .claimants) (unzipped L .exclusives) ≡ L
+zipped-unzipped [] = refl
+zipped-unzipped (l ∷ L) = ap (λ (r : List Lock). l ∷ r) (zipped-unzipped L)
+
+pub unzipped-injective : (L M : List Lock) → unzipped L ≡ unzipped M → L ≡ M
+unzipped-injective L M e = sym (zipped-unzipped L) ∙ ap (λ (K : Locks). zipped (K .readers) (K .claimants) (K .exclusives)) e ∙ zipped-unzipped M
+
+-- ---- one call, on three lists and on records
+
+-- x is what the number slices are left with, of a store whose three lists are the run L unzipped; y is what the run is left with
+module _ (cs : List ℕ) (x : OutcomeIn Locks) (y : OutcomeIn (List Lock)) (same : outcome (y .answer) (storeOn (y .values) cs (y .locks) (y .logs) (y .sessions))
+    ≡ outcome (x .answer) (storeOf (x .values) cs (x .locks .readers) (x .locks .claimants) (x .locks .exclusives) (x .logs) (x .sessions))) where
+  -- the same answer, values, logs and records; and the records are the lists zipped
+  agrees : y ≡ record { answer = x .answer; values = x .values; locks = zipped (x .locks .readers) (x .locks .claimants) (x .locks .exclusives); logs = x .logs; sessions = x .sessions }
+  agrees =
+      let a = ap (λ (o : Outcome). o .answer) same in
+      let v = ap (λ (o : Outcome). o .store .lent .values) same in
+      let l = ap (λ (o : Outcome). o .store .lent .locks) same in
+      let w = ap (λ (o : Outcome). o .store .lent .logs) same in
+      let s = ap (λ (o : Outcome). o .store .sessions) same in
+      let k = sym (zipped-unzipped (y .locks)) ∙ ap (λ (K : Locks). zipped (K .readers) (K .claimants) (K .exclusives)) l in
+      rw (← a, ← v, ← w, ← s, ← k)
+
+-- a call, by the contracts of the two forms
+pub calls-agree : (k : Call) (vs cs : List ℕ) (L : List Lock) (W : List ℕ) (ss : Sessions) (x : OutcomeIn Locks) (y : OutcomeIn (List Lock))
+    → outcome (x .answer) (storeOf (x .values) cs (x .locks .readers) (x .locks .claimants) (x .locks .exclusives) (x .logs) (x .sessions))
+    ≡ effect k (storeOf vs cs (unzipped L .readers) (unzipped L .claimants) (unzipped L .exclusives) W ss)
+    → outcome (y .answer) (storeOn (y .values) cs (y .locks) (y .logs) (y .sessions)) ≡ effect k (storeOn vs cs L W ss)
+    → y ≡ record { answer = x .answer; values = x .values; locks = zipped (x .locks .readers) (x .locks .claimants) (x .locks .exclusives); logs = x .logs; sessions = x .sessions }
+calls-agree k vs cs L W ss x y e f = agrees cs x y (f ∙ sym e)
+
+-- set-up
+pub set-ups-agree : (vs cs : List ℕ) (L : List Lock) (W : List ℕ) (ss : Sessions) (x : OutcomeIn Locks) (y : OutcomeIn (List Lock))
+    → outcome (x .answer) (storeOf (x .values) cs (x .locks .readers) (x .locks .claimants) (x .locks .exclusives) (x .logs) (x .sessions))
+    ≡ setUpEffect (storeOf vs cs (unzipped L .readers) (unzipped L .claimants) (unzipped L .exclusives) W ss)
+    → outcome (y .answer) (storeOn (y .values) cs (y .locks) (y .logs) (y .sessions)) ≡ setUpEffect (storeOn vs cs L W ss)
+    → y ≡ record { answer = x .answer; values = x .values; locks = zipped (x .locks .readers) (x .locks .claimants) (x .locks .exclusives); logs = x .logs; sessions = x .sessions }
+set-ups-agree vs cs L W ss x y e f = agrees cs x y (f ∙ sym e)
+
+-- a peek goes by the plan, and the plans are the same
+pub plans-agree : (k : Call) (vs cs : List ℕ) (L : List Lock) (W : List ℕ) (ss : Sessions)
+    → planOf k (storeOn vs cs L W ss) ≡ planOf k (storeOf vs cs (unzipped L .readers) (unzipped L .claimants) (unzipped L .exclusives) W ss)
+plans-agree k vs cs L W ss = refl

@@ -1,0 +1,164 @@
+-- A call on every run of the length given, with the lock given: refused by 7 or 1, or its turn put back, with its change carried out on the run.
+use mathlib.Core.Path.{_≡_, refl, sym, ap, _∙_}
+use mathlib.Core.List.{List}
+use Prim.Native.Nat.{ℕ, _%_, _<_, _≤_}
+use native.Mathlib.Omega.{arith}
+use borrow.Author.Tests.{ne-eqb}
+use lib.ListN.{length, getD, set, replicate, length-replicate}
+use Rattle.model.specs.Buffers.{free, idle, sessionAt, withSession, logIn, lockAt, lengthsMatch}
+use Rattle.model.specs.Plans.{plan}
+use Rattle.model.specs.Step.{planOf, sessionOf}
+use Rattle.model.specs.Turns.{TurnEffect, leaves, turnOf, changed}
+use Rattle.model.specs.declared.Session.{Session}
+use Rattle.model.specs.declared.Sessions.{Sessions}
+use Rattle.model.specs.declared.Lock.{Lock}
+use Rattle.model.specs.declared.Turn.{Turn as CallTurn}
+use Rattle.model.specs.declared.Answer.the-variants.{Refused}
+use Rattle.model.specs.declared.Plan.the-variants.{Refuse}
+use Rattle.model.specs.declared.Call.{Call}
+use Rattle.model.specs.declared.Call.the-variants.{Begin, Read, Write, Seal, Advance, Abandon, Peek}
+use Rattle.locks.specs.Changes.{ChangeFits as Fits}
+use Rattle.calls.specs.Pieces.{admission, dueOn, duePlan}
+use Rattle.calls.specs.declared.Due.{Due}
+use Rattle.calls.proofs.Agree.{advance-agree}
+use Rattle.calls.proofs.Fitting.{call-fits}
+use Rattle.calls.proofs.Lengths
+use Rattle.calls.proofs.Lengths.{Admitted, plan-refused}
+use Rattle.calls.proofs.Logs.{cut, puts, cut-is, cut-long, cut-put, put-length}
+use Rattle.calls.proofs.Whole.{planIn, takes-put}
+use Rattle.lock_records.specs.declared.Change.{Change}
+use Rattle.lock_records.specs.declared.Turn.{Turn}
+use Rattle.lock_records.specs.Run.{unzipped, lentOn, storeOn, lockIn, countOf, swept, sweptBy, onRun}
+use Rattle.lock_records.specs.Turns.{cellFor, lookOf, planWith, onlyAnswer, IsTurn}
+use Rattle.lock_records.proofs.Changes.{each-length, unzipped-at, changes, change-fits}
+
+-- ---- refusals 7 and 1, by the number r that the code's test answered of n values, k classes, m locks and the logs W
+
+module _ (n k m : ℕ) (W : List ℕ) (s r : ℕ) (e : r ≡ admission (lengthsMatch n k m m m (length W)) s) where
+  module _ (vs cs : List ℕ) (L : List Lock) (i : length vs ≡ n) (j : length cs ≡ k) (q : length L ≡ m) where
+    fits : r ≡ admission (lengthsMatch (length vs) (length cs) (length (unzipped L .readers)) (length (unzipped L .claimants)) (length (unzipped L .exclusives)) (length W)) s
+    fits = rw (i, j, each-length (λ l. l .readers) L, each-length (λ l. l .claimant) L, each-length (λ l. l .exclusive) L, q) e
+
+    pub refuses : (c : Call) → s ≡ sessionOf c → (r ≡ 0 → ⊥) → (ss : Sessions) → Refuse r ≡ planOf c (storeOn vs cs L W ss)
+    refuses c o h ss = plan-refused (lentOn vs cs L W) s r fits c o h (storeOn vs cs L W ss) refl
+
+    pub admits : r ≡ 0 → Admitted (lentOn vs cs L W) s
+    admits z = Lengths.admitted (lentOn vs cs L W) s r fits z
+
+  -- what is known past them of the lengths alone
+  module _ (z : r ≡ 0) where
+    plainly : Admitted (lentOn (replicate n 0) (replicate k 0) (replicate m free) W) s
+    plainly = admits (replicate n 0) (replicate k 0) (replicate m free) (length-replicate n 0) (length-replicate k 0) (length-replicate m free) z
+
+    pub low : s < 16
+    low = plainly .low
+
+    pub words : length W ≡ 2048
+    words = plainly .lengths .logs
+
+    pub few : n ≤ 1024
+    few = let f = plainly .lengths .few in let w = length-replicate {A = ℕ} n 0 in omega arith
+
+    pub classed : k ≡ n
+    classed = let f = plainly .lengths .classes in let w = length-replicate {A = ℕ} n 0 in let u = length-replicate {A = ℕ} k 0 in omega arith
+
+    pub locked : m ≡ n
+    locked =
+        let f = plainly .lengths .readers in let w = length-replicate {A = ℕ} n 0 in let u = length-replicate {A = Lock} m free in
+        let v = each-length (λ l. l .readers) (replicate m free) in omega arith
+
+    pub log-long : (length (cut W s) ≡ 128) × (n ≤ 1024)
+    log-long = (cut-long W s words low, few)
+
+-- a session's record, as the model names its place
+module _ (ss : Sessions) (s t : ℕ) (small : s < 16) (i : s ≡ t) where
+  pub mine : t % 16 ≡ s
+  mine = omega arith
+
+  pub is-mine : sessionAt ss (t % 16) ≡ getD (ss .records) s idle
+  unfolding sessionAt
+  is-mine = rw mine
+
+-- ---- one lock
+
+-- a plan reads the lock of one cell
+one-lock : (k : Call) (n : ℕ) (ks log : List ℕ) (x : Session) (f : ℕ → Lock) → planWith k n ks log x (f (cellFor k n log x)) ≡ plan k n ks log x f
+unfolding plan cellFor
+one-lock (Begin s) n ks log x f = refl
+one-lock (Read s c) n ks log x f = refl
+one-lock (Write s c v) n ks log x f = refl
+one-lock (Seal s) n ks log x f = refl
+one-lock (Advance s) n ks log x f = sym (advance-agree n s ks log x (λ c. f (cellFor (Advance s) n log x))) ∙ advance-agree n s ks log x f
+one-lock (Abandon s) n ks log x f = refl
+one-lock (Peek s c) n ks log x f = refl
+
+-- an advance decides by that of the entry that is due
+pub advances : (n s : ℕ) (vs ks log : List ℕ) (x : Session) (l : Lock) (d : Due) → d ≡ dueOn n log x → {t : TurnEffect} → t ≡ turnOf (duePlan s log x l d) vs log x
+    → t ≡ turnOf (planWith (Advance s) n ks log x l) vs log x
+advances n s vs ks log x l d e h = rw e at h ∙ ap (λ p. turnOf p vs log x) (advance-agree n s ks log x (λ c. l))
+
+-- the cell that is looked up
+module _ (call : Call) (ss : Sessions) (n k m : ℕ) (W : List ℕ) (s : ℕ) (i : s ≡ sessionOf call) (r : ℕ) (e : r ≡ admission (lengthsMatch n k m m m (length W)) s) where
+  pub looks-nowhere : (r ≡ 0 → ⊥) → 0 ≡ lookOf call ss n k m W
+  unfolding lookOf
+  looks-nowhere h = rw (← i, ← e, ne-eqb r 0 h)
+
+  pub looks : r ≡ 0 → (c : ℕ) → c ≡ cellFor call n (cut W s) (getD (ss .records) s idle) → c ≡ lookOf call ss n k m W
+  unfolding lookOf sessionAt
+  looks z c f = f ∙ rw (← i, ← e, z, cut-is)
+
+-- ---- the call k, of values vs, classes cs, logs W and m locks
+
+module _ (k : Call) (vs cs W : List ℕ) (ss : Sessions) (m : ℕ) (l : Lock) (s : ℕ) (i : s ≡ sessionOf k) (r : ℕ)
+    (e : r ≡ admission (lengthsMatch (length vs) (length cs) m m m (length W)) s) where
+  pub turned-down : (r ≡ 0 → ⊥) → (t : Turn) → t ≡ onlyAnswer ss (Refused r) → IsTurn k vs cs m l W ss vs W t
+  unfolding countOf swept
+  turned-down n t f = rw f (tt, λ L q g. Lengths.refuses k (storeOn vs cs L W ss) r (refuses (length vs) (length cs) m W s r e vs cs L refl refl q k i n ss))
+
+  module _ (z : r ≡ 0) where
+    abbrev x : Session
+    x = getD (ss .records) s idle
+
+    own : s < 16
+    own = low (length vs) (length cs) m W s r e z
+
+    long : length W ≡ 2048
+    long = words (length vs) (length cs) m W s r e z
+
+    -- the lock that was looked up is the one that the plan reads
+    with-lock : (L : List Lock) → lockIn L (lookOf k ss (length vs) (length cs) m W) ≡ l → planWith k (length vs) cs (cut W s) x l ≡ planIn k (lentOn vs cs L W) x
+    with-lock L g =
+        let there : lookOf k ss (length vs) (length cs) m W ≡ cellFor k (length vs) (cut W s) x = sym (looks k ss (length vs) (length cs) m W s i r e z _ refl) in
+        let h : l ≡ lockAt (unzipped L) (cellFor k (length vs) (cut W s) x) = sym g ∙ sym (unzipped-at L _) ∙ ap (lockAt (unzipped L)) there in
+        rw (← i) (rw h (one-lock k (length vs) cs (cut W s) x (lockAt (unzipped L))))
+
+    -- t is the turn, which left the values vs′ and the log W′
+    module _ (t : CallTurn) (vs′ W′ : List ℕ) (whole : length W′ ≡ 128)
+        (h : leaves (t .answer) vs′ W′ (t .session) (t .change) ≡ turnOf (planWith k (length vs) cs (cut W s) x l) vs (cut W s) x) where
+      can-change : Fits (t .change) s W′ (x .count) (length vs)
+      can-change =
+          let d = log-long (length vs) (length cs) m W s r e z in
+          rw (← h) at (call-fits (length vs) (cut W s) x s vs own (d .0) (d .1) cs (λ c. l) k _ refl)
+
+      still : length (puts W s W′) ≡ 2048
+      still = put-length s own W long W′ whole ∙ long
+
+      back : logIn (puts W s W′) s ≡ W′
+      back = sym (cut-is (puts W s W′) s) ∙ cut-put s own W long W′ whole
+
+      swept-run : (L : List Lock) → length L ≡ m → unzipped (sweptBy (puts W s W′) (onRun (t .change) s (x .count)) L) ≡ changed (t .change) W′ (x .count) s (unzipped L)
+      swept-run L q =
+          let f = few (length vs) (length cs) m W s r e z in let w = locked (length vs) (length cs) m W s r e z in
+          rw back at (changes (t .change) (puts W s W′) s (x .count) L (omega arith))
+
+      pub taken : (d : Change) → d ≡ onRun (t .change) s (x .count)
+          → IsTurn k vs cs m l W ss vs′ (puts W s W′) (record { reply = record { answer = t .answer; sessions = record { records = set (ss .records) s (t .session) } }; change = d })
+      unfolding withSession
+      taken d f =
+          rw f (
+            change-fits (t .change) (puts W s W′) W′ s (x .count) (length vs) own whole still can-change,
+            λ L q g.
+                rw (mine ss s (sessionOf k) own i) at
+                (takes-put k (lentOn vs cs L W) x s i (admits (length vs) (length cs) m W s r e vs cs L refl refl q z) _ (with-lock L g) (t .answer) vs′ W′ (t .session) (t .change) h
+                (unzipped (sweptBy (puts W s W′) (onRun (t .change) s (x .count)) L)) (swept-run L q) ss (is-mine ss s (sessionOf k) own i)),
+          )

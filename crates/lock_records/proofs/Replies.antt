@@ -1,0 +1,133 @@
+-- The calls that leave the run, the values and the logs as they are, of every such list of the lengths given: begin's reply; a peek's turn, plan, number and part.
+use mathlib.Core.Path.{_≡_, refl, ap, _∙_}
+use mathlib.Core.Bool.{Bool}
+use mathlib.Core.Option.{Option, none, some}
+use mathlib.Core.List.{List, []}
+use Prim.Native.Nat.{ℕ, _+_, _*_, _≤_}
+use borrow.Rule.Slice.PartAt.{slPart}
+use borrow.Rule.Slice.Shared.{bySize}
+use base.Fml.{GName}
+use denote.Ref.{RefT}
+use lib.Dec.{ltb, eqb}
+use lib.ListN.{length, getD, set, replicate, length-replicate}
+use Rattle.model.specs.Buffers.{Store, size, free, idle, sessionAt, withSession, entryAt, slotIn, lengthsMatch}
+use Rattle.model.specs.Plans.{recordFits, guard, known, peekSlot, peekPlan, plan}
+use Rattle.model.specs.Step.{planOf}
+use Rattle.model.specs.Turns.{TurnEffect, leaves, turnOf, changed}
+use Rattle.model.specs.declared.Session.{Session}
+use Rattle.model.specs.declared.Sessions.{Sessions}
+use Rattle.model.specs.declared.Lock.{Lock}
+use Rattle.model.specs.declared.Turn.{Turn as CallTurn}
+use Rattle.model.specs.declared.Answer.the-variants.{Done, Refused}
+use Rattle.model.specs.declared.Change.the-variants.{Keep}
+use Rattle.model.specs.declared.Plan.{Plan}
+use Rattle.model.specs.declared.Plan.the-variants.{Refuse, Start, ShowStore, ShowLog}
+use Rattle.model.specs.declared.Call.the-variants.{Begin, Peek}
+use Rattle.model.proofs.Tools.{split}
+use Rattle.locks.proofs.Tags.{Passed, passed}
+use Rattle.calls.specs.Pieces.{admission}
+use Rattle.calls.proofs.Lengths
+use Rattle.calls.proofs.Logs.{cut, cut-is}
+use Rattle.calls.proofs.Whole.{planned, takes-same}
+use Rattle.calls.proofs.Peeks.{peek-inside, peek-logged, peek-refused, peek-done, hands-store, hands-log, hands-nothing}
+use Rattle.lock_records.specs.Run.{unzipped, lentOn, storeOn}
+use Rattle.lock_records.specs.Turns.{IsReply, IsPeekPlan, IsPeekPart}
+use Rattle.lock_records.proofs.OnRun.{refuses, admits, low, mine, is-mine}
+
+-- ---- turns
+
+module _ (vs log : List ℕ) (x : Session) where
+  -- begin keeps the locks
+  begin-keeps : (n : ℕ) (b : Bool) → turnOf (guard n log x b Start) vs log x .change ≡ Keep
+  unfolding guard turnOf
+  begin-keeps n b =
+      let P : Plan → Type 0 = λ p. turnOf p vs log x .change ≡ Keep in
+      split P (recordFits n log x) (λ t. split P b (λ u. refl) (λ u. refl)) (λ t. refl)
+
+  -- a peek that is no refusal answers 100
+  abbrev Shows : Plan → Type 0
+  Shows p = Passed 0 p → leaves Done vs log x Keep ≡ turnOf p vs log x
+
+  turned : (r : ℕ) → Shows (Refuse r)
+  turned r h = absurd (passed 0 (Refuse r) (Refuse r) tt refl h)
+
+  by-slot : (c : ℕ) (o : Option ℕ) → Shows (peekSlot log c o)
+  unfolding peekSlot turnOf
+  by-slot c none = turned 14
+  by-slot c (some k) = split Shows (entryAt log k .dirty) (λ d h. refl) (λ d h. refl)
+
+  shows : (n c : ℕ) → Shows (peekPlan n log x c)
+  unfolding peekPlan guard known
+  shows n c =
+      split Shows (recordFits n log x)
+      (λ t. split Shows (eqb (x .phase) 1) (λ u. split Shows (ltb c n) (λ i. by-slot c (slotIn log (x .count) c)) (λ i. turned 3)) (λ u. turned 2))
+      (λ t. turned 9)
+
+  module _ (n c : ℕ) (p : Plan) (e : p ≡ peekPlan n log x c) where
+    pub peek-turned : (r : ℕ) → p ≡ Refuse r → leaves (Refused r) vs log x Keep ≡ turnOf (peekPlan n log x c) vs log x
+    unfolding turnOf
+    peek-turned r h = rw (← e, h)
+
+    pub peek-shown : Passed 0 p → leaves Done vs log x Keep ≡ turnOf (peekPlan n log x c) vs log x
+    peek-shown h = shows n c (rw e at h)
+
+-- ---- replies and plans, by the number r of refusals 7 and 1: n values, k classes, m locks
+
+module _ (n k m : ℕ) (W : List ℕ) (ss : Sessions) (s r : ℕ) (e : r ≡ admission (lengthsMatch n k m m m (length W)) s) where
+  abbrev x : Session
+  x = getD (ss .records) s idle
+
+  pub begin-refuses : (r ≡ 0 → ⊥) → IsReply (Begin s) n k m W ss (record { answer = Refused r; sessions = ss })
+  begin-refuses h vs cs L i j q = Lengths.refuses (Begin s) (storeOn vs cs L W ss) r (refuses n k m W s r e vs cs L i j q (Begin s) refl h ss)
+
+  pub peek-refuses : (c : ℕ) → (r ≡ 0 → ⊥) → IsPeekPlan n k m W ss s c (Refuse r)
+  peek-refuses c h vs cs L i j q = refuses n k m W s r e vs cs L i j q (Peek s c) refl h ss
+
+  module _ (z : r ≡ 0) where
+    pub begins : (t : CallTurn) → ((vs : List ℕ) → leaves (t .answer) vs (cut W s) (t .session) (t .change) ≡ turnOf (guard n (cut W s) x (eqb (x .phase) 0) Start) vs (cut W s) x)
+        → IsReply (Begin s) n k m W ss (record { answer = t .answer; sessions = record { records = set (ss .records) s (t .session) } })
+    unfolding withSession plan changed
+    begins t h vs cs L i j q =
+        let d : t .change ≡ Keep = ap (λ (f : TurnEffect). f .change) (h vs) ∙ begin-keeps vs (cut W s) x n (eqb (x .phase) 0) in
+        let own = low n k m W s r e z in
+        rw (mine ss s s own refl) at
+        (takes-same (Begin s) (lentOn vs cs L W) x s refl (admits n k m W s r e vs cs L i j q z) (guard n (cut W s) x (eqb (x .phase) 0) Start) (rw i) (t .answer) vs (cut W s) (t .session) (t .change) (h vs)
+        refl (unzipped L) (rw d) ss (is-mine ss s s own refl))
+
+    pub peek-decides : (c : ℕ) (p : Plan) → p ≡ peekPlan n (cut W s) x c → IsPeekPlan n k m W ss s c p
+    unfolding plan sessionAt size
+    peek-decides c p f vs cs L i j q =
+        let a = admits n k m W s r e vs cs L i j q z in
+        f ∙ rw (← i, cut-is) (planned (Peek s c) (storeOn vs cs L W ss) (a .fit) (a .low))
+
+-- ---- a peek's plan p, of every store with these lengths: its answer, and its part
+
+module _ (n k m : ℕ) (W : List ℕ) (ss : Sessions) (s c : ℕ) (p : Plan) (f : IsPeekPlan n k m W ss s c p) where
+  pub number-refuses : (r : ℕ) → p ≡ Refuse r → IsReply (Peek s c) n k m W ss (record { answer = Refused r; sessions = ss })
+  number-refuses r h vs cs L i j q = peek-refused (storeOn vs cs L W ss) s c p (f vs cs L i j q) r h
+
+  pub number-shows : Passed 0 p → IsReply (Peek s c) n k m W ss (record { answer = Done; sessions = ss })
+  number-shows h vs cs L i j q = peek-done (storeOn vs cs L W ss) s c p (f vs cs L i j q) h
+
+module _ (v w : RefT (List ℕ)) (k m : ℕ) (ss : Sessions) (s c : ℕ) (p : Plan) (f : IsPeekPlan (length (v .now)) k m (w .now) ss s c p) where
+  abbrev σ : List ℕ → List Lock → Store
+  σ cs L = storeOn (v .now) cs L (w .now) ss
+
+  at-one : p ≡ planOf (Peek s c) (σ (replicate k 0) (replicate m free))
+  at-one = f (v .now) (replicate k 0) (replicate m free) refl (length-replicate k 0) (length-replicate m free)
+
+  pub store-there : {i : ℕ} → p ≡ ShowStore i → c + 1 ≤ length (v .now)
+  store-there {i} h = peek-inside (σ (replicate k 0) (replicate m free)) s c p at-one (ShowStore i) tt h
+
+  pub log-there : {i : ℕ} → p ≡ ShowLog i → 128 * s + (4 * i + 2) + 1 ≤ length (w .now)
+  log-there {i} h = peek-logged (σ (replicate k 0) (replicate m free)) s c p at-one i h
+
+  pub gives-store : {i : ℕ} (γ : GName) → p ≡ ShowStore i → IsPeekPart v k m w ss s c (slPart v (bySize 4 c (v .ptr .1)) c (c + 1) γ)
+  gives-store {i} γ h cs L j q = hands-store (σ cs L) s c p (f (v .now) cs L refl j q) v w refl i h γ
+
+  pub gives-log : {i : ℕ} (γ : GName) → p ≡ ShowLog i
+      → IsPeekPart v k m w ss s c (slPart w (bySize 4 (128 * s + (4 * i + 2)) (w .ptr .1)) (128 * s + (4 * i + 2)) (128 * s + (4 * i + 2) + 1) γ)
+  gives-log {i} γ h cs L j q = hands-log (σ cs L) s c p (f (v .now) cs L refl j q) v w refl i h γ
+
+  pub gives-nothing : Passed 14 p → Passed 15 p → (r : RefT (List ℕ)) → r .now ≡ [] → IsPeekPart v k m w ss s c r
+  gives-nothing a b r n cs L j q = hands-nothing (σ cs L) s c p (f (v .now) cs L refl j q) v w a b r n

@@ -1,0 +1,666 @@
+// The calls on locks that the caller lends as one run of records (document 01, "What the caller lends", Locks).
+// A call on the run reads one lock, takes its turn (crate calls) with that lock by value, and carries out on the run the change that comes back.
+ghost use mathlib.Core.Path.{_≡_};
+ghost use Prim.Native.Nat.{_<_, _≤_};
+ghost use lib.ListN.{length};
+ghost use Rattle.model.specs.Buffers.{logIn, cellAt};
+ghost use Rattle.model.specs.Plans.{peekPlan};
+ghost use Rattle.model.specs.Step.{sessionOf};
+ghost use Rattle.model.specs.Turns.{TakesTurn, TurnsLog};
+ghost use Rattle.model.specs.declared.Call.the-variants.{Begin, Read, Write, Seal, Advance, Abandon, Peek};
+ghost use Rattle.lock_records.specs.declared.Change.the-variants.{Leave};
+ghost use Rattle.lock_records.specs.Run.{lockIn, countOf, cellOf, changeOf, changedAt, sweptBy, SessionFits, ChangeFits, onRun};
+ghost use Rattle.lock_records.specs.Turns.{onlyAnswer, lookOf, planWith, IsReply, IsPeekPlan, IsPeekPart, TakesOnRun, SetsUpTurn};
+ghost use Rattle.lock_records.specs.Lent.{Takes, SetsUp, HandsBack};
+use model::Answer;
+use model::Call;
+use model::Lock;
+use model::Plan;
+use model::Reply;
+use model::Session;
+use model::Sessions;
+
+// ---- a change of the run
+
+// What a call does to the locks: the session, with a cell or with the number of its entries; or the number of all cells.
+pub enum Change {
+    Keep,
+    Join(u8, u32),
+    Claim(u8, u32),
+    Acquire(u8, u32),
+    Vacate(u8, u32),
+    Withdraw(u8, u8),
+    Leave(u8, u8),
+    Clear(u32),
+}
+
+// How many locks are changed, one after the other.
+fn count_of(change: Change) -> usize
+    ensures { λ r. ⌜ r ≡ countOf change ⌝ }
+{
+    match change {
+        Change::Keep => 0,
+        Change::Join(_, _) => 1,
+        Change::Claim(_, _) => 1,
+        Change::Acquire(_, _) => 1,
+        Change::Vacate(_, _) => 1,
+        Change::Withdraw(_, m) => m as usize,
+        Change::Leave(_, m) => m as usize,
+        Change::Clear(n) => n as usize,
+    }
+}
+
+// The cell of entry i of a session.
+fn entry_cell(logs: &[u32], session: u8, i: usize) -> usize
+    requires { ⌜ (session < 16) × (i < 32) × (length (now logs) ≡ 2048) ⌝ }
+    ensures { λ r. ⌜ r ≡ cellAt (logIn (now (logs .entry)) session) i ⌝ }
+{
+    let a = 128 * (session as usize);
+    let e = a + 128;
+    log::cell_at(&logs[a..e], i) as usize
+}
+
+// The same, or 1,024 where the cell is written: of m entries the cell's first counts.
+fn unwritten_cell(logs: &[u32], session: u8, m: u8, i: usize) -> usize
+    requires { ⌜ (session < 16) × (m ≤ 32) × (i < m) × (length (now logs) ≡ 2048) ⌝ }
+    ensures { λ r. ⌜ r ≡ cellOf (now (logs .entry)) (Leave session m) i ⌝ }
+{
+    let a = 128 * (session as usize);
+    let e = a + 128;
+    let log = &logs[a..e];
+    let cell = log::cell_at(log, i);
+    let k = log::find(log, m as usize, cell);
+    if log::publishes(log, k) {
+        return 1024;
+    }
+    cell as usize
+}
+
+// The cell whose lock is changed i-th, from 0.
+fn cell_of(logs: &[u32], change: Change, i: usize) -> usize
+    requires { ⌜ (ChangeFits (now logs) change) × (i < countOf change) ⌝ }
+    ensures { λ r. ⌜ r ≡ cellOf (now (logs .entry)) change i ⌝ }
+{
+    match change {
+        Change::Keep => 1024,
+        Change::Join(_, c) => c as usize,
+        Change::Claim(_, c) => c as usize,
+        Change::Acquire(_, c) => c as usize,
+        Change::Vacate(_, c) => c as usize,
+        Change::Withdraw(s, _) => entry_cell(logs, s, i),
+        Change::Leave(s, m) => unwritten_cell(logs, s, m, i),
+        Change::Clear(_) => i,
+    }
+}
+
+// What becomes of a lock.
+fn changed(l: Lock, change: Change) -> Lock
+    requires { ⌜ SessionFits change ⌝ }
+    ensures { λ r. ⌜ r ≡ changeOf change l ⌝ }
+{
+    match change {
+        Change::Keep => l,
+        Change::Join(s, _) => locks::joined(l, s),
+        Change::Claim(s, _) => locks::claimed(l, s),
+        Change::Acquire(s, _) => locks::acquired(l, s),
+        Change::Vacate(s, _) => locks::vacated(l, s),
+        Change::Withdraw(s, _) => locks::withdrawn(l, s),
+        Change::Leave(s, _) => locks::left(l, s),
+        Change::Clear(_) => Lock {
+            readers: 0,
+            claimant: 16,
+            exclusive: 0,
+        },
+    }
+}
+
+// ---- the run
+
+// The lock of a cell; past the last cell an empty one.
+fn lock_at(locks: &[Lock], cell: usize) -> Lock
+    ensures { λ r. ⌜ r ≡ lockIn (now (locks .entry)) cell ⌝ }
+{
+    if cell < locks.len() {
+        locks[cell]
+    } else {
+        Lock {
+            readers: 0,
+            claimant: 16,
+            exclusive: 0,
+        }
+    }
+}
+
+// One lock changed; past the last cell nothing is.
+fn change_at(locks: &mut [Lock], cell: usize, change: Change)
+    requires { ⌜ SessionFits change ⌝ }
+    ensures { λ _. ⌜ now (locks .exit) ≡ changedAt change cell (now (locks .entry)) ⌝ }
+{
+    if cell < locks.len() {
+        locks[cell] = changed(locks[cell], change);
+    }
+}
+
+// The change carried out, lock by lock.
+fn sweep<'a>(locks: &'a mut [Lock], logs: &'a [u32], change: Change)
+    requires { ⌜ ChangeFits (now logs) change ⌝ }
+    ensures { λ _. ⌜ now (locks .exit) ≡ sweptBy (now (logs .entry)) change (now (locks .entry)) ⌝ }
+{
+    let n = count_of(change);
+    let mut i = 0;
+    while i < n {
+        let cell = cell_of(logs, change, i);
+        change_at(locks, cell, change);
+        i += 1;
+    }
+}
+
+// ---- what the covered code of a call hands over
+
+// What a call has answered and changed besides the run, and what it does to the run.
+pub struct Turn {
+    pub reply: Reply,
+    pub change: Change,
+}
+
+// An answer with the records and the run as they were.
+fn only_answer(sessions: Sessions, answer: Answer) -> Turn
+    ensures { λ r. ⌜ r ≡ onlyAnswer sessions answer ⌝ }
+{
+    let reply = Reply { answer, sessions };
+    Turn {
+        reply,
+        change: Change::Keep,
+    }
+}
+
+// ---- set-up, but for the run
+
+// Set-up but for the locks.
+fn set_up_turn(
+    sessions: Sessions,
+    values: &[u32],
+    classes: &[u8],
+    locks: usize,
+    logs: &mut [u32],
+) -> Turn
+    ensures { λ r. ⌜ SetsUpTurn values classes locks logs sessions r ⌝ }
+{
+    let n = values.len();
+    if !calls::lengths_fit(n, classes.len(), locks, locks, locks, logs.len()) {
+        return only_answer(sessions, Answer::Refused(7));
+    }
+    if !calls::all_fit(values, classes) {
+        return only_answer(sessions, Answer::Refused(8));
+    }
+    log::clear_words(logs);
+    let idle = model::all_idle();
+    let reply = Reply {
+        answer: Answer::Done,
+        sessions: idle,
+    };
+    Turn {
+        reply,
+        change: Change::Clear(n as u32),
+    }
+}
+
+// ---- a call, but for the run
+
+// The cell whose lock a call may need; 0 where it needs none, and where it is refused by 7 or 1.
+fn look_up(
+    call: Call,
+    sessions: Sessions,
+    n: usize,
+    classes: usize,
+    locks: usize,
+    logs: &[u32],
+) -> usize
+    ensures { λ r. ⌜ r ≡ lookOf call sessions n classes locks (now (logs .entry)) ⌝ }
+{
+    let session = call.session();
+    if calls::admit(n, classes, locks, locks, locks, logs.len(), session) != 0 {
+        return 0;
+    }
+    let i = session as usize;
+    let a = 128 * i;
+    let e = a + 128;
+    let x = sessions.records[i];
+    let log = &logs[a..e];
+    match call {
+        Call::Begin(_) => 0,
+        Call::Read(_, c) => c as usize,
+        Call::Write(_, c, _) => c as usize,
+        Call::Seal(_) => 0,
+        Call::Advance(_) => {
+            let due = calls::due_slot(log, n, x);
+            calls::due_cell(log, due) as usize
+        }
+        Call::Abandon(_) => 0,
+        Call::Peek(_, _) => 0,
+    }
+}
+
+// A peek's turn: its number, and nothing changes.
+fn take_peek(log: &[u32], n: usize, x: Session, cell: u32) -> model::Turn
+    requires { ⌜ (length (now log) ≡ 128) × (n ≤ 1024) ⌝ }
+    ensures { λ r. ⌜ TurnsLog (peekPlan n (now (log .entry)) x cell) log x r ⌝ }
+{
+    let p = calls::peek_plan(log, n, x, cell);
+    if let Plan::Refuse(number) = p {
+        return model::Turn {
+            answer: Answer::Refused(number),
+            session: x,
+            change: model::Change::Keep,
+        };
+    }
+    model::Turn {
+        answer: Answer::Done,
+        session: x,
+        change: model::Change::Keep,
+    }
+}
+
+// Any call's turn, with the lock of the cell that it may need.
+fn take_call(
+    call: Call,
+    values: &mut [u32],
+    classes: &[u8],
+    log: &mut [u32],
+    x: Session,
+    l: Lock,
+) -> model::Turn
+    requires { ⌜ (length (now log) ≡ 128) × (length (now values) ≤ 1024) × (length (now classes) ≡ length (now values)) × (sessionOf call < 16) ⌝ }
+    ensures { λ r. ⌜ TakesTurn (planWith call (length (now (values .entry))) (now (classes .entry)) (now (log .entry)) x l) values log x r ⌝ }
+{
+    let n = values.len();
+    match call {
+        Call::Begin(_) => calls::take_begin(&log[..], n, x),
+        Call::Read(_, c) => {
+            let p = calls::read_plan(&log[..], n, x, c);
+            calls::take_read(&values[..], log, x, l, c, p)
+        }
+        Call::Write(_, c, v) => {
+            let p = calls::write_plan(&log[..], classes, x, c, v);
+            calls::take_write(&values[..], classes, log, x, l, c, v, p)
+        }
+        Call::Seal(_) => calls::take_seal(&log[..], n, x),
+        Call::Advance(s) => {
+            let due = calls::due_slot(&log[..], n, x);
+            calls::take_advance(values, &log[..], x, l, s, due)
+        }
+        Call::Abandon(_) => calls::take_abandon(&log[..], n, x),
+        Call::Peek(_, c) => take_peek(&log[..], n, x, c),
+    }
+}
+
+// A turn's change as one of the run.
+fn on_run(change: model::Change, session: u8, count: u8) -> Change
+    ensures { λ r. ⌜ r ≡ onRun change session count ⌝ }
+{
+    match change {
+        model::Change::Keep => Change::Keep,
+        model::Change::Join(c) => Change::Join(session, c),
+        model::Change::Claim(c) => Change::Claim(session, c),
+        model::Change::Acquire(c) => Change::Acquire(session, c),
+        model::Change::Vacate(c) => Change::Vacate(session, c),
+        model::Change::Withdraw => Change::Withdraw(session, count),
+        model::Change::DropReads => Change::Leave(session, count),
+    }
+}
+
+// Any call: refusals 7 and 1, then its turn, with the record put back.
+fn take_turn(
+    call: Call,
+    mut sessions: Sessions,
+    values: &mut [u32],
+    classes: &[u8],
+    locks: usize,
+    l: Lock,
+    logs: &mut [u32],
+) -> Turn
+    ensures { λ r. ⌜ TakesOnRun call values classes locks l logs sessions r ⌝ }
+{
+    let session = call.session();
+    let refusal = calls::admit(
+        values.len(),
+        classes.len(),
+        locks,
+        locks,
+        locks,
+        logs.len(),
+        session,
+    );
+    if refusal != 0 {
+        return only_answer(sessions, Answer::Refused(refusal));
+    }
+    let i = session as usize;
+    let a = 128 * i;
+    let e = a + 128;
+    let x = sessions.records[i];
+    let t = take_call(call, values, classes, &mut logs[a..e], x, l);
+    let y = t.session;
+    let answer = t.answer;
+    let change = t.change;
+    sessions.records[i] = y;
+    let reply = Reply { answer, sessions };
+    Turn {
+        reply,
+        change: on_run(change, session, x.count),
+    }
+}
+
+// ---- the calls that leave all that is lent as it is: of the run they are told the count
+
+// Begin.
+fn begin_turn(
+    mut sessions: Sessions,
+    n: usize,
+    classes: usize,
+    locks: usize,
+    logs: &[u32],
+    session: u8,
+) -> Reply
+    ensures { λ r. ⌜ IsReply (Begin session) n classes locks (now (logs .entry)) sessions r ⌝ }
+{
+    let refusal = calls::admit(n, classes, locks, locks, locks, logs.len(), session);
+    if refusal != 0 {
+        return Reply {
+            answer: Answer::Refused(refusal),
+            sessions,
+        };
+    }
+    let i = session as usize;
+    let a = 128 * i;
+    let e = a + 128;
+    let x = sessions.records[i];
+    let t = calls::take_begin(&logs[a..e], n, x);
+    let y = t.session;
+    let answer = t.answer;
+    sessions.records[i] = y;
+    Reply { answer, sessions }
+}
+
+// What a peek decides.
+fn peek_plan(
+    sessions: Sessions,
+    n: usize,
+    classes: usize,
+    locks: usize,
+    logs: &[u32],
+    session: u8,
+    cell: u32,
+) -> Plan
+    ensures { λ r. ⌜ IsPeekPlan n classes locks (now (logs .entry)) sessions session cell r ⌝ }
+{
+    let refusal = calls::admit(n, classes, locks, locks, locks, logs.len(), session);
+    if refusal != 0 {
+        return Plan::Refuse(refusal);
+    }
+    let i = session as usize;
+    let a = 128 * i;
+    let e = a + 128;
+    let x = sessions.records[i];
+    calls::peek_plan(&logs[a..e], n, x, cell)
+}
+
+// A peek's number.
+fn peek_turn(
+    sessions: Sessions,
+    n: usize,
+    classes: usize,
+    locks: usize,
+    logs: &[u32],
+    session: u8,
+    cell: u32,
+) -> Reply
+    ensures { λ r. ⌜ IsReply (Peek session cell) n classes locks (now (logs .entry)) sessions r ⌝ }
+{
+    let p = peek_plan(sessions, n, classes, locks, logs, session, cell);
+    if let Plan::Refuse(number) = p {
+        return Reply {
+            answer: Answer::Refused(number),
+            sessions,
+        };
+    }
+    Reply {
+        answer: Answer::Done,
+        sessions,
+    }
+}
+
+// A peek's part.
+fn peek_part<'a>(
+    sessions: Sessions,
+    values: &'a [u32],
+    classes: usize,
+    locks: usize,
+    logs: &'a [u32],
+    session: u8,
+    cell: u32,
+) -> &'a [u32]
+    ensures { λ r. ⌜ IsPeekPart (values .entry) classes locks (logs .entry) sessions session cell r ⌝ }
+{
+    let p = peek_plan(sessions, values.len(), classes, locks, logs, session, cell);
+    if let Plan::ShowStore(_) = p {
+        let c = cell as usize;
+        let d = c + 1;
+        return &values[c..d];
+    }
+    if let Plan::ShowLog(k) = p {
+        let from = 128 * (session as usize) + (4 * (k as usize) + 2);
+        let to = from + 1;
+        return &logs[from..to];
+    }
+    &values[0..0]
+}
+
+// ---- set-up and the calls on the run
+
+// Set-up: all sessions idle, all locks empty, all log words 0. 100, 7 or 8.
+pub fn set_up(
+    sessions: Sessions,
+    values: &[u32],
+    classes: &[u8],
+    locks: &mut [Lock],
+    logs: &mut [u32],
+) -> Reply
+    ensures { λ r. ⌜ SetsUp values classes locks logs sessions r ⌝ }
+{
+    let t = set_up_turn(sessions, values, classes, locks.len(), logs);
+    sweep(locks, logs, t.change);
+    t.reply
+}
+
+// Any call of a list.
+pub fn step(
+    call: Call,
+    sessions: Sessions,
+    values: &mut [u32],
+    classes: &[u8],
+    locks: &mut [Lock],
+    logs: &mut [u32],
+) -> Reply
+    ensures { λ r. ⌜ Takes call values classes locks logs sessions r ⌝ }
+{
+    let cell = look_up(
+        call,
+        sessions,
+        values.len(),
+        classes.len(),
+        locks.len(),
+        logs,
+    );
+    let l = lock_at(locks, cell);
+    let t = take_turn(call, sessions, values, classes, locks.len(), l, logs);
+    sweep(locks, logs, t.change);
+    t.reply
+}
+
+// Begin: idle only. The session runs with no entry. 100.
+pub fn begin(
+    sessions: Sessions,
+    values: &[u32],
+    classes: &[u8],
+    locks: &[Lock],
+    logs: &[u32],
+    session: u8,
+) -> Reply
+    ensures { λ r. ⌜ Takes (Begin session) values classes locks logs sessions r ⌝ }
+{
+    begin_turn(
+        sessions,
+        values.len(),
+        classes.len(),
+        locks.len(),
+        logs,
+        session,
+    )
+}
+
+// Read: running only. 101 with a known cell's present value; a new cell is locked and entered, or the session is rolled back, 6.
+pub fn read(
+    sessions: Sessions,
+    values: &mut [u32],
+    classes: &[u8],
+    locks: &mut [Lock],
+    logs: &mut [u32],
+    session: u8,
+    cell: u32,
+) -> Reply
+    ensures { λ r. ⌜ Takes (Read session cell) values classes locks logs sessions r ⌝ }
+{
+    step(
+        Call::Read(session, cell),
+        sessions,
+        values,
+        classes,
+        locks,
+        logs,
+    )
+}
+
+// Write: running only. A new cell is locked and entered as by read; then the entry is updated. 100.
+pub fn write(
+    sessions: Sessions,
+    values: &mut [u32],
+    classes: &[u8],
+    locks: &mut [Lock],
+    logs: &mut [u32],
+    session: u8,
+    cell: u32,
+    value: u32,
+) -> Reply
+    ensures { λ r. ⌜ Takes (Write session cell value) values classes locks logs sessions r ⌝ }
+{
+    step(
+        Call::Write(session, cell, value),
+        sessions,
+        values,
+        classes,
+        locks,
+        logs,
+    )
+}
+
+// Seal: running only. The session leaves the readers of each cell entered but not written. 105 with nothing written, else 102.
+pub fn seal(
+    sessions: Sessions,
+    values: &mut [u32],
+    classes: &[u8],
+    locks: &mut [Lock],
+    logs: &mut [u32],
+    session: u8,
+) -> Reply
+    ensures { λ r. ⌜ Takes (Seal session) values classes locks logs sessions r ⌝ }
+{
+    step(Call::Seal(session), sessions, values, classes, locks, logs)
+}
+
+// Advance: phases 2 to 4. One written cell is promoted, published or released. 103, 104, 105, or 6.
+pub fn advance(
+    sessions: Sessions,
+    values: &mut [u32],
+    classes: &[u8],
+    locks: &mut [Lock],
+    logs: &mut [u32],
+    session: u8,
+) -> Reply
+    ensures { λ r. ⌜ Takes (Advance session) values classes locks logs sessions r ⌝ }
+{
+    step(
+        Call::Advance(session),
+        sessions,
+        values,
+        classes,
+        locks,
+        logs,
+    )
+}
+
+// Abandon: phases 1 and 2. The session is rolled back. 100.
+pub fn abandon(
+    sessions: Sessions,
+    values: &mut [u32],
+    classes: &[u8],
+    locks: &mut [Lock],
+    logs: &mut [u32],
+    session: u8,
+) -> Reply
+    ensures { λ r. ⌜ Takes (Abandon session) values classes locks logs sessions r ⌝ }
+{
+    step(
+        Call::Abandon(session),
+        sessions,
+        values,
+        classes,
+        locks,
+        logs,
+    )
+}
+
+// Peek: running only. One word, the store's own or the log's own; no word where the peek is refused.
+pub fn peek<'a>(
+    sessions: Sessions,
+    values: &'a [u32],
+    classes: &[u8],
+    locks: &[Lock],
+    logs: &'a [u32],
+    session: u8,
+    cell: u32,
+) -> &'a [u32]
+    ensures { λ r. ⌜ HandsBack session cell values classes (now (locks .entry)) logs sessions r ⌝ }
+{
+    peek_part(
+        sessions,
+        values,
+        classes.len(),
+        locks.len(),
+        logs,
+        session,
+        cell,
+    )
+}
+
+// Peek's twin: 100 or a refusal.
+pub fn peek_number(
+    sessions: Sessions,
+    values: &[u32],
+    classes: &[u8],
+    locks: &[Lock],
+    logs: &[u32],
+    session: u8,
+    cell: u32,
+) -> Reply
+    ensures { λ r. ⌜ Takes (Peek session cell) values classes locks logs sessions r ⌝ }
+{
+    peek_turn(
+        sessions,
+        values.len(),
+        classes.len(),
+        locks.len(),
+        logs,
+        session,
+        cell,
+    )
+}

@@ -1,0 +1,163 @@
+-- What the calls on three slices cite: which part of a change each call's turn can hand back, and that what a read or a write decides with the lock looked up for it
+-- is its plan.
+use mathlib.Core.Path.{_≡_, refl, sym, ap, _∙_}
+use mathlib.Core.Bool.{Bool, cond, not, _&&_, _||_}
+use mathlib.Core.Option.{Option, none, some}
+use mathlib.Core.List.{List}
+use Prim.Native.Nat.{ℕ, _+_, _*_, _%_, _<_, _≤_}
+use lib.Dec.{T, eqb}
+use lib.ListN.{length, getD, set}
+use Rattle.model.specs.Buffers.{Locks, Buffers, free, idle, sessionAt, withSession, entryAt, targetIn, lockAt}
+use Rattle.model.specs.Readers.{otherReaders}
+use Rattle.model.specs.Plans.{recordFits, guard, claimed, promotePlan, sealTarget, sealPlan, readPlan, writePlan, plan}
+use Rattle.model.specs.Step.{outcome, effect, sessionOf, TakesRecord}
+use Rattle.model.specs.Turns.{TurnEffect, leaves, turnOf, changed}
+use Rattle.model.specs.declared.Session.{Session}
+use Rattle.model.specs.declared.Lock.{Lock}
+use Rattle.model.specs.declared.Sessions.{Sessions}
+use Rattle.model.specs.declared.Call.{Call}
+use Rattle.model.specs.declared.Call.the-variants.{Advance}
+use Rattle.model.specs.declared.Answer.{Answer}
+use Rattle.model.specs.declared.Plan.{Plan}
+use Rattle.model.specs.declared.Plan.the-variants.{Refuse, Start, Tell, Enter, Update, EnterUpdate, Cancel}
+use Rattle.model.specs.declared.Change.{Change}
+use Rattle.model.specs.declared.Change.the-variants.{Keep}
+use Rattle.model.proofs.Tools.{split}
+use Rattle.locks.specs.Changes.{LockFor, oneOf, withdrawOf, dropOf, ChangeFits}
+use Rattle.locks.proofs.Changes.{in-three}
+use Rattle.locks.proofs.Tags.{tag}
+use Rattle.calls.specs.Pieces.{dueOn, dueCell, advanceOn, duePlan}
+use Rattle.calls.specs.declared.Due.{Due}
+use Rattle.calls.specs.declared.Due.the-variants.{Refused, Slot}
+use Rattle.calls.proofs.Agree.{advance-agree}
+use Rattle.calls.proofs.Choices.{Choice, refuses, knows, enters, read-choice, write-choice, when-told}
+use Rattle.calls.proofs.Lengths.{Admitted}
+use Rattle.calls.proofs.Logs.{cut, puts, log-fits, put-fits, put-length, cut-put}
+
+-- ---- the part of a change that a call's turn can be
+
+module _ (n : ℕ) (log : List ℕ) (x : Session) (vs : List ℕ) where
+  abbrev changeOf : Plan → Change
+  changeOf p = turnOf p vs log x .change
+
+  guarded : (P : Change → Type 0) → P Keep → (b : Bool) (p : Plan) → P (changeOf p) → P (changeOf (guard n log x b p))
+  unfolding guard turnOf
+  guarded P k b p f = split (λ q. P (changeOf q)) (recordFits n log x) (λ t. split (λ q. P (changeOf q)) b (λ u. f) (λ u. k)) (λ t. k)
+
+  pub begin-keeps : (b : Bool) → changeOf (guard n log x b Start) ≡ Keep
+  unfolding turnOf
+  begin-keeps b = guarded (λ d. d ≡ Keep) refl b Start refl
+
+  pub abandon-drops-none : (b : Bool) → dropOf (changeOf (guard n log x b Cancel)) ≡ Keep
+  unfolding turnOf dropOf
+  abandon-drops-none b = guarded (λ d. dropOf d ≡ Keep) refl b Cancel refl
+
+  sealed : (o : Option ℕ) → (oneOf (changeOf (sealTarget o)) ≡ Keep) × (withdrawOf (changeOf (sealTarget o)) ≡ Keep)
+  unfolding turnOf oneOf withdrawOf sealTarget
+  sealed none = (refl, refl)
+  sealed (some c) = (refl, refl)
+
+  pub seal-drops : (oneOf (changeOf (sealPlan n log x)) ≡ Keep) × (withdrawOf (changeOf (sealPlan n log x)) ≡ Keep)
+  unfolding sealPlan
+  seal-drops =
+      guarded (λ d. (oneOf d ≡ Keep) × (withdrawOf d ≡ Keep)) (unfold oneOf withdrawOf in (refl, refl)) (eqb (x .phase) 1) (sealTarget (targetIn log (x .count) 0)) (sealed (targetIn log (x .count) 0))
+
+  -- read, write and advance drop no reads
+  chosen : (l : Lock) (c : ℕ) (known : ℕ → Plan) (new p q : Plan) → ((k : ℕ) → dropOf (changeOf (known k)) ≡ Keep) → dropOf (changeOf new) ≡ Keep
+      → Choice n log x l c known new p q → dropOf (changeOf q) ≡ Keep
+  unfolding turnOf dropOf
+  chosen l c known new p q f g (refuses r h i) = rw i
+  chosen l c known new p q f g (knows k j h i) = rw i (f k)
+  chosen l c known new p q f g (enters j m w h i) = rw i (split (λ r. dropOf (changeOf r) ≡ Keep) (claimed l) (λ t. refl) (λ t. g))
+
+  pub read-drops-none : (l : Lock) (c : ℕ) → dropOf (changeOf (readPlan n log x l c)) ≡ Keep
+  unfolding turnOf dropOf
+  read-drops-none l c = chosen l c (λ k. Tell (entryAt log k .current)) (Enter c) _ _ (λ k. refl) refl (read-choice n log x l c)
+
+  pub write-drops-none : (l : Lock) (c v : ℕ) (ks : List ℕ) → dropOf (changeOf (writePlan ks n log x l c v)) ≡ Keep
+  unfolding turnOf dropOf
+  write-drops-none l c v ks = chosen l c (λ k. Update k v) (EnterUpdate c v) _ _ (λ k. refl) refl (write-choice n log x l c ks v)
+
+  pub advance-drops-none : (l : Lock) (s : ℕ) (d : Due) → dropOf (changeOf (duePlan s log x l d)) ≡ Keep
+  unfolding turnOf dropOf duePlan advanceOn promotePlan
+  advance-drops-none l s (Refused r) = refl
+  advance-drops-none l s (Slot k more) =
+      split (λ r. dropOf (changeOf r) ≡ Keep) (eqb (x .phase) 2)
+      (λ t.
+      split (λ r. dropOf (changeOf r) ≡ Keep) (claimed l && not (eqb (l .claimant) s)) (λ u. refl)
+      (λ u. split (λ r. dropOf (changeOf r) ≡ Keep) (eqb (otherReaders s (l .readers)) 0) (λ v. refl) (λ v. refl)))
+      (λ t. split (λ r. dropOf (changeOf r) ≡ Keep) (eqb (x .phase) 3) (λ u. refl) (λ u. refl))
+
+-- ---- a change d of the locks L
+
+module _ (d : Change) (log : List ℕ) (m s : ℕ) (L : Locks) where
+  pub no-change : d ≡ Keep → L ≡ changed d log m s L
+  unfolding changed
+  no-change e = rw e
+
+  -- sealing alone carries it out; N are the locks afterwards
+  pub drop-alone : (oneOf d ≡ Keep) × (withdrawOf d ≡ Keep) → (N : Locks) → N ≡ changed (dropOf d) log m s L → N ≡ changed d log m s L
+  unfolding changed
+  drop-alone k N g = g ∙ (rw (k .1, k .0) at (in-three d log m s L))
+
+-- a turn's change is that of its plan
+pub change-is : (a : Answer) (us W : List ℕ) (y : Session) (d : Change) (p : Plan) (vs log : List ℕ) (x : Session) → leaves a us W y d ≡ turnOf p vs log x → d ≡ turnOf p vs log x .change
+change-is a us W y d p vs log x t = ap (λ (e : TurnEffect). e .change) t
+
+-- ---- what is decided with the lock that was looked up is the plan
+
+at-lock : {n : ℕ} {log : List ℕ} {x : Session} {l k : Lock} {c : ℕ} {known : ℕ → Plan} {new p q r : Plan} → Choice n log x l c known new p q
+    → Choice n log x k c known new p r → ((a : ℕ) → T (not (eqb (tag new) (tag (Refuse a))))) → ((j : ℕ) → T (not (eqb (tag new) (tag (known j)))))
+    → (p ≡ new → l ≡ k) → (l ≡ k → q ≡ r) → q ≡ r
+at-lock (refuses a h i) B t u f g = i ∙ sym (when-told B (Refuse a) (t a) h)
+at-lock {known = known} (knows j o h i) B t u f g = i ∙ sym (when-told B (known j) (u j) h)
+at-lock (enters o m w h i) B t u f g = g (f h)
+
+module _ (n : ℕ) (log : List ℕ) (x : Session) (c : ℕ) (L : Locks) (l : Lock) where
+  pub read-planned : (p : Plan) → p ≡ readPlan n log x free c → LockFor p L l → readPlan n log x l c ≡ readPlan n log x (lockAt L c) c
+  read-planned p e f =
+      at-lock (read-choice n log x l c) (read-choice n log x (lockAt L c) c) (λ a. tt) (λ j. tt) (λ h. f .enters c (e ∙ h))
+      (λ h. ap (λ (k : Lock). readPlan n log x k c) h)
+
+  pub write-planned : (ks : List ℕ) (v : ℕ) (p : Plan) → p ≡ writePlan ks n log x free c v → LockFor p L l
+      → writePlan ks n log x l c v ≡ writePlan ks n log x (lockAt L c) c v
+  write-planned ks v p e f =
+      at-lock (write-choice n log x l c ks v) (write-choice n log x (lockAt L c) c ks v) (λ a. tt) (λ j. tt) (λ h. f .updates c v (e ∙ h))
+      (λ h. ap (λ (k : Lock). writePlan ks n log x k c v) h)
+
+-- and so is what an advance decides at the entry that is due
+pub advance-planned : (n s : ℕ) (ks log : List ℕ) (x : Session) (L : Locks) (l : Lock) (d : Due) (c : ℕ) → d ≡ dueOn n log x → c ≡ dueCell log d → l ≡ lockAt L c
+    → duePlan s log x l d ≡ plan (Advance s) n ks log x (lockAt L)
+advance-planned n s ks log x L l d c e f g = rw (g, f, e) (advance-agree n s ks log x (lockAt L))
+
+-- ---- what the functions that change locks ask, of as many cells as there are reader sets
+
+pub even : (B : Buffers) (s : ℕ) → Admitted B s → (length (B .locks .claimants) ≡ length (B .locks .readers)) × (length (B .locks .exclusives) ≡ length (B .locks .readers))
+even B s z = (z .lengths .claimants ∙ sym (z .lengths .readers), z .lengths .exclusives ∙ sym (z .lengths .readers))
+
+-- the session's log lies in the logs
+pub log-inside : (B : Buffers) (s : ℕ) → Admitted B s → 128 * s + 128 ≤ length (B .logs)
+log-inside B s z = log-fits s (z .low) (B .logs) (z .lengths .logs)
+
+module _ (B : Buffers) (s : ℕ) (z : Admitted B s) where
+  -- a log W put back lies there too, and is read back
+  module _ (W : List ℕ) (whole : length W ≡ 128) where
+    pub put-inside : 128 * s + 128 ≤ length (puts (B .logs) s W)
+    put-inside = put-fits s (z .low) (B .logs) (z .lengths .logs) W whole
+
+    pub put-same : length (puts (B .logs) s W) ≡ length (B .logs)
+    put-same = put-length s (z .low) (B .logs) (z .lengths .logs) W whole
+
+    pub read-back : cut (puts (B .logs) s W) s ≡ W
+    read-back = cut-put s (z .low) (B .logs) (z .lengths .logs) W whole
+
+  -- what carrying a change out asks; U is the log W again
+  pub can-carry : (d : Change) (W : List ℕ) (m : ℕ) (U : List ℕ) → U ≡ W → ChangeFits d s W m (length (B .values))
+      → (s < 16) × ChangeFits d s U m (length (B .locks .readers)) × (length (B .locks .claimants) ≡ length (B .locks .readers)) × (length (B .locks .exclusives) ≡ length (B .locks .readers))
+  can-carry d W m U u f = (z .low, rw (u, z .lengths .readers) f, even B s z .0, even B s z .1)
+
+-- of all sixteen, where the code takes the record out and puts the one handed back in its place
+pub of-sixteen : (k : Call) (B C : Buffers) (ss : Sessions) (s : ℕ) → s ≡ sessionOf k → (a : Answer) (y : Session) → TakesRecord k B (getD (ss .records) (s % 16) idle) a C y
+    → outcome a (record { lent = C; sessions = record { records = set (ss .records) (s % 16) y } }) ≡ effect k (record { lent = B; sessions = ss })
+unfolding sessionAt withSession
+of-sixteen k B C ss s i a y t = rw i ((rw i at t) ss refl)

@@ -1,0 +1,60 @@
+//! What the tests share: a store that is set up, and short names for calls.
+#![allow(dead_code)]
+
+use reference::store::{Answer, Buffers, Call};
+
+/// A store of these classes and values, set up.
+pub fn store(cells: &[(u8, u32)]) -> Buffers {
+    let mut buffers = Buffers::new(cells.iter().map(|cell| cell.1).collect(), cells.iter().map(|cell| cell.0).collect());
+    assert_eq!(buffers.set_up(), number(100));
+    buffers
+}
+
+/// A store of `n` cells of class 2 with value 3, set up.
+pub fn store_of(n: usize) -> Buffers {
+    store(&vec![(2, 3); n])
+}
+
+/// The answer with this number and value 0.
+pub fn number(number: u32) -> Answer {
+    Answer { number, value: 0 }
+}
+
+pub fn value(value: u32) -> Answer {
+    Answer { number: 101, value }
+}
+
+/// Runs calls, each with the number and the value that it must answer.
+pub fn run(buffers: &mut Buffers, calls: &[(Call, Answer)]) {
+    for (index, (call, answer)) in calls.iter().enumerate() {
+        assert_eq!(buffers.call(*call), *answer, "call {} of the list, {:?}", index + 1, call);
+    }
+}
+
+pub fn begin(session: u8) -> Call {
+    Call::Begin { session }
+}
+
+pub fn read(session: u8, cell: u32) -> Call {
+    Call::Read { session, cell }
+}
+
+pub fn write(session: u8, cell: u32, value: u32) -> Call {
+    Call::Write { session, cell, value }
+}
+
+pub fn seal(session: u8) -> Call {
+    Call::Seal { session }
+}
+
+pub fn advance(session: u8) -> Call {
+    Call::Advance { session }
+}
+
+pub fn abandon(session: u8) -> Call {
+    Call::Abandon { session }
+}
+
+pub fn peek(session: u8, cell: u32) -> Call {
+    Call::Peek { session, cell }
+}
