@@ -95,24 +95,13 @@ pub fn begin(
     ensures { λ r. ⌜ TakesOne (Begin session) values classes readers claimants exclusives logs x r ⌝ }
 {
     let n = values.len();
-    if !calls::admits(
-        n,
-        classes.len(),
-        readers.len(),
-        claimants.len(),
-        exclusives.len(),
-        logs.len(),
-        session,
-    ) {
-        let refusal = calls::admit(
-            n,
-            classes.len(),
-            readers.len(),
-            claimants.len(),
-            exclusives.len(),
-            logs.len(),
-            session,
-        );
+    let k = classes.len();
+    let r = readers.len();
+    let c = claimants.len();
+    let m = exclusives.len();
+    let w = logs.len();
+    if !calls::admits(n, k, r, c, m, w, session) {
+        let refusal = calls::admit(n, k, r, c, m, w, session);
         return SessionReply {
             answer: Answer::Refused(refusal),
             session: x,
@@ -141,24 +130,13 @@ pub fn read(
     ensures { λ r. ⌜ TakesOne (Read session cell) values classes readers claimants exclusives logs x r ⌝ }
 {
     let n = values.len();
-    if !calls::admits(
-        n,
-        classes.len(),
-        readers.len(),
-        claimants.len(),
-        exclusives.len(),
-        logs.len(),
-        session,
-    ) {
-        let refusal = calls::admit(
-            n,
-            classes.len(),
-            readers.len(),
-            claimants.len(),
-            exclusives.len(),
-            logs.len(),
-            session,
-        );
+    let k = classes.len();
+    let r = readers.len();
+    let c = claimants.len();
+    let m = exclusives.len();
+    let w = logs.len();
+    if !calls::admits(n, k, r, c, m, w, session) {
+        let refusal = calls::admit(n, k, r, c, m, w, session);
         return SessionReply {
             answer: Answer::Refused(refusal),
             session: x,
@@ -201,24 +179,13 @@ pub fn write(
     ensures { λ r. ⌜ TakesOne (Write session cell value) values classes readers claimants exclusives logs x r ⌝ }
 {
     let n = values.len();
-    if !calls::admits(
-        n,
-        classes.len(),
-        readers.len(),
-        claimants.len(),
-        exclusives.len(),
-        logs.len(),
-        session,
-    ) {
-        let refusal = calls::admit(
-            n,
-            classes.len(),
-            readers.len(),
-            claimants.len(),
-            exclusives.len(),
-            logs.len(),
-            session,
-        );
+    let k = classes.len();
+    let r = readers.len();
+    let c = claimants.len();
+    let m = exclusives.len();
+    let w = logs.len();
+    if !calls::admits(n, k, r, c, m, w, session) {
+        let refusal = calls::admit(n, k, r, c, m, w, session);
         return SessionReply {
             answer: Answer::Refused(refusal),
             session: x,
@@ -259,24 +226,13 @@ pub fn seal(
     ensures { λ r. ⌜ TakesOne (Seal session) values classes readers claimants exclusives logs x r ⌝ }
 {
     let n = values.len();
-    if !calls::admits(
-        n,
-        classes.len(),
-        readers.len(),
-        claimants.len(),
-        exclusives.len(),
-        logs.len(),
-        session,
-    ) {
-        let refusal = calls::admit(
-            n,
-            classes.len(),
-            readers.len(),
-            claimants.len(),
-            exclusives.len(),
-            logs.len(),
-            session,
-        );
+    let k = classes.len();
+    let r = readers.len();
+    let c = claimants.len();
+    let m = exclusives.len();
+    let w = logs.len();
+    if !calls::admits(n, k, r, c, m, w, session) {
+        let refusal = calls::admit(n, k, r, c, m, w, session);
         return SessionReply {
             answer: Answer::Refused(refusal),
             session: x,
@@ -307,24 +263,13 @@ pub fn advance(
     ensures { λ r. ⌜ TakesOne (Advance session) values classes readers claimants exclusives logs x r ⌝ }
 {
     let n = values.len();
-    if !calls::admits(
-        n,
-        classes.len(),
-        readers.len(),
-        claimants.len(),
-        exclusives.len(),
-        logs.len(),
-        session,
-    ) {
-        let refusal = calls::admit(
-            n,
-            classes.len(),
-            readers.len(),
-            claimants.len(),
-            exclusives.len(),
-            logs.len(),
-            session,
-        );
+    let k = classes.len();
+    let r = readers.len();
+    let c = claimants.len();
+    let m = exclusives.len();
+    let w = logs.len();
+    if !calls::admits(n, k, r, c, m, w, session) {
+        let refusal = calls::admit(n, k, r, c, m, w, session);
         return SessionReply {
             answer: Answer::Refused(refusal),
             session: x,
@@ -366,24 +311,13 @@ pub fn abandon(
     ensures { λ r. ⌜ TakesOne (Abandon session) values classes readers claimants exclusives logs x r ⌝ }
 {
     let n = values.len();
-    if !calls::admits(
-        n,
-        classes.len(),
-        readers.len(),
-        claimants.len(),
-        exclusives.len(),
-        logs.len(),
-        session,
-    ) {
-        let refusal = calls::admit(
-            n,
-            classes.len(),
-            readers.len(),
-            claimants.len(),
-            exclusives.len(),
-            logs.len(),
-            session,
-        );
+    let k = classes.len();
+    let r = readers.len();
+    let c = claimants.len();
+    let m = exclusives.len();
+    let w = logs.len();
+    if !calls::admits(n, k, r, c, m, w, session) {
+        let refusal = calls::admit(n, k, r, c, m, w, session);
         return SessionReply {
             answer: Answer::Refused(refusal),
             session: x,
@@ -425,24 +359,13 @@ pub fn peek_plan(
     ensures { λ r. ⌜ PeekPlans session cell values classes readers claimants exclusives logs x r ⌝ }
 {
     let n = values.len();
-    if !calls::admits(
-        n,
-        classes.len(),
-        readers.len(),
-        claimants.len(),
-        exclusives.len(),
-        logs.len(),
-        session,
-    ) {
-        return Plan::Refuse(calls::admit(
-            n,
-            classes.len(),
-            readers.len(),
-            claimants.len(),
-            exclusives.len(),
-            logs.len(),
-            session,
-        ));
+    let k = classes.len();
+    let r = readers.len();
+    let c = claimants.len();
+    let m = exclusives.len();
+    let w = logs.len();
+    if !calls::admits(n, k, r, c, m, w, session) {
+        return Plan::Refuse(calls::admit(n, k, r, c, m, w, session));
     }
     let a = 128 * (session as usize);
     let e = a + 128;
