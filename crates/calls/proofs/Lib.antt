@@ -3,9 +3,3 @@ pub mod Ways
 pub mod Agree
 pub mod Turning
 pub mod Choices
-pub mod Fitting
-pub mod Lengths
-pub mod Logs
-pub mod Whole
-pub mod Peeks
-pub mod SetUp

@@ -11,7 +11,7 @@ use Rattle.model.proofs.Tools.{test}
 use Rattle.model.specs.Buffers.{logIn, cellAt, entryAt, publishes, slotIn, lookIn, entryOf, publishesIn}
 use Rattle.log.specs.Slots.{found}
 use Rattle.log.proofs.Targets.{slot-some, slot-none}
-use Rattle.calls.proofs.Logs.{cut, cut-is, cut-long}
+use Rattle.turns.proofs.Logs.{cut, cut-is, cut-long}
 use Rattle.lock_records.specs.declared.Change.{Change}
 use Rattle.lock_records.specs.declared.Change.the-variants.{Withdraw, Leave}
 use Rattle.lock_records.specs.Run.{ChangeFits, countOf, cellOf}

@@ -21,11 +21,11 @@ use Rattle.locks.specs.Changes.{ChangeFits as Fits}
 use Rattle.calls.specs.Pieces.{admission, dueOn, duePlan}
 use Rattle.calls.specs.declared.Due.{Due}
 use Rattle.calls.proofs.Agree.{advance-agree}
-use Rattle.calls.proofs.Fitting.{call-fits}
-use Rattle.calls.proofs.Lengths
-use Rattle.calls.proofs.Lengths.{Admitted, plan-refused}
-use Rattle.calls.proofs.Logs.{cut, puts, cut-is, cut-long, cut-put, put-length}
-use Rattle.calls.proofs.Whole.{planIn, takes-put}
+use Rattle.turns.proofs.Fitting.{call-fits}
+use Rattle.turns.proofs.Lengths
+use Rattle.turns.proofs.Lengths.{Admitted, plan-refused}
+use Rattle.turns.proofs.Logs.{cut, puts, cut-is, cut-long, cut-put, put-length}
+use Rattle.turns.proofs.Whole.{planIn, takes-put}
 use Rattle.lock_records.specs.declared.Change.{Change}
 use Rattle.lock_records.specs.declared.Turn.{Turn}
 use Rattle.lock_records.specs.Run.{unzipped, lentOn, storeOn, lockIn, countOf, swept, sweptBy, onRun}
@@ -80,22 +80,6 @@ module _ (ss : Sessions) (s t : ℕ) (small : s < 16) (i : s ≡ t) where
   is-mine = rw mine
 
 -- ---- one lock
-
--- a plan reads the lock of one cell
-one-lock : (k : Call) (n : ℕ) (ks log : List ℕ) (x : Session) (f : ℕ → Lock) → planWith k n ks log x (f (cellFor k n log x)) ≡ plan k n ks log x f
-unfolding plan cellFor
-one-lock (Begin s) n ks log x f = refl
-one-lock (Read s c) n ks log x f = refl
-one-lock (Write s c v) n ks log x f = refl
-one-lock (Seal s) n ks log x f = refl
-one-lock (Advance s) n ks log x f = sym (advance-agree n s ks log x (λ c. f (cellFor (Advance s) n log x))) ∙ advance-agree n s ks log x f
-one-lock (Abandon s) n ks log x f = refl
-one-lock (Peek s c) n ks log x f = refl
-
--- an advance decides by that of the entry that is due
-pub advances : (n s : ℕ) (vs ks log : List ℕ) (x : Session) (l : Lock) (d : Due) → d ≡ dueOn n log x → {t : TurnEffect} → t ≡ turnOf (duePlan s log x l d) vs log x
-    → t ≡ turnOf (planWith (Advance s) n ks log x l) vs log x
-advances n s vs ks log x l d e h = rw e at h ∙ ap (λ p. turnOf p vs log x) (advance-agree n s ks log x (λ c. l))
 
 -- the cell that is looked up
 module _ (call : Call) (ss : Sessions) (n k m : ℕ) (W : List ℕ) (s : ℕ) (i : s ≡ sessionOf call) (r : ℕ) (e : r ≡ admission (lengthsMatch n k m m m (length W)) s) where

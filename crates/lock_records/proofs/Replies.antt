@@ -26,10 +26,10 @@ use Rattle.model.specs.declared.Call.the-variants.{Begin, Peek}
 use Rattle.model.proofs.Tools.{split}
 use Rattle.locks.proofs.Tags.{Passed, passed}
 use Rattle.calls.specs.Pieces.{admission}
-use Rattle.calls.proofs.Lengths
-use Rattle.calls.proofs.Logs.{cut, cut-is}
-use Rattle.calls.proofs.Whole.{planned, takes-same}
-use Rattle.calls.proofs.Peeks.{peek-inside, peek-logged, peek-refused, peek-done, hands-store, hands-log, hands-nothing}
+use Rattle.turns.proofs.Lengths
+use Rattle.turns.proofs.Logs.{cut, cut-is}
+use Rattle.turns.proofs.Whole.{planned, takes-same}
+use Rattle.turns.proofs.Peeks.{peek-inside, peek-logged, peek-refused, peek-done, hands-store, hands-log, hands-nothing}
 use Rattle.lock_records.specs.Run.{unzipped, lentOn, storeOn}
 use Rattle.lock_records.specs.Turns.{IsReply, IsPeekPlan, IsPeekPart}
 use Rattle.lock_records.proofs.OnRun.{refuses, admits, low, mine, is-mine}
@@ -43,33 +43,6 @@ module _ (vs log : List ℕ) (x : Session) where
   begin-keeps n b =
       let P : Plan → Type 0 = λ p. turnOf p vs log x .change ≡ Keep in
       split P (recordFits n log x) (λ t. split P b (λ u. refl) (λ u. refl)) (λ t. refl)
-
-  -- a peek that is no refusal answers 100
-  abbrev Shows : Plan → Type 0
-  Shows p = Passed 0 p → leaves Done vs log x Keep ≡ turnOf p vs log x
-
-  turned : (r : ℕ) → Shows (Refuse r)
-  turned r h = absurd (passed 0 (Refuse r) (Refuse r) tt refl h)
-
-  by-slot : (c : ℕ) (o : Option ℕ) → Shows (peekSlot log c o)
-  unfolding peekSlot turnOf
-  by-slot c none = turned 14
-  by-slot c (some k) = split Shows (entryAt log k .dirty) (λ d h. refl) (λ d h. refl)
-
-  shows : (n c : ℕ) → Shows (peekPlan n log x c)
-  unfolding peekPlan guard known
-  shows n c =
-      split Shows (recordFits n log x)
-      (λ t. split Shows (eqb (x .phase) 1) (λ u. split Shows (ltb c n) (λ i. by-slot c (slotIn log (x .count) c)) (λ i. turned 3)) (λ u. turned 2))
-      (λ t. turned 9)
-
-  module _ (n c : ℕ) (p : Plan) (e : p ≡ peekPlan n log x c) where
-    pub peek-turned : (r : ℕ) → p ≡ Refuse r → leaves (Refused r) vs log x Keep ≡ turnOf (peekPlan n log x c) vs log x
-    unfolding turnOf
-    peek-turned r h = rw (← e, h)
-
-    pub peek-shown : Passed 0 p → leaves Done vs log x Keep ≡ turnOf (peekPlan n log x c) vs log x
-    peek-shown h = shows n c (rw e at h)
 
 -- ---- replies and plans, by the number r of refusals 7 and 1: n values, k classes, m locks
 

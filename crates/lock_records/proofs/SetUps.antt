@@ -9,8 +9,8 @@ use Rattle.model.specs.Buffers.{free, idle, allFit, lengthsMatch, lengthsFit}
 use Rattle.model.specs.declared.Sessions.{Sessions}
 use Rattle.model.specs.declared.Lock.{Lock}
 use Rattle.model.specs.declared.Answer.the-variants.{Done, Refused}
-use Rattle.calls.proofs.Lengths.{Lengths, lengths-of, match-is}
-use Rattle.calls.proofs.SetUp.{set-7, set-8, set-done}
+use Rattle.turns.proofs.Lengths.{Lengths, lengths-of, match-is}
+use Rattle.turns.proofs.SetUp.{set-7, set-8, set-done}
 use Rattle.lock_records.specs.declared.Change.the-variants.{Clear}
 use Rattle.lock_records.specs.declared.Turn.{Turn}
 use Rattle.lock_records.specs.Run.{each, lentOn, storeOn, countOf, swept, sweptBy}

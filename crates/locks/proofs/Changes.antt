@@ -55,11 +55,10 @@ in-three (Vacate c) log m s L = refl
 in-three Withdraw log m s L = refl
 in-three DropReads log m s L = refl
 
--- so where a change drops no reads the first two are enough
-pub in-two : (d : Change) (log : List ℕ) (m s : ℕ) (L M N : Locks) → M ≡ changed (oneOf d) [] 0 s L → N ≡ changed (withdrawOf d) log m s M → dropOf d ≡ Keep
-    → N ≡ changed d log m s L
-unfolding changed
-in-two d log m s L M N f g k = rw (g, f) (rw k at (in-three d log m s L))
+-- so the first two carry it out but for the third
+pub in-two : (d : Change) (log : List ℕ) (m s : ℕ) (L M N : Locks) → M ≡ changed (oneOf d) [] 0 s L → N ≡ changed (withdrawOf d) log m s M
+    → changed (dropOf d) log m s N ≡ changed d log m s L
+in-two d log m s L M N f g = rw (g, f) (in-three d log m s L)
 
 -- a change of one cell asks no more than the change
 pub one-fits : (d : Change) (s : ℕ) (log : List ℕ) (m n : ℕ) → ChangeFits d s log m n → ChangeFits (oneOf d) s [] 0 n

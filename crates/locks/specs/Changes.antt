@@ -57,7 +57,7 @@ ChangeFits (Vacate c) s log m n = c < n
 ChangeFits Withdraw s log m n = Swept s log m n
 ChangeFits DropReads s log m n = Swept s log m n × (n ≤ 1024)
 
--- what each function leaves; the third, which calls the first two, of a change that drops no reads
+-- what each function leaves; the third, which calls the first two, of a change but for the reads that it drops
 abbrev pub ChangesOne : Change → ℕ → Slice → Slice → Slice → Type 0
 ChangesOne d s readers claimants exclusives =
     locksAfter readers claimants exclusives ≡ changed (oneOf d) [] 0 s (locksBefore readers claimants exclusives)
@@ -68,7 +68,7 @@ Withdraws d log m s readers claimants exclusives =
 
 abbrev pub CarriesOut : Change → Slice → ℕ → ℕ → Slice → Slice → Slice → Type 0
 CarriesOut d log m s readers claimants exclusives =
-    dropOf d ≡ Keep → locksAfter readers claimants exclusives ≡ changed d (now (log .entry)) m s (locksBefore readers claimants exclusives)
+    changed (dropOf d) (now (log .entry)) m s (locksAfter readers claimants exclusives) ≡ changed d (now (log .entry)) m s (locksBefore readers claimants exclusives)
 
 abbrev pub DropsIf : Change → List ℕ → ℕ → ℕ → List ℕ → List ℕ → Type 0
 DropsIf d log m s R R' =

@@ -322,7 +322,7 @@ fn change_withdraw(
     }
 }
 
-// A change other than sealing.
+// A change but for the reads that a sealing drops.
 pub fn carry_out(
     change: Change,
     log: &[u32],

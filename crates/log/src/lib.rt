@@ -5,8 +5,18 @@ ghost use mathlib.Core.Bool.{true, false};
 ghost use Prim.Native.Nat.{ℕ, _+_, _*_, _<_, _≤_};
 ghost use lib.ListN.{length, replicate};
 ghost use Rattle.model.specs.Search.{some?, below};
-ghost use Rattle.model.specs.Buffers.{cellAt, entryAt, slotIn, publishes, targetIn, appended, updated};
+ghost use Rattle.model.specs.Buffers.{logIn, cellAt, entryAt, slotIn, publishes, targetIn, appended, updated};
 ghost use Rattle.log.specs.Slots.{found, better, lowestPublishing, targetSlot, firstPublishes, LowestTwo, IsNext};
+
+// The log of a session: its 128 words of the logs.
+pub fn of_session<'a>(logs: &'a [u32], session: u8) -> &'a [u32]
+    requires { ⌜ (session < 16) × (length (now logs) ≡ 2048) ⌝ }
+    ensures { λ r. ⌜ now r ≡ logIn (now (logs .entry)) session ⌝ }
+{
+    let a = 128 * (session as usize);
+    let e = a + 128;
+    &logs[a..e]
+}
 
 // The cell of entry k.
 pub fn cell_at(log: &[u32], k: usize) -> u32

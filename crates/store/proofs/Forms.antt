@@ -7,7 +7,7 @@ use mathlib.Core.List.{List}
 use Prim.Native.Nat.{ℕ, _+_, _*_, _%_, _<_, _≤_}
 use lib.Dec.{T, eqb}
 use lib.ListN.{length, getD, set}
-use Rattle.model.specs.Buffers.{Locks, Buffers, free, idle, sessionAt, withSession, entryAt, targetIn, lockAt}
+use Rattle.model.specs.Buffers.{Locks, Buffers, free, idle, sessionAt, withSession, logIn, entryAt, targetIn, lockAt, lengthsMatch}
 use Rattle.model.specs.Readers.{otherReaders}
 use Rattle.model.specs.Plans.{recordFits, guard, claimed, promotePlan, sealTarget, sealPlan, readPlan, writePlan, plan}
 use Rattle.model.specs.Step.{outcome, effect, sessionOf, TakesRecord}
@@ -18,21 +18,29 @@ use Rattle.model.specs.declared.Sessions.{Sessions}
 use Rattle.model.specs.declared.Call.{Call}
 use Rattle.model.specs.declared.Call.the-variants.{Advance}
 use Rattle.model.specs.declared.Answer.{Answer}
+use Rattle.model.specs.declared.Answer.the-variants as say
+use Rattle.model.specs.declared.SessionReply.{SessionReply}
+use Rattle.model.specs.declared.Turn.{Turn}
 use Rattle.model.specs.declared.Plan.{Plan}
 use Rattle.model.specs.declared.Plan.the-variants.{Refuse, Start, Tell, Enter, Update, EnterUpdate, Cancel}
 use Rattle.model.specs.declared.Change.{Change}
 use Rattle.model.specs.declared.Change.the-variants.{Keep}
 use Rattle.model.proofs.Tools.{split}
+use Rattle.model.proofs.Laws.{log-length}
 use Rattle.locks.specs.Changes.{LockFor, oneOf, withdrawOf, dropOf, ChangeFits}
 use Rattle.locks.proofs.Changes.{in-three}
 use Rattle.locks.proofs.Tags.{tag}
-use Rattle.calls.specs.Pieces.{dueOn, dueCell, advanceOn, duePlan}
+use Rattle.calls.specs.Pieces.{admission, dueOn, dueCell, advanceOn, duePlan}
 use Rattle.calls.specs.declared.Due.{Due}
 use Rattle.calls.specs.declared.Due.the-variants.{Refused, Slot}
 use Rattle.calls.proofs.Agree.{advance-agree}
 use Rattle.calls.proofs.Choices.{Choice, refuses, knows, enters, read-choice, write-choice, when-told}
-use Rattle.calls.proofs.Lengths.{Admitted}
-use Rattle.calls.proofs.Logs.{cut, puts, log-fits, put-fits, put-length, cut-put}
+use Rattle.turns.specs.AnyCall.{cellFor, planWith}
+use Rattle.turns.specs.InLogs.{inLogs}
+use Rattle.turns.proofs.AnyCall.{one-lock}
+use Rattle.turns.proofs.Lengths.{Admitted, refused}
+use Rattle.turns.proofs.InLogs.{kept-in}
+use Rattle.turns.proofs.Whole.{planIn, can-change, takes}
 
 -- ---- the part of a change that a call's turn can be
 
@@ -91,6 +99,7 @@ module _ (n : ℕ) (log : List ℕ) (x : Session) (vs : List ℕ) where
 -- ---- a change d of the locks L
 
 module _ (d : Change) (log : List ℕ) (m s : ℕ) (L : Locks) where
+  -- none
   pub no-change : d ≡ Keep → L ≡ changed d log m s L
   unfolding changed
   no-change e = rw e
@@ -100,9 +109,10 @@ module _ (d : Change) (log : List ℕ) (m s : ℕ) (L : Locks) where
   unfolding changed
   drop-alone k N g = g ∙ (rw (k .1, k .0) at (in-three d log m s L))
 
--- a turn's change is that of its plan
-pub change-is : (a : Answer) (us W : List ℕ) (y : Session) (d : Change) (p : Plan) (vs log : List ℕ) (x : Session) → leaves a us W y d ≡ turnOf p vs log x → d ≡ turnOf p vs log x .change
-change-is a us W y d p vs log x t = ap (λ (e : TurnEffect). e .change) t
+  -- and where no reads are dropped nothing is left to carry out
+  pub undropped : dropOf d ≡ Keep → (N : Locks) → changed (dropOf d) log m s N ≡ changed d log m s L → N ≡ changed d log m s L
+  unfolding changed
+  undropped k N g = rw k at g
 
 -- ---- what is decided with the lock that was looked up is the plan
 
@@ -130,31 +140,67 @@ pub advance-planned : (n s : ℕ) (ks log : List ℕ) (x : Session) (L : Locks) 
     → duePlan s log x l d ≡ plan (Advance s) n ks log x (lockAt L)
 advance-planned n s ks log x L l d c e f g = rw (g, f, e) (advance-agree n s ks log x (lockAt L))
 
--- ---- what the functions that change locks ask, of as many cells as there are reader sets
+-- and what any call decides with the lock of the cell that it may need
+pub any-planned : (k : Call) (n : ℕ) (ks log W : List ℕ) (x : Session) (L : Locks) (l : Lock) (c : ℕ) → W ≡ log → c ≡ cellFor k n W x → l ≡ lockAt L c
+    → planWith k n ks log x l ≡ plan k n ks log x (lockAt L)
+any-planned k n ks log W x L l c w f g = rw (g, f, w) (one-lock k n ks log x (lockAt L))
 
+-- ---- what the functions below ask, past 7 and 1
+
+-- of as many cells as there are reader sets
 pub even : (B : Buffers) (s : ℕ) → Admitted B s → (length (B .locks .claimants) ≡ length (B .locks .readers)) × (length (B .locks .exclusives) ≡ length (B .locks .readers))
 even B s z = (z .lengths .claimants ∙ sym (z .lengths .readers), z .lengths .exclusives ∙ sym (z .lengths .readers))
 
--- the session's log lies in the logs
-pub log-inside : (B : Buffers) (s : ℕ) → Admitted B s → 128 * s + 128 ≤ length (B .logs)
-log-inside B s z = log-fits s (z .low) (B .logs) (z .lengths .logs)
+-- of the session's log W, and of n cells
+pub log-fits : (B : Buffers) (s : ℕ) → Admitted B s → (W : List ℕ) → W ≡ logIn (B .logs) s → (length W ≡ 128) × (length (B .values) ≤ 1024)
+log-fits B s z W w = (rw w (log-length (B .logs) s (z .low) (z .lengths .logs)), z .lengths .few)
 
-module _ (B : Buffers) (s : ℕ) (z : Admitted B s) where
-  -- a log W put back lies there too, and is read back
-  module _ (W : List ℕ) (whole : length W ≡ 128) where
-    pub put-inside : 128 * s + 128 ≤ length (puts (B .logs) s W)
-    put-inside = put-fits s (z .low) (B .logs) (z .lengths .logs) W whole
+-- ---- the call k: q is what it decided, t its turn, which left the values vs and the logs Ws
 
-    pub put-same : length (puts (B .logs) s W) ≡ length (B .logs)
-    put-same = put-length s (z .low) (B .logs) (z .lengths .logs) W whole
+module _ (k : Call) (B : Buffers) (x : Session) (s : ℕ) (i : s ≡ sessionOf k) (z : Admitted B s) (q : Plan) (e : q ≡ planIn k B (logIn (B .logs) s) x) (t : Turn)
+    (vs Ws : List ℕ) (h : leaves (t .answer) vs Ws (t .session) (t .change) ≡ inLogs s (B .logs) (turnOf q (B .values) (logIn (B .logs) s) x)) where
+  -- its change is the plan's
+  pub change-is : t .change ≡ turnOf q (B .values) (logIn (B .logs) s) x .change
+  change-is = ap (λ (f : TurnEffect). f .change) h
 
-    pub read-back : cut (puts (B .logs) s W) s ≡ W
-    read-back = cut-put s (z .low) (B .logs) (z .lengths .logs) W whole
+  -- W is the session's log afterwards: what carrying the change out asks
+  module _ (W : List ℕ) (w : W ≡ logIn Ws s) where
+    pub can-carry : (s < 16) × ChangeFits (t .change) s W (x .count) (length (B .locks .readers))
+        × (length (B .locks .claimants) ≡ length (B .locks .readers)) × (length (B .locks .exclusives) ≡ length (B .locks .readers))
+    can-carry =
+        (z .low, rw (z .lengths .readers) (can-change k B x s i z q e (t .answer) vs Ws (t .session) (t .change) h W w), even B s z .0, even B s z .1)
 
-  -- what carrying a change out asks; U is the log W again
-  pub can-carry : (d : Change) (W : List ℕ) (m : ℕ) (U : List ℕ) → U ≡ W → ChangeFits d s W m (length (B .values))
-      → (s < 16) × ChangeFits d s U m (length (B .locks .readers)) × (length (B .locks .claimants) ≡ length (B .locks .readers)) × (length (B .locks .exclusives) ≡ length (B .locks .readers))
-  can-carry d W m U u f = (z .low, rw (u, z .lengths .readers) f, even B s z .0, even B s z .1)
+    -- and once it is carried out the call is the model's
+    pub replies : (N : Locks) → N ≡ changed (t .change) W (x .count) s (B .locks) → (r : SessionReply) → r ≡ record { answer = t .answer; session = t .session }
+        → TakesRecord k B x (r .answer) (record { values = vs; classes = B .classes; locks = N; logs = Ws }) (r .session)
+    replies N n r f = rw f (takes k B x s i z q e (t .answer) vs Ws (t .session) (t .change) h W w N n)
+
+-- the same where it only read the session's log W
+module _ (k : Call) (B : Buffers) (x : Session) (s : ℕ) (i : s ≡ sessionOf k) (z : Admitted B s) (W : List ℕ) (w : W ≡ logIn (B .logs) s) (q : Plan) (e : q ≡ planIn k B W x)
+    (t : Turn) (vs : List ℕ) (h : leaves (t .answer) vs W (t .session) (t .change) ≡ turnOf q (B .values) W x) where
+  in-logs : leaves (t .answer) vs (B .logs) (t .session) (t .change) ≡ inLogs s (B .logs) (turnOf q (B .values) (logIn (B .logs) s) x)
+  in-logs = kept-in s (B .logs) (t .answer) vs (t .session) (t .change) q (B .values) x W w h
+
+  decided : q ≡ planIn k B (logIn (B .logs) s) x
+  decided = e ∙ ap (λ (l : List ℕ). planIn k B l x) w
+
+  pub kept-change : t .change ≡ turnOf q (B .values) W x .change
+  kept-change = ap (λ (f : TurnEffect). f .change) h
+
+  pub kept-carry : (s < 16) × ChangeFits (t .change) s W (x .count) (length (B .locks .readers))
+      × (length (B .locks .claimants) ≡ length (B .locks .readers)) × (length (B .locks .exclusives) ≡ length (B .locks .readers))
+  kept-carry = can-carry k B x s i z q decided t vs (B .logs) in-logs W w
+
+  pub kept-replies : (N : Locks) → N ≡ changed (t .change) W (x .count) s (B .locks) → (r : SessionReply) → r ≡ record { answer = t .answer; session = t .session }
+      → TakesRecord k B x (r .answer) (record { values = vs; classes = B .classes; locks = N; logs = B .logs }) (r .session)
+  kept-replies = replies k B x s i z q decided t vs (B .logs) in-logs W w
+
+-- the call is refused by 7 or 1
+pub turned-down : (B : Buffers) (s n : ℕ)
+    → n ≡ admission (lengthsMatch (length (B .values)) (length (B .classes)) (length (B .locks .readers)) (length (B .locks .claimants)) (length (B .locks .exclusives)) (length (B .logs))) s
+    → (k : Call) → s ≡ sessionOf k → (n ≡ 0 → ⊥) → (x : Session) (r : SessionReply) → r ≡ record { answer = say.Refused n; session = x }
+    → TakesRecord k B x (r .answer) B (r .session)
+turned-down B s n e k i h x r f = rw f (refused B s n e k i h x)
 
 -- of all sixteen, where the code takes the record out and puts the one handed back in its place
 pub of-sixteen : (k : Call) (B C : Buffers) (ss : Sessions) (s : ℕ) → s ≡ sessionOf k → (a : Answer) (y : Session) → TakesRecord k B (getD (ss .records) (s % 16) idle) a C y

@@ -1,8 +1,9 @@
 // The store: set-up and the calls, on number slices that the caller lends (document 01, "The steps").
 // A call takes the record of its session and hands it back with its answer. It is admitted (7 and 1), looks up the lock that it needs, takes its turn
-// (crate calls) and carries out what becomes of the locks. `step` is any call on the records of all sixteen.
+// (crates calls and turns) and carries out what becomes of the locks. `step` is any call on the records of all sixteen.
 ghost use mathlib.Core.Path.{_≡_};
 ghost use lib.ListN.{length, replicate};
+ghost use Rattle.model.specs.declared.Answer.the-variants.{Refused};
 ghost use Rattle.model.specs.declared.Call.the-variants.{Begin, Read, Write, Seal, Advance, Abandon, Peek};
 ghost use Rattle.store.specs.Lent.{Takes, TakesOne, SetsUp, PeekPlans, HandsBack};
 use model::Answer;
@@ -12,6 +13,7 @@ use model::Reply;
 use model::Session;
 use model::SessionReply;
 use model::Sessions;
+use model::Turn;
 
 // ---- set-up
 
@@ -81,6 +83,25 @@ pub fn set_up(
 
 // ---- the calls
 
+// A refusal, with the record as it came.
+fn refused(number: u8, x: Session) -> SessionReply
+    ensures { λ r. ⌜ r ≡ record { answer = Refused number; session = x } ⌝ }
+{
+    SessionReply {
+        answer: Answer::Refused(number),
+        session: x,
+    }
+}
+
+// What a turn answers, with the record that it hands back.
+fn replied(t: Turn) -> SessionReply
+    ensures { λ r. ⌜ r ≡ record { answer = t .answer; session = t .session } ⌝ }
+{
+    let answer = t.answer;
+    let session = t.session;
+    SessionReply { answer, session }
+}
+
 // Begin: idle only. The session runs with no entry. 100.
 pub fn begin(
     x: Session,
@@ -95,24 +116,20 @@ pub fn begin(
     ensures { λ r. ⌜ TakesOne (Begin session) values classes readers claimants exclusives logs x r ⌝ }
 {
     let n = values.len();
-    let k = classes.len();
-    let r = readers.len();
-    let c = claimants.len();
-    let m = exclusives.len();
-    let w = logs.len();
-    if !calls::admits(n, k, r, c, m, w, session) {
-        let refusal = calls::admit(n, k, r, c, m, w, session);
-        return SessionReply {
-            answer: Answer::Refused(refusal),
-            session: x,
-        };
+    let refusal = calls::admit(
+        n,
+        classes.len(),
+        readers.len(),
+        claimants.len(),
+        exclusives.len(),
+        logs.len(),
+        session,
+    );
+    if refusal != 0 {
+        return refused(refusal, x);
     }
-    let a = 128 * (session as usize);
-    let e = a + 128;
-    let t = calls::take_begin(&logs[a..e], n, x);
-    let answer = t.answer;
-    let y = t.session;
-    SessionReply { answer, session: y }
+    let log = log::of_session(logs, session);
+    replied(calls::take_begin(log, n, x))
 }
 
 // Read: running only. 101 with a known cell's present value; a new cell is locked and entered, or the session is rolled back, 6.
@@ -130,37 +147,33 @@ pub fn read(
     ensures { λ r. ⌜ TakesOne (Read session cell) values classes readers claimants exclusives logs x r ⌝ }
 {
     let n = values.len();
-    let k = classes.len();
-    let r = readers.len();
-    let c = claimants.len();
-    let m = exclusives.len();
-    let w = logs.len();
-    if !calls::admits(n, k, r, c, m, w, session) {
-        let refusal = calls::admit(n, k, r, c, m, w, session);
-        return SessionReply {
-            answer: Answer::Refused(refusal),
-            session: x,
-        };
+    let refusal = calls::admit(
+        n,
+        classes.len(),
+        readers.len(),
+        claimants.len(),
+        exclusives.len(),
+        logs.len(),
+        session,
+    );
+    if refusal != 0 {
+        return refused(refusal, x);
     }
-    let a = 128 * (session as usize);
-    let e = a + 128;
-    let p = calls::read_plan(&logs[a..e], n, x, cell);
+    let p = calls::read_plan(log::of_session(&logs[..], session), n, x, cell);
     let l = locks::lock_for(&readers[..], &claimants[..], &exclusives[..], p);
-    let t = calls::take_read(values, &mut logs[a..e], x, l, cell, p);
+    let t = turns::read(values, logs, x, l, session, cell, p);
     let change = t.change;
     let count = x.count as usize;
     locks::carry_out(
         change,
-        &logs[a..e],
+        log::of_session(&logs[..], session),
         count,
         readers,
         claimants,
         exclusives,
         session,
     );
-    let answer = t.answer;
-    let y = t.session;
-    SessionReply { answer, session: y }
+    replied(t)
 }
 
 // Write: running only. A new cell is locked and entered as by read; then the entry is updated. 100.
@@ -179,37 +192,33 @@ pub fn write(
     ensures { λ r. ⌜ TakesOne (Write session cell value) values classes readers claimants exclusives logs x r ⌝ }
 {
     let n = values.len();
-    let k = classes.len();
-    let r = readers.len();
-    let c = claimants.len();
-    let m = exclusives.len();
-    let w = logs.len();
-    if !calls::admits(n, k, r, c, m, w, session) {
-        let refusal = calls::admit(n, k, r, c, m, w, session);
-        return SessionReply {
-            answer: Answer::Refused(refusal),
-            session: x,
-        };
+    let refusal = calls::admit(
+        n,
+        classes.len(),
+        readers.len(),
+        claimants.len(),
+        exclusives.len(),
+        logs.len(),
+        session,
+    );
+    if refusal != 0 {
+        return refused(refusal, x);
     }
-    let a = 128 * (session as usize);
-    let e = a + 128;
-    let p = calls::write_plan(&logs[a..e], classes, x, cell, value);
+    let p = calls::write_plan(log::of_session(&logs[..], session), classes, x, cell, value);
     let l = locks::lock_for(&readers[..], &claimants[..], &exclusives[..], p);
-    let t = calls::take_write(values, classes, &mut logs[a..e], x, l, cell, value, p);
+    let t = turns::write(values, classes, logs, x, l, session, cell, value, p);
     let change = t.change;
     let count = x.count as usize;
     locks::carry_out(
         change,
-        &logs[a..e],
+        log::of_session(&logs[..], session),
         count,
         readers,
         claimants,
         exclusives,
         session,
     );
-    let answer = t.answer;
-    let y = t.session;
-    SessionReply { answer, session: y }
+    replied(t)
 }
 
 // Seal: running only. The session leaves the readers of each cell entered but not written. 105 with nothing written, else 102.
@@ -226,27 +235,24 @@ pub fn seal(
     ensures { λ r. ⌜ TakesOne (Seal session) values classes readers claimants exclusives logs x r ⌝ }
 {
     let n = values.len();
-    let k = classes.len();
-    let r = readers.len();
-    let c = claimants.len();
-    let m = exclusives.len();
-    let w = logs.len();
-    if !calls::admits(n, k, r, c, m, w, session) {
-        let refusal = calls::admit(n, k, r, c, m, w, session);
-        return SessionReply {
-            answer: Answer::Refused(refusal),
-            session: x,
-        };
+    let refusal = calls::admit(
+        n,
+        classes.len(),
+        readers.len(),
+        claimants.len(),
+        exclusives.len(),
+        logs.len(),
+        session,
+    );
+    if refusal != 0 {
+        return refused(refusal, x);
     }
-    let a = 128 * (session as usize);
-    let e = a + 128;
-    let t = calls::take_seal(&logs[a..e], n, x);
+    let log = log::of_session(logs, session);
+    let t = calls::take_seal(log, n, x);
     let change = t.change;
     let count = x.count as usize;
-    locks::change_drop(change, &logs[a..e], count, readers, session);
-    let answer = t.answer;
-    let y = t.session;
-    SessionReply { answer, session: y }
+    locks::change_drop(change, log, count, readers, session);
+    replied(t)
 }
 
 // Advance: phases 2 to 4. One written cell is promoted, published or released. 103, 104, 105, or 6.
@@ -263,38 +269,27 @@ pub fn advance(
     ensures { λ r. ⌜ TakesOne (Advance session) values classes readers claimants exclusives logs x r ⌝ }
 {
     let n = values.len();
-    let k = classes.len();
-    let r = readers.len();
-    let c = claimants.len();
-    let m = exclusives.len();
-    let w = logs.len();
-    if !calls::admits(n, k, r, c, m, w, session) {
-        let refusal = calls::admit(n, k, r, c, m, w, session);
-        return SessionReply {
-            answer: Answer::Refused(refusal),
-            session: x,
-        };
-    }
-    let a = 128 * (session as usize);
-    let e = a + 128;
-    let due = calls::due_slot(&logs[a..e], n, x);
-    let cell = calls::due_cell(&logs[a..e], due);
-    let l = locks::at(&readers[..], &claimants[..], &exclusives[..], cell);
-    let t = calls::take_advance(values, &logs[a..e], x, l, session, due);
-    let change = t.change;
-    let count = x.count as usize;
-    locks::carry_out(
-        change,
-        &logs[a..e],
-        count,
-        readers,
-        claimants,
-        exclusives,
+    let refusal = calls::admit(
+        n,
+        classes.len(),
+        readers.len(),
+        claimants.len(),
+        exclusives.len(),
+        logs.len(),
         session,
     );
-    let answer = t.answer;
-    let y = t.session;
-    SessionReply { answer, session: y }
+    if refusal != 0 {
+        return refused(refusal, x);
+    }
+    let log = log::of_session(logs, session);
+    let due = calls::due_slot(log, n, x);
+    let cell = calls::due_cell(log, due);
+    let l = locks::at(&readers[..], &claimants[..], &exclusives[..], cell);
+    let t = calls::take_advance(values, log, x, l, session, due);
+    let change = t.change;
+    let count = x.count as usize;
+    locks::carry_out(change, log, count, readers, claimants, exclusives, session);
+    replied(t)
 }
 
 // Abandon: phases 1 and 2. The session is rolled back. 100.
@@ -311,35 +306,24 @@ pub fn abandon(
     ensures { λ r. ⌜ TakesOne (Abandon session) values classes readers claimants exclusives logs x r ⌝ }
 {
     let n = values.len();
-    let k = classes.len();
-    let r = readers.len();
-    let c = claimants.len();
-    let m = exclusives.len();
-    let w = logs.len();
-    if !calls::admits(n, k, r, c, m, w, session) {
-        let refusal = calls::admit(n, k, r, c, m, w, session);
-        return SessionReply {
-            answer: Answer::Refused(refusal),
-            session: x,
-        };
-    }
-    let a = 128 * (session as usize);
-    let e = a + 128;
-    let t = calls::take_abandon(&logs[a..e], n, x);
-    let change = t.change;
-    let count = x.count as usize;
-    locks::carry_out(
-        change,
-        &logs[a..e],
-        count,
-        readers,
-        claimants,
-        exclusives,
+    let refusal = calls::admit(
+        n,
+        classes.len(),
+        readers.len(),
+        claimants.len(),
+        exclusives.len(),
+        logs.len(),
         session,
     );
-    let answer = t.answer;
-    let y = t.session;
-    SessionReply { answer, session: y }
+    if refusal != 0 {
+        return refused(refusal, x);
+    }
+    let log = log::of_session(logs, session);
+    let t = calls::take_abandon(log, n, x);
+    let change = t.change;
+    let count = x.count as usize;
+    locks::carry_out(change, log, count, readers, claimants, exclusives, session);
+    replied(t)
 }
 
 // ---- peek
@@ -359,17 +343,19 @@ pub fn peek_plan(
     ensures { λ r. ⌜ PeekPlans session cell values classes readers claimants exclusives logs x r ⌝ }
 {
     let n = values.len();
-    let k = classes.len();
-    let r = readers.len();
-    let c = claimants.len();
-    let m = exclusives.len();
-    let w = logs.len();
-    if !calls::admits(n, k, r, c, m, w, session) {
-        return Plan::Refuse(calls::admit(n, k, r, c, m, w, session));
+    let refusal = calls::admit(
+        n,
+        classes.len(),
+        readers.len(),
+        claimants.len(),
+        exclusives.len(),
+        logs.len(),
+        session,
+    );
+    if refusal != 0 {
+        return Plan::Refuse(refusal);
     }
-    let a = 128 * (session as usize);
-    let e = a + 128;
-    calls::peek_plan(&logs[a..e], n, x, cell)
+    calls::peek_plan(log::of_session(logs, session), n, x, cell)
 }
 
 // Peek: running only. One word, the store's own or the log's own; no word where the peek is refused.
@@ -462,82 +448,29 @@ fn step_one(
 ) -> SessionReply
     ensures { λ r. ⌜ TakesOne call values classes readers claimants exclusives logs x r ⌝ }
 {
-    match call {
-        Call::Begin(s) => begin(
-            x,
-            &values[..],
-            classes,
-            &readers[..],
-            &claimants[..],
-            &exclusives[..],
-            &logs[..],
-            s,
-        ),
-        Call::Read(s, c) => read(
-            x,
-            &values[..],
-            classes,
-            readers,
-            claimants,
-            exclusives,
-            logs,
-            s,
-            c,
-        ),
-        Call::Write(s, c, v) => write(
-            x,
-            &values[..],
-            classes,
-            readers,
-            claimants,
-            exclusives,
-            logs,
-            s,
-            c,
-            v,
-        ),
-        Call::Seal(s) => seal(
-            x,
-            &values[..],
-            classes,
-            readers,
-            &claimants[..],
-            &exclusives[..],
-            &logs[..],
-            s,
-        ),
-        Call::Advance(s) => advance(
-            x,
-            values,
-            classes,
-            readers,
-            claimants,
-            exclusives,
-            &logs[..],
-            s,
-        ),
-        Call::Abandon(s) => abandon(
-            x,
-            &values[..],
-            classes,
-            readers,
-            claimants,
-            exclusives,
-            &logs[..],
-            s,
-        ),
-        Call::Peek(s, c) => peek_number(
-            x,
-            &values[..],
-            classes,
-            &readers[..],
-            &claimants[..],
-            &exclusives[..],
-            &logs[..],
-            s,
-            c,
-        ),
+    let session = call.session();
+    let n = values.len();
+    let refusal = calls::admit(
+        n,
+        classes.len(),
+        readers.len(),
+        claimants.len(),
+        exclusives.len(),
+        logs.len(),
+        session,
+    );
+    if refusal != 0 {
+        return refused(refusal, x);
     }
+    let cell = turns::cell_for(call, log::of_session(&logs[..], session), n, x);
+    let l = locks::at(&readers[..], &claimants[..], &exclusives[..], cell);
+    let t = turns::any(call, values, classes, logs, x, l, session);
+    let change = t.change;
+    let count = x.count as usize;
+    let log = log::of_session(&logs[..], session);
+    locks::carry_out(change, log, count, readers, claimants, exclusives, session);
+    locks::change_drop(change, log, count, readers, session);
+    replied(t)
 }
 
 // One call of a list: the record of its session is taken out of the sixteen, and the one handed back put in its place.

@@ -1,6 +1,6 @@
 -- `rukkanei_peek_place` meets its contract: the place of the word that the plan names.
 use Rattle.model.specs.Buffers.{Buffers}
-use Rattle.calls.proofs.Peeks.{peek-neither}
+use Rattle.turns.proofs.Peeks.{peek-neither}
 use Rattle.store.specs.Lent.{buffersOf}
 use Rattle.c_api.proofs.Laws.{place-store, place-log, place-none}
 use borrow.Author.Needs.{needs}

@@ -1,5 +1,5 @@
 -- Refused by 7 or 1, or the turn of `calls::take_begin`, which keeps the locks.
-use Rattle.calls.proofs.Logs.{log-fits}
+use Rattle.turns.proofs.Logs.{log-fits}
 use Rattle.lock_records.proofs.OnRun.{low, words, log-long}
 use Rattle.lock_records.proofs.Replies.{begin-refuses, begins}
 use borrow.Author.Needs.{needs}

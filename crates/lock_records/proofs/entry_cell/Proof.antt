@@ -1,5 +1,5 @@
 -- `lock_records::entry_cell` meets its contract: the slice that it lends is the session's log.
-use Rattle.calls.proofs.Logs.{cut-is, cut-long}
+use Rattle.turns.proofs.Logs.{cut-is, cut-long}
 use mathlib.Core.Path.{_∙_}
 use native.Mathlib.Omega.{arith}
 use borrow.Author.Needs.{needs}

@@ -1,7 +1,7 @@
 -- One arm for each call that is admitted.
 use mathlib.Core.Path.{_∙_}
 use Rattle.calls.proofs.Agree.{due-fits}
-use Rattle.calls.proofs.Logs.{log-fits}
+use Rattle.turns.proofs.Logs.{log-fits}
 use Rattle.lock_records.specs.Turns.{cellFor}
 use Rattle.lock_records.proofs.OnRun.{low, words, log-long, looks-nowhere, looks}
 use borrow.Author.Needs.{needs}

@@ -1,5 +1,5 @@
 -- Refused by 7 or 1, or what `calls::peek_plan` decides.
-use Rattle.calls.proofs.Logs.{log-fits}
+use Rattle.turns.proofs.Logs.{log-fits}
 use Rattle.lock_records.proofs.OnRun.{low, words, log-long}
 use Rattle.lock_records.proofs.Replies.{peek-refuses, peek-decides}
 use borrow.Author.Needs.{needs}

@@ -2,7 +2,7 @@
 use mathlib.Core.Path.{_∙_}
 use native.Mathlib.Omega.{arith}
 use lib.ListN.{length}
-use Rattle.calls.proofs.Logs.{log-fits}
+use Rattle.turns.proofs.Logs.{log-fits}
 use Rattle.lock_records.proofs.OnRun.{low, words, classed, log-long, turned-down, taken}
 use borrow.Author.Needs.{needs}
 use Rattle.lock_records.proofs.take_turn.Statement.{statement}

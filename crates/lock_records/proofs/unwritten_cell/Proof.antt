@@ -1,6 +1,6 @@
 -- `lock_records::unwritten_cell` meets its contract: the cell's first entry in the session's log says whether the cell is written.
 use Rattle.lock_records.proofs.Cells.{written-cell, unwritten, first-there}
-use Rattle.calls.proofs.Logs.{cut-long}
+use Rattle.turns.proofs.Logs.{cut-long}
 use native.Mathlib.Omega.{arith}
 use borrow.Author.Needs.{needs}
 use Rattle.lock_records.proofs.unwritten_cell.Statement.{statement}

@@ -1,7 +1,7 @@
 -- `store::peek` meets its contract: the part handed back is the word that the plan names, by its pointer; Peeks.antt of crate calls has the three ways.
 use mathlib.Core.Path.{refl}
 use Rattle.model.specs.Buffers.{Buffers}
-use Rattle.calls.proofs.Peeks.{plan-alone, peek-inside, peek-logged, hands-store, hands-log, hands-nothing}
+use Rattle.turns.proofs.Peeks.{plan-alone, peek-inside, peek-logged, hands-store, hands-log, hands-nothing}
 use Rattle.store.specs.Lent.{buffersOf}
 use borrow.Author.Needs.{needs}
 use Rattle.store.proofs.peek.Statement.{statement}

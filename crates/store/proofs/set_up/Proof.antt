@@ -4,8 +4,8 @@ use mathlib.Core.Bool.{true}
 use borrow.Author.Tests.{not-true, not-false}
 use Rattle.model.specs.Buffers.{Store, lengthsFit}
 use Rattle.store.specs.Lent.{storeOf}
-use Rattle.calls.proofs.Lengths.{match-is, lengths-of}
-use Rattle.calls.proofs.SetUp.{set-7, set-8, set-done}
+use Rattle.turns.proofs.Lengths.{match-is, lengths-of}
+use Rattle.turns.proofs.SetUp.{set-7, set-8, set-done}
 use Rattle.store.proofs.set_up.Statement.{statement}
 use Rattle.store.proofs.set_up.Tie as tie
 

@@ -10,7 +10,7 @@ use mir.Val.{Fits}
 use Rattle.model.specs.Buffers.{Buffers, logIn, onLog}
 use Rattle.model.proofs.Laws.{log-length}
 use Rattle.model.proofs.Carried.{same-log}
-use Rattle.calls.proofs.Lengths.{Admitted}
+use Rattle.turns.proofs.Lengths.{Admitted}
 
 abbrev pub cut : List ℕ → ℕ → List ℕ
 cut logs s = take (128 * s + 128 - 128 * s) (drop (128 * s) logs)

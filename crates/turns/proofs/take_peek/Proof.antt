@@ -1,8 +1,8 @@
 -- A refusal, or 100.
-use Rattle.lock_records.proofs.Replies.{peek-turned, peek-shown}
+use Rattle.turns.proofs.Shown.{peek-turned, peek-shown}
 use borrow.Author.Needs.{needs}
-use Rattle.lock_records.proofs.take_peek.Statement.{statement}
-use Rattle.lock_records.proofs.take_peek.Tie as tie
+use Rattle.turns.proofs.take_peek.Statement.{statement}
+use Rattle.turns.proofs.take_peek.Tie as tie
 
 returns : tie.Need-returns
 returns c = λ vs. peek-turned vs _ _ _ _ _ (c .before .before .before .peek-plan .ensures) _ (c .before .p .given .1)

@@ -8,7 +8,7 @@ use Rattle.model.specs.Buffers.{Store, size, allFit, lengthsFit, fresh, idle}
 use Rattle.model.specs.Step.{outcome, setUpAnswer, setUp, setUpEffect}
 use Rattle.model.specs.declared.Sessions.{Sessions}
 use Rattle.model.specs.declared.Answer.the-variants.{Done, Refused}
-use Rattle.calls.proofs.Lengths.{lengths-of}
+use Rattle.turns.proofs.Lengths.{lengths-of}
 
 module _ (σ : Store) where
   pub set-7 : lengthsFit (σ .lent) ≡ false → outcome (Refused 7) σ ≡ setUpEffect σ

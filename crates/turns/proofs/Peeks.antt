@@ -27,8 +27,8 @@ use Rattle.model.proofs.Tools.{split}
 use Rattle.model.proofs.Laws.{find-some}
 use Rattle.model.proofs.Carried.{same-record}
 use Rattle.locks.proofs.Tags.{tag, Passed, passed, clashes}
-use Rattle.calls.proofs.Lengths.{lengths-of, refuses}
+use Rattle.turns.proofs.Lengths.{lengths-of, refuses}
 use Rattle.calls.proofs.Ways.{record-entries}
 
 -- ---- what a plan p of a peek can be
 

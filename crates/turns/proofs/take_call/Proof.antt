@@ -1,10 +1,10 @@
 -- One arm for each call, whose plan it is.
 use mathlib.Core.Path.{_∙_}
 use Rattle.model.specs.Plans.{plan}
-use Rattle.lock_records.proofs.OnRun.{advances}
+use Rattle.turns.proofs.AnyCall.{advances}
 use borrow.Author.Needs.{needs}
-use Rattle.lock_records.proofs.take_call.Statement.{statement}
-use Rattle.lock_records.proofs.take_call.Tie as tie
+use Rattle.turns.proofs.take_call.Statement.{statement}
+use Rattle.turns.proofs.take_call.Tie as tie
 
 take-write-requires : tie.Need-take-write-requires
 take-write-requires c κs = let s = c .before .before .before .before .before .before .before .before .before .before in (s .pre .0, s .pre .2, c .before .before .write-plan .ensures ∙ rw (s .pre .2))

@@ -1,0 +1,9 @@
+pub mod Lengths
+pub mod Logs
+pub mod InLogs
+pub mod Fitting
+pub mod Whole
+pub mod Peeks
+pub mod Shown
+pub mod AnyCall
+pub mod SetUp

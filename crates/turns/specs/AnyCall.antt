@@ -1,0 +1,23 @@
+-- Any call's turn: the cell whose lock it may need, and what it decides with that lock.
+use Prim.Native.Nat.{ℕ}
+use mathlib.Core.List.{List}
+use Rattle.model.specs.Plans.{plan}
+use Rattle.model.specs.declared.Session.{Session}
+use Rattle.model.specs.declared.Lock.{Lock}
+use Rattle.model.specs.declared.Plan.{Plan}
+use Rattle.model.specs.declared.Call.{Call}
+use Rattle.model.specs.declared.Call.the-variants.{Begin, Read, Write, Seal, Advance, Abandon, Peek}
+use Rattle.calls.specs.Pieces.{dueOn, dueCell}
+
+-- by its session's log and record, of n cells; 0 where it needs none
+unfoldable pub cellFor : Call → ℕ → List ℕ → Session → ℕ
+cellFor (Begin s) n log x = 0
+cellFor (Read s c) n log x = c
+cellFor (Write s c v) n log x = c
+cellFor (Seal s) n log x = 0
+cellFor (Advance s) n log x = dueCell log (dueOn n log x)
+cellFor (Abandon s) n log x = 0
+cellFor (Peek s c) n log x = 0
+
+abbrev pub planWith : Call → ℕ → List ℕ → List ℕ → Session → Lock → Plan
+planWith k n classes log x l = plan k n classes log x (λ c. l)

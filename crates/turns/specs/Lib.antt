@@ -1,0 +1,2 @@
+pub mod AnyCall
+pub mod InLogs
