@@ -8,10 +8,10 @@ use native.Mathlib.Omega.{arith}
 use lib.Dec.{ltb}
 use lib.ListN.{length}
 use Rattle.model.proofs.Tools.{test}
+use Rattle.model.proofs.Laws.{log-length}
 use Rattle.model.specs.Buffers.{logIn, cellAt, entryAt, publishes, slotIn, lookIn, entryOf, publishesIn}
 use Rattle.log.specs.Slots.{found}
 use Rattle.log.proofs.Targets.{slot-some, slot-none}
-use Rattle.turns.proofs.Logs.{cut, cut-is, cut-long}
 use Rattle.lock_records.specs.declared.Change.{Change}
 use Rattle.lock_records.specs.declared.Change.the-variants.{Withdraw, Leave}
 use Rattle.lock_records.specs.Run.{ChangeFits, countOf, cellOf}
@@ -25,23 +25,27 @@ pub leave-fits : (W : List ℕ) (d : Change) (s m i : ℕ) → d ≡ Leave s m �
 unfolding countOf
 leave-fits W d s m i e f l = let g = rw e at f in let h = rw e at l in (g .0, g .1, h, g .2)
 
+-- the session's log, as the code has it
+pub log-long : (W : List ℕ) (s : ℕ) → length W ≡ 2048 → s < 16 → (log : List ℕ) → log ≡ logIn W s → length log ≡ 128
+log-long W s long low log w = rw w (log-length W s low long)
+
 -- entry i of session s, of m: its cell c as the code reads it, and the place k of the cell's first entry there
-module _ (W : List ℕ) (s m i : ℕ) (long : length W ≡ 2048) (low : s < 16) (few : m ≤ 32) (mine : i < m) (c : ℕ) (cell : c ≡ cellAt (cut W s) i) (k : ℕ) (first : found m k ≡ slotIn (cut W s) m c) where
+module _ (W : List ℕ) (s m i : ℕ) (long : length W ≡ 2048) (low : s < 16) (few : m ≤ 32) (mine : i < m) (log : List ℕ) (w : log ≡ logIn W s) (c : ℕ) (cell : c ≡ cellAt log i) (k : ℕ) (first : found m k ≡ slotIn log m c) where
   -- the cell is found: its own entry is one of m
-  there : slotIn (cut W s) m c ≡ some k
+  there : slotIn log m c ≡ some k
   unfolding found
-  there = test (ltb k m) (λ h. sym (rw h at first)) (λ h. absurd (slot-none (cut W s) m c (sym (rw h at first)) i mine (sym cell)))
+  there = test (ltb k m) (λ h. sym (rw h at first)) (λ h. absurd (slot-none log m c (sym (rw h at first)) i mine (sym cell)))
 
-  pub first-there : 4 * k + 3 < length (cut W s)
-  first-there = let w = cut-long W s long low in let h = slot-some (cut W s) m c there .0 in omega arith
+  pub first-there : 4 * k + 3 < length log
+  first-there = let g = log-long W s long low log w in let h = slot-some log m c there .0 in omega arith
 
-  module _ (b : Bool) (said : b ≡ publishes (entryAt (cut W s) k)) where
+  module _ (b : Bool) (said : b ≡ publishes (entryAt log k)) where
     same : c ≡ cellAt (logIn W s) i
-    same = cell ∙ ap (λ log. cellAt log i) (cut-is W s)
+    same = cell ∙ ap (λ log. cellAt log i) (w)
 
     written : publishesIn (logIn W s) m (cellAt (logIn W s) i) ≡ b
     unfolding publishesIn lookIn entryOf
-    written = rw (← same, ← cut-is W s, there) (sym said)
+    written = rw (← same, ← w, there) (sym said)
 
     pub written-cell : b ≡ true → 1024 ≡ cellOf W (Leave s m) i
     unfolding cellOf

@@ -17,19 +17,21 @@ use Rattle.model.specs.declared.Answer.the-variants.{Refused}
 use Rattle.model.specs.declared.Plan.the-variants.{Refuse}
 use Rattle.model.specs.declared.Call.{Call}
 use Rattle.model.specs.declared.Call.the-variants.{Begin, Read, Write, Seal, Advance, Abandon, Peek}
+use Rattle.model.proofs.Laws.{log-length}
 use Rattle.locks.specs.Changes.{ChangeFits as Fits}
-use Rattle.calls.specs.Pieces.{admission, dueOn, duePlan}
-use Rattle.calls.specs.declared.Due.{Due}
-use Rattle.calls.proofs.Agree.{advance-agree}
+use Rattle.calls.specs.Pieces.{admission}
+use Rattle.turns.specs.AnyCall.{cellFor, planWith}
+use Rattle.turns.specs.InLogs.{inLogs}
 use Rattle.turns.proofs.Fitting.{call-fits}
 use Rattle.turns.proofs.Lengths
 use Rattle.turns.proofs.Lengths.{Admitted, plan-refused}
-use Rattle.turns.proofs.Logs.{cut, puts, cut-is, cut-long, cut-put, put-length}
-use Rattle.turns.proofs.Whole.{planIn, takes-put}
+use Rattle.turns.proofs.InLogs.{left, still}
+use Rattle.turns.proofs.AnyCall.{one-lock}
+use Rattle.turns.proofs.Whole.{planIn, takes}
 use Rattle.lock_records.specs.declared.Change.{Change}
 use Rattle.lock_records.specs.declared.Turn.{Turn}
 use Rattle.lock_records.specs.Run.{unzipped, lentOn, storeOn, lockIn, countOf, swept, sweptBy, onRun}
-use Rattle.lock_records.specs.Turns.{cellFor, lookOf, planWith, onlyAnswer, IsTurn}
+use Rattle.lock_records.specs.Turns.{lookOf, onlyAnswer, IsTurn}
 use Rattle.lock_records.proofs.Changes.{each-length, unzipped-at, changes, change-fits}
 
 -- ---- refusals 7 and 1, by the number r that the code's test answered of n values, k classes, m locks and the logs W
@@ -67,8 +69,9 @@ module _ (n k m : ℕ) (W : List ℕ) (s r : ℕ) (e : r ≡ admission (lengthsM
         let f = plainly .lengths .readers in let w = length-replicate {A = ℕ} n 0 in let u = length-replicate {A = Lock} m free in
         let v = each-length (λ l. l .readers) (replicate m free) in omega arith
 
-    pub log-long : (length (cut W s) ≡ 128) × (n ≤ 1024)
-    log-long = (cut-long W s words low, few)
+    -- of the session's log, as the code has it
+    pub log-long : (log : List ℕ) → log ≡ logIn W s → (length log ≡ 128) × (n ≤ 1024)
+    log-long log w = (rw w (log-length W s low words), few)
 
 -- a session's record, as the model names its place
 module _ (ss : Sessions) (s t : ℕ) (small : s < 16) (i : s ≡ t) where
@@ -87,9 +90,9 @@ module _ (call : Call) (ss : Sessions) (n k m : ℕ) (W : List ℕ) (s : ℕ) (i
   unfolding lookOf
   looks-nowhere h = rw (← i, ← e, ne-eqb r 0 h)
 
-  pub looks : r ≡ 0 → (c : ℕ) → c ≡ cellFor call n (cut W s) (getD (ss .records) s idle) → c ≡ lookOf call ss n k m W
+  pub looks : r ≡ 0 → (c : ℕ) → c ≡ cellFor call n (logIn W s) (getD (ss .records) s idle) → c ≡ lookOf call ss n k m W
   unfolding lookOf sessionAt
-  looks z c f = f ∙ rw (← i, ← e, z, cut-is)
+  looks z c f = f ∙ rw (← i, ← e, z)
 
 -- ---- the call k, of values vs, classes cs, logs W and m locks
 
@@ -110,39 +113,36 @@ module _ (k : Call) (vs cs W : List ℕ) (ss : Sessions) (m : ℕ) (l : Lock) (s
     long = words (length vs) (length cs) m W s r e z
 
     -- the lock that was looked up is the one that the plan reads
-    with-lock : (L : List Lock) → lockIn L (lookOf k ss (length vs) (length cs) m W) ≡ l → planWith k (length vs) cs (cut W s) x l ≡ planIn k (lentOn vs cs L W) x
+    with-lock : (L : List Lock) → lockIn L (lookOf k ss (length vs) (length cs) m W) ≡ l → planWith k (length vs) cs (logIn W s) x l ≡ planIn k (lentOn vs cs L W) (logIn W s) x
     with-lock L g =
-        let there : lookOf k ss (length vs) (length cs) m W ≡ cellFor k (length vs) (cut W s) x = sym (looks k ss (length vs) (length cs) m W s i r e z _ refl) in
-        let h : l ≡ lockAt (unzipped L) (cellFor k (length vs) (cut W s) x) = sym g ∙ sym (unzipped-at L _) ∙ ap (lockAt (unzipped L)) there in
-        rw (← i) (rw h (one-lock k (length vs) cs (cut W s) x (lockAt (unzipped L))))
+        let there : lookOf k ss (length vs) (length cs) m W ≡ cellFor k (length vs) (logIn W s) x = sym (looks k ss (length vs) (length cs) m W s i r e z _ refl) in
+        let h : l ≡ lockAt (unzipped L) (cellFor k (length vs) (logIn W s) x) = sym g ∙ sym (unzipped-at L _) ∙ ap (lockAt (unzipped L)) there in
+        rw h (one-lock k (length vs) cs (logIn W s) x (lockAt (unzipped L)))
 
-    -- t is the turn, which left the values vs′ and the log W′
-    module _ (t : CallTurn) (vs′ W′ : List ℕ) (whole : length W′ ≡ 128)
-        (h : leaves (t .answer) vs′ W′ (t .session) (t .change) ≡ turnOf (planWith k (length vs) cs (cut W s) x l) vs (cut W s) x) where
-      can-change : Fits (t .change) s W′ (x .count) (length vs)
+    -- t is the turn, which left the values vs′ and the logs Ws
+    module _ (t : CallTurn) (vs′ Ws : List ℕ)
+        (h : leaves (t .answer) vs′ Ws (t .session) (t .change) ≡ inLogs s W (turnOf (planWith k (length vs) cs (logIn W s) x l) vs (logIn W s) x)) where
+      can-change : Fits (t .change) s (logIn Ws s) (x .count) (length vs)
       can-change =
-          let d = log-long (length vs) (length cs) m W s r e z in
-          rw (← h) at (call-fits (length vs) (cut W s) x s vs own (d .0) (d .1) cs (λ c. l) k _ refl)
+          let d = log-long (length vs) (length cs) m W s r e z (logIn W s) refl in
+          rw (left s W own long _ _ _ _ _ _ _ _ h, ap (λ (f : TurnEffect). f .change) h) (call-fits (length vs) (logIn W s) x s vs own (d .0) (d .1) cs (λ c. l) k _ refl)
 
-      still : length (puts W s W′) ≡ 2048
-      still = put-length s own W long W′ whole ∙ long
+      kept : length Ws ≡ 2048
+      kept = still s W own long _ _ _ _ _ _ _ _ h
 
-      back : logIn (puts W s W′) s ≡ W′
-      back = sym (cut-is (puts W s W′) s) ∙ cut-put s own W long W′ whole
-
-      swept-run : (L : List Lock) → length L ≡ m → unzipped (sweptBy (puts W s W′) (onRun (t .change) s (x .count)) L) ≡ changed (t .change) W′ (x .count) s (unzipped L)
+      swept-run : (L : List Lock) → length L ≡ m → unzipped (sweptBy Ws (onRun (t .change) s (x .count)) L) ≡ changed (t .change) (logIn Ws s) (x .count) s (unzipped L)
       swept-run L q =
           let f = few (length vs) (length cs) m W s r e z in let w = locked (length vs) (length cs) m W s r e z in
-          rw back at (changes (t .change) (puts W s W′) s (x .count) L (omega arith))
+          changes (t .change) Ws s (x .count) L (omega arith)
 
       pub taken : (d : Change) → d ≡ onRun (t .change) s (x .count)
-          → IsTurn k vs cs m l W ss vs′ (puts W s W′) (record { reply = record { answer = t .answer; sessions = record { records = set (ss .records) s (t .session) } }; change = d })
+          → IsTurn k vs cs m l W ss vs′ Ws (record { reply = record { answer = t .answer; sessions = record { records = set (ss .records) s (t .session) } }; change = d })
       unfolding withSession
       taken d f =
           rw f (
-            change-fits (t .change) (puts W s W′) W′ s (x .count) (length vs) own whole still can-change,
+            change-fits (t .change) Ws (logIn Ws s) s (x .count) (length vs) own (log-length Ws s own kept) kept can-change,
             λ L q g.
                 rw (mine ss s (sessionOf k) own i) at
-                (takes-put k (lentOn vs cs L W) x s i (admits (length vs) (length cs) m W s r e vs cs L refl refl q z) _ (with-lock L g) (t .answer) vs′ W′ (t .session) (t .change) h
-                (unzipped (sweptBy (puts W s W′) (onRun (t .change) s (x .count)) L)) (swept-run L q) ss (is-mine ss s (sessionOf k) own i)),
+                (takes k (lentOn vs cs L W) x s i (admits (length vs) (length cs) m W s r e vs cs L refl refl q z) _ (with-lock L g) (t .answer) vs′ Ws (t .session) (t .change) h (logIn Ws s) refl
+                (unzipped (sweptBy Ws (onRun (t .change) s (x .count)) L)) (swept-run L q) ss (is-mine ss s (sessionOf k) own i)),
           )

@@ -1,4 +1,4 @@
--- The calls that leave the run, the values and the logs as they are, of every such list of the lengths given: begin's reply; a peek's turn, plan, number and part.
+-- The calls that leave the run, the values and the logs as they are, of every such list of the lengths given: begin's reply; a peek's plan, number and part.
 use mathlib.Core.Path.{_≡_, refl, ap, _∙_}
 use mathlib.Core.Bool.{Bool}
 use mathlib.Core.Option.{Option, none, some}
@@ -10,8 +10,8 @@ use base.Fml.{GName}
 use denote.Ref.{RefT}
 use lib.Dec.{ltb, eqb}
 use lib.ListN.{length, getD, set, replicate, length-replicate}
-use Rattle.model.specs.Buffers.{Store, size, free, idle, sessionAt, withSession, entryAt, slotIn, lengthsMatch}
-use Rattle.model.specs.Plans.{recordFits, guard, known, peekSlot, peekPlan, plan}
+use Rattle.model.specs.Buffers.{Store, size, free, idle, sessionAt, withSession, logIn, lengthsMatch}
+use Rattle.model.specs.Plans.{recordFits, guard, peekPlan, plan}
 use Rattle.model.specs.Step.{planOf}
 use Rattle.model.specs.Turns.{TurnEffect, leaves, turnOf, changed}
 use Rattle.model.specs.declared.Session.{Session}
@@ -27,8 +27,8 @@ use Rattle.model.proofs.Tools.{split}
 use Rattle.locks.proofs.Tags.{Passed, passed}
 use Rattle.calls.specs.Pieces.{admission}
 use Rattle.turns.proofs.Lengths
-use Rattle.turns.proofs.Logs.{cut, cut-is}
-use Rattle.turns.proofs.Whole.{planned, takes-same}
+use Rattle.turns.proofs.InLogs.{kept-in}
+use Rattle.turns.proofs.Whole.{planned, takes}
 use Rattle.turns.proofs.Peeks.{peek-inside, peek-logged, peek-refused, peek-done, hands-store, hands-log, hands-nothing}
 use Rattle.lock_records.specs.Run.{unzipped, lentOn, storeOn}
 use Rattle.lock_records.specs.Turns.{IsReply, IsPeekPlan, IsPeekPart}
@@ -57,21 +57,23 @@ module _ (n k m : ℕ) (W : List ℕ) (ss : Sessions) (s r : ℕ) (e : r ≡ adm
   peek-refuses c h vs cs L i j q = refuses n k m W s r e vs cs L i j q (Peek s c) refl h ss
 
   module _ (z : r ≡ 0) where
-    pub begins : (t : CallTurn) → ((vs : List ℕ) → leaves (t .answer) vs (cut W s) (t .session) (t .change) ≡ turnOf (guard n (cut W s) x (eqb (x .phase) 0) Start) vs (cut W s) x)
-        → IsReply (Begin s) n k m W ss (record { answer = t .answer; sessions = record { records = set (ss .records) s (t .session) } })
-    unfolding withSession plan changed
-    begins t h vs cs L i j q =
-        let d : t .change ≡ Keep = ap (λ (f : TurnEffect). f .change) (h vs) ∙ begin-keeps vs (cut W s) x n (eqb (x .phase) 0) in
-        let own = low n k m W s r e z in
-        rw (mine ss s s own refl) at
-        (takes-same (Begin s) (lentOn vs cs L W) x s refl (admits n k m W s r e vs cs L i j q z) (guard n (cut W s) x (eqb (x .phase) 0) Start) (rw i) (t .answer) vs (cut W s) (t .session) (t .change) (h vs)
-        refl (unzipped L) (rw d) ss (is-mine ss s s own refl))
+    -- log is the session's, as the code has it
+    module _ (log : List ℕ) (w : log ≡ logIn W s) where
+      pub begins : (t : CallTurn) → ((vs : List ℕ) → leaves (t .answer) vs log (t .session) (t .change) ≡ turnOf (guard n log x (eqb (x .phase) 0) Start) vs log x)
+          → IsReply (Begin s) n k m W ss (record { answer = t .answer; sessions = record { records = set (ss .records) s (t .session) } })
+      unfolding withSession plan changed
+      begins t h vs cs L i j q =
+          let d : t .change ≡ Keep = ap (λ (f : TurnEffect). f .change) (h vs) ∙ begin-keeps vs log x n (eqb (x .phase) 0) in
+          let own = low n k m W s r e z in
+          rw (mine ss s s own refl) at
+          (takes (Begin s) (lentOn vs cs L W) x s refl (admits n k m W s r e vs cs L i j q z) (guard n log x (eqb (x .phase) 0) Start) (rw (i, w)) (t .answer) vs W (t .session) (t .change)
+          (kept-in s W _ _ _ _ _ _ _ log w (h vs)) (logIn W s) refl (unzipped L) (rw d) ss (is-mine ss s s own refl))
 
-    pub peek-decides : (c : ℕ) (p : Plan) → p ≡ peekPlan n (cut W s) x c → IsPeekPlan n k m W ss s c p
-    unfolding plan sessionAt size
-    peek-decides c p f vs cs L i j q =
-        let a = admits n k m W s r e vs cs L i j q z in
-        f ∙ rw (← i, cut-is) (planned (Peek s c) (storeOn vs cs L W ss) (a .fit) (a .low))
+      pub peek-decides : (c : ℕ) (p : Plan) → p ≡ peekPlan n log x c → IsPeekPlan n k m W ss s c p
+      unfolding plan sessionAt size
+      peek-decides c p f vs cs L i j q =
+          let a = admits n k m W s r e vs cs L i j q z in
+          f ∙ rw (← i, w) (planned (Peek s c) (storeOn vs cs L W ss) (a .fit) (a .low))
 
 -- ---- a peek's plan p, of every store with these lengths: its answer, and its part
 

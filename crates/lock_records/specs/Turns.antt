@@ -17,31 +17,19 @@ use Rattle.model.specs.declared.Answer.{Answer}
 use Rattle.model.specs.declared.Plan.{Plan}
 use Rattle.model.specs.declared.Call.{Call}
 use Rattle.model.specs.declared.Call.the-variants.{Begin, Read, Write, Seal, Advance, Abandon, Peek}
-use Rattle.calls.specs.Pieces.{admission, dueOn, dueCell}
+use Rattle.calls.specs.Pieces.{admission}
+use Rattle.turns.specs.AnyCall.{cellFor}
 use Rattle.lock_records.specs.declared.Change.the-variants.{Keep}
 use Rattle.lock_records.specs.declared.Turn.{Turn}
 use Rattle.lock_records.specs.Run.{storeOn, lockIn, sweptBy, ChangeFits}
 
--- ---- the cell whose lock a call may need, and what it decides with that lock
-
--- by its session's log and record, of n cells; 0 where it needs none
-unfoldable pub cellFor : Call → ℕ → List ℕ → Session → ℕ
-cellFor (Begin s) n log x = 0
-cellFor (Read s c) n log x = c
-cellFor (Write s c v) n log x = c
-cellFor (Seal s) n log x = 0
-cellFor (Advance s) n log x = dueCell log (dueOn n log x)
-cellFor (Abandon s) n log x = 0
-cellFor (Peek s c) n log x = 0
+-- ---- the cell whose lock a call may need
 
 -- of n values, k classes and m locks; 0 also where it is refused by 7 or 1
 unfoldable pub lookOf : Call → Sessions → ℕ → ℕ → ℕ → List ℕ → ℕ
 lookOf call ss n k m logs =
     require (eqb (admission (lengthsMatch n k m m m (length logs)) (sessionOf call)) 0) 0
     (cellFor call n (logIn logs (sessionOf call)) (sessionAt ss (sessionOf call)))
-
-abbrev pub planWith : Call → ℕ → List ℕ → List ℕ → Session → Lock → Plan
-planWith k n classes log x l = plan k n classes log x (λ c. l)
 
 -- ---- what is done
 

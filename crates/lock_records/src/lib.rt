@@ -1,23 +1,19 @@
 // The calls on locks that the caller lends as one run of records (document 01, "What the caller lends", Locks).
-// A call on the run reads one lock, takes its turn (crate calls) with that lock by value, and carries out on the run the change that comes back.
+// A call on the run reads one lock, takes its turn (crate turns) with that lock by value, and carries out on the run the change that comes back.
 ghost use mathlib.Core.Path.{_≡_};
 ghost use Prim.Native.Nat.{_<_, _≤_};
 ghost use lib.ListN.{length};
 ghost use Rattle.model.specs.Buffers.{logIn, cellAt};
-ghost use Rattle.model.specs.Plans.{peekPlan};
-ghost use Rattle.model.specs.Step.{sessionOf};
-ghost use Rattle.model.specs.Turns.{TakesTurn, TurnsLog};
 ghost use Rattle.model.specs.declared.Call.the-variants.{Begin, Read, Write, Seal, Advance, Abandon, Peek};
 ghost use Rattle.lock_records.specs.declared.Change.the-variants.{Leave};
 ghost use Rattle.lock_records.specs.Run.{lockIn, countOf, cellOf, changeOf, changedAt, sweptBy, SessionFits, ChangeFits, onRun};
-ghost use Rattle.lock_records.specs.Turns.{onlyAnswer, lookOf, planWith, IsReply, IsPeekPlan, IsPeekPart, TakesOnRun, SetsUpTurn};
+ghost use Rattle.lock_records.specs.Turns.{onlyAnswer, lookOf, IsReply, IsPeekPlan, IsPeekPart, TakesOnRun, SetsUpTurn};
 ghost use Rattle.lock_records.specs.Lent.{Takes, SetsUp, HandsBack};
 use model::Answer;
 use model::Call;
 use model::Lock;
 use model::Plan;
 use model::Reply;
-use model::Session;
 use model::Sessions;
 
 // ---- a change of the run
@@ -55,9 +51,7 @@ fn entry_cell(logs: &[u32], session: u8, i: usize) -> usize
     requires { ⌜ (session < 16) × (i < 32) × (length (now logs) ≡ 2048) ⌝ }
     ensures { λ r. ⌜ r ≡ cellAt (logIn (now (logs .entry)) session) i ⌝ }
 {
-    let a = 128 * (session as usize);
-    let e = a + 128;
-    log::cell_at(&logs[a..e], i) as usize
+    log::cell_at(log::of_session(logs, session), i) as usize
 }
 
 // The same, or 1,024 where the cell is written: of m entries the cell's first counts.
@@ -65,9 +59,7 @@ fn unwritten_cell(logs: &[u32], session: u8, m: u8, i: usize) -> usize
     requires { ⌜ (session < 16) × (m ≤ 32) × (i < m) × (length (now logs) ≡ 2048) ⌝ }
     ensures { λ r. ⌜ r ≡ cellOf (now (logs .entry)) (Leave session m) i ⌝ }
 {
-    let a = 128 * (session as usize);
-    let e = a + 128;
-    let log = &logs[a..e];
+    let log = log::of_session(logs, session);
     let cell = log::cell_at(log, i);
     let k = log::find(log, m as usize, cell);
     if log::publishes(log, k) {
@@ -222,76 +214,8 @@ fn look_up(
     if calls::admit(n, classes, locks, locks, locks, logs.len(), session) != 0 {
         return 0;
     }
-    let i = session as usize;
-    let a = 128 * i;
-    let e = a + 128;
-    let x = sessions.records[i];
-    let log = &logs[a..e];
-    match call {
-        Call::Begin(_) => 0,
-        Call::Read(_, c) => c as usize,
-        Call::Write(_, c, _) => c as usize,
-        Call::Seal(_) => 0,
-        Call::Advance(_) => {
-            let due = calls::due_slot(log, n, x);
-            calls::due_cell(log, due) as usize
-        }
-        Call::Abandon(_) => 0,
-        Call::Peek(_, _) => 0,
-    }
-}
-
-// A peek's turn: its number, and nothing changes.
-fn take_peek(log: &[u32], n: usize, x: Session, cell: u32) -> model::Turn
-    requires { ⌜ (length (now log) ≡ 128) × (n ≤ 1024) ⌝ }
-    ensures { λ r. ⌜ TurnsLog (peekPlan n (now (log .entry)) x cell) log x r ⌝ }
-{
-    let p = calls::peek_plan(log, n, x, cell);
-    if let Plan::Refuse(number) = p {
-        return model::Turn {
-            answer: Answer::Refused(number),
-            session: x,
-            change: model::Change::Keep,
-        };
-    }
-    model::Turn {
-        answer: Answer::Done,
-        session: x,
-        change: model::Change::Keep,
-    }
-}
-
-// Any call's turn, with the lock of the cell that it may need.
-fn take_call(
-    call: Call,
-    values: &mut [u32],
-    classes: &[u8],
-    log: &mut [u32],
-    x: Session,
-    l: Lock,
-) -> model::Turn
-    requires { ⌜ (length (now log) ≡ 128) × (length (now values) ≤ 1024) × (length (now classes) ≡ length (now values)) × (sessionOf call < 16) ⌝ }
-    ensures { λ r. ⌜ TakesTurn (planWith call (length (now (values .entry))) (now (classes .entry)) (now (log .entry)) x l) values log x r ⌝ }
-{
-    let n = values.len();
-    match call {
-        Call::Begin(_) => calls::take_begin(&log[..], n, x),
-        Call::Read(_, c) => {
-            let p = calls::read_plan(&log[..], n, x, c);
-            calls::take_read(&values[..], log, x, l, c, p)
-        }
-        Call::Write(_, c, v) => {
-            let p = calls::write_plan(&log[..], classes, x, c, v);
-            calls::take_write(&values[..], classes, log, x, l, c, v, p)
-        }
-        Call::Seal(_) => calls::take_seal(&log[..], n, x),
-        Call::Advance(s) => {
-            let due = calls::due_slot(&log[..], n, x);
-            calls::take_advance(values, &log[..], x, l, s, due)
-        }
-        Call::Abandon(_) => calls::take_abandon(&log[..], n, x),
-        Call::Peek(_, c) => take_peek(&log[..], n, x, c),
-    }
+    let x = sessions.records[session as usize];
+    turns::cell_for(call, log::of_session(logs, session), n, x) as usize
 }
 
 // A turn's change as one of the run.
@@ -335,10 +259,8 @@ fn take_turn(
         return only_answer(sessions, Answer::Refused(refusal));
     }
     let i = session as usize;
-    let a = 128 * i;
-    let e = a + 128;
     let x = sessions.records[i];
-    let t = take_call(call, values, classes, &mut logs[a..e], x, l);
+    let t = turns::any(call, values, classes, logs, x, l, session);
     let y = t.session;
     let answer = t.answer;
     let change = t.change;
@@ -371,10 +293,8 @@ fn begin_turn(
         };
     }
     let i = session as usize;
-    let a = 128 * i;
-    let e = a + 128;
     let x = sessions.records[i];
-    let t = calls::take_begin(&logs[a..e], n, x);
+    let t = calls::take_begin(log::of_session(logs, session), n, x);
     let y = t.session;
     let answer = t.answer;
     sessions.records[i] = y;
@@ -397,11 +317,8 @@ fn peek_plan(
     if refusal != 0 {
         return Plan::Refuse(refusal);
     }
-    let i = session as usize;
-    let a = 128 * i;
-    let e = a + 128;
-    let x = sessions.records[i];
-    calls::peek_plan(&logs[a..e], n, x, cell)
+    let x = sessions.records[session as usize];
+    calls::peek_plan(log::of_session(logs, session), n, x, cell)
 }
 
 // A peek's number.

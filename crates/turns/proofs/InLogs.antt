@@ -10,6 +10,7 @@ use Rattle.model.specs.declared.Answer.{Answer}
 use Rattle.model.specs.declared.Change.{Change}
 use Rattle.model.specs.declared.Plan.{Plan}
 use Rattle.model.specs.declared.Plan.the-variants.{Refuse, Start, Tell, Enter, Update, EnterUpdate, RollBack, Cancel, CommitReads, BeginPromotion, Wait, Acquire, Publish, Release, ShowStore, ShowLog}
+use Rattle.model.proofs.Laws.{log-length, log-same, length-on}
 use Rattle.model.proofs.Carried.{same-log, length-appended}
 use Rattle.turns.specs.InLogs.{inLogs}
 use Rattle.turns.proofs.Logs.{cut, puts, cut-is, puts-is}
@@ -53,3 +54,15 @@ module _ (s : ℕ) (logs : List ℕ) (a : Answer) (us : List ℕ) (y : Session) 
   kept-in W v t =
       let f : leaves a us (logIn logs s) y d ≡ turnOf p vs (logIn logs s) x = rw v at t in
       ap (λ (l : List ℕ). leaves a us l y d) (sym (same-log s logs)) ∙ ap (inLogs s logs) f
+
+-- what a turn leaves of the logs Ws: the session's log is the turn's, and they are as long as they were
+module _ (s : ℕ) (logs : List ℕ) (low : s < 16) (long : length logs ≡ 2048) (a : Answer) (us Ws : List ℕ) (y : Session) (d : Change) (p : Plan) (vs : List ℕ) (x : Session)
+    (t : leaves a us Ws y d ≡ inLogs s logs (turnOf p vs (logIn logs s) x)) where
+  whole : length (turnOf p vs (logIn logs s) x .log) ≡ 128
+  whole = turn-length p vs (logIn logs s) x ∙ log-length logs s low long
+
+  pub left : logIn Ws s ≡ turnOf p vs (logIn logs s) x .log
+  left = ap (λ (f : TurnEffect). logIn (f .log) s) t ∙ log-same s logs low long (λ log. turnOf p vs (logIn logs s) x .log) whole
+
+  pub still : length Ws ≡ 2048
+  still = ap (λ (f : TurnEffect). length (f .log)) t ∙ length-on s logs low long (λ log. turnOf p vs (logIn logs s) x .log) whole ∙ long

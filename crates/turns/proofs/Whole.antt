@@ -17,12 +17,12 @@ use Rattle.model.specs.declared.Call.{Call}
 use Rattle.model.specs.declared.Answer.{Answer}
 use Rattle.model.specs.declared.Plan.{Plan}
 use Rattle.model.specs.declared.Change.{Change}
-use Rattle.model.proofs.Laws.{log-length, log-same}
+use Rattle.model.proofs.Laws.{log-length}
 use Rattle.model.proofs.Carried.{carries}
 use Rattle.locks.specs.Changes.{ChangeFits}
 use Rattle.turns.proofs.Lengths.{Admitted}
 use Rattle.turns.specs.InLogs.{inLogs}
-use Rattle.turns.proofs.InLogs.{turn-length}
+use Rattle.turns.proofs.InLogs.{left}
 use Rattle.turns.proofs.Fitting.{call-fits}
 
 -- past refusals 7 and 1 any call's plan is what its session decides
@@ -66,17 +66,14 @@ module _ (k : Call) (B : Buffers) (x : Session) (s : ℕ) (i : s ≡ sessionOf k
     abbrev turn : TurnEffect
     turn = turnOf p (B .values) (logIn (B .logs) s) x
 
-    -- the session's log is the turn's
-    left : logIn Ws s ≡ turn .log
-    left =
-        ap (λ (f : TurnEffect). logIn (f .log) s) t
-        ∙ log-same s (B .logs) (z .low) (z .lengths .logs) (λ log. turn .log) (turn-length p (B .values) (logIn (B .logs) s) x ∙ log-length (B .logs) s (z .low) (z .lengths .logs))
+    is-left : logIn Ws s ≡ turn .log
+    is-left = left s (B .logs) (z .low) (z .lengths .logs) a vs Ws y d p (B .values) x t
 
-    -- W is that log, as the code has it: the change can be carried out
+    -- W is the session's log then, as the code has it: the change can be carried out
     module _ (W : List ℕ) (v : W ≡ logIn Ws s) where
       pub can-change : ChangeFits d s W (x .count) (length (B .values))
       can-change =
-          rw (v, left, ap (λ (f : TurnEffect). f .change) t)
+          rw (v, is-left, ap (λ (f : TurnEffect). f .change) t)
           (call-fits (length (B .values)) (logIn (B .logs) s) x s (B .values) (z .low) (log-length (B .logs) s (z .low) (z .lengths .logs)) (z .lengths .few)
           (B .classes) (lockAt (B .locks)) k p e)
 
@@ -87,5 +84,5 @@ module _ (k : Call) (B : Buffers) (x : Session) (s : ℕ) (i : s ≡ sessionOf k
       takes L l ss o =
           let put : outcome a (record { lent = record { values = vs; classes = B .classes; locks = L; logs = Ws }; sessions = withSession ss (sessionOf k % 16) y })
           ≡ carried (sessionOf k) turn (given ss o) =
-          rw (l, v, left, own, ap (λ (f : TurnEffect). f .answer) t, ap (λ (f : TurnEffect). f .values) t, ap (λ (f : TurnEffect). f .log) t, ap (λ (f : TurnEffect). f .session) t, ap (λ (f : TurnEffect). f .change) t, i, mine ss o) in
+          rw (l, v, is-left, own, ap (λ (f : TurnEffect). f .answer) t, ap (λ (f : TurnEffect). f .values) t, ap (λ (f : TurnEffect). f .log) t, ap (λ (f : TurnEffect). f .session) t, ap (λ (f : TurnEffect). f .change) t, i, mine ss o) in
           put ∙ whole ss o p e

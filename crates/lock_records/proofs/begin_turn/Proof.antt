@@ -1,5 +1,4 @@
 -- Refused by 7 or 1, or the turn of `calls::take_begin`, which keeps the locks.
-use Rattle.turns.proofs.Logs.{log-fits}
 use Rattle.lock_records.proofs.OnRun.{low, words, log-long}
 use Rattle.lock_records.proofs.Replies.{begin-refuses, begins}
 use borrow.Author.Needs.{needs}
@@ -12,19 +11,20 @@ returns c = let a = c .before .before .before .args in begin-refuses (a .n) (a .
 element-copy-out-x : tie.Need-element-copy-out-x
 element-copy-out-x c = let a = c .before .before .before .args in low (a .n) (a .classes) (a .locks) (a .logs .now) (a .session) _ (c .before .admit .ensures) (c .if1 .left)
 
-part-take-begin-end : tie.Need-part-take-begin-end
-part-take-begin-end c = let a = c .before .before .before .before .args in log-fits (a .session) (low (a .n) (a .classes) (a .locks) (a .logs .now) (a .session) _ (c .before .before .admit .ensures) (c .before .if1 .left)) (a .logs .now) (words (a .n) (a .classes) (a .locks) (a .logs .now) (a .session) _ (c .before .before .admit .ensures) (c .before .if1 .left))
+of-session-requires : tie.Need-of-session-requires
+of-session-requires c κs = let a = c .before .before .before .before .args in (low (a .n) (a .classes) (a .locks) (a .logs .now) (a .session) _ (c .before .before .admit .ensures) (c .before .if1 .left), words (a .n) (a .classes) (a .locks) (a .logs .now) (a .session) _ (c .before .before .admit .ensures) (c .before .if1 .left))
 
 take-begin-requires : tie.Need-take-begin-requires
-take-begin-requires c κs = let a = c .before .before .before .before .before .args in log-long (a .n) (a .classes) (a .locks) (a .logs .now) (a .session) _ (c .before .before .before .admit .ensures) (c .before .before .if1 .left)
+take-begin-requires c κs = let a = c .before .before .before .before .before .args in log-long (a .n) (a .classes) (a .locks) (a .logs .now) (a .session) _ (c .before .before .before .admit .ensures) (c .before .before .if1 .left) _ (c .of-session .ensures)
 
 element-set-from-y : tie.Need-element-set-from-y
 element-set-from-y c = let a = c .before .before .before .before .before .before .before .args in low (a .n) (a .classes) (a .locks) (a .logs .now) (a .session) _ (c .before .before .before .before .before .admit .ensures) (c .before .before .before .before .if1 .left)
 
 returns-2 : tie.Need-returns-2
-returns-2 c = let a = c .before .before .before .before .before .before .before .args in begins (a .n) (a .classes) (a .locks) (a .logs .now) (a .t1) (a .session) _ (c .before .before .before .before .before .admit .ensures) (c .before .before .before .before .if1 .left) _ (c .before .take-begin .ensures)
+returns-2 c = let a = c .before .before .before .before .before .before .before .args in begins (a .n) (a .classes) (a .locks) (a .logs .now) (a .t1) (a .session) _ (c .before .before .before .before .before .admit .ensures) (c .before .before .before .before .if1 .left) _ (c .before .before .of-session .ensures) _ (c .before .take-begin .ensures)
+
 
 pub begin-turn-spec : {M : Type 1} → statement M
 begin-turn-spec =
     tie.close
-    (tie.spec (λ c κs. search needs) returns (λ c. search needs) (λ c. search needs) (λ c. search needs) element-copy-out-x (λ c. search needs) (λ c. search needs) (λ c. search needs) part-take-begin-end take-begin-requires (λ c. search needs) element-set-from-y returns-2)
+    (tie.spec (λ c κs. search needs) returns (λ c. search needs) element-copy-out-x of-session-requires take-begin-requires (λ c. search needs) element-set-from-y returns-2)
