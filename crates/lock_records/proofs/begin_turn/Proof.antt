@@ -23,7 +23,6 @@ element-set-from-y c = let a = c .before .before .before .before .before .before
 returns-2 : tie.Need-returns-2
 returns-2 c = let a = c .before .before .before .before .before .before .before .args in begins (a .n) (a .classes) (a .locks) (a .logs .now) (a .t1) (a .session) _ (c .before .before .before .before .before .admit .ensures) (c .before .before .before .before .if1 .left) _ (c .before .before .of-session .ensures) _ (c .before .take-begin .ensures)
 
-
 pub begin-turn-spec : {M : Type 1} → statement M
 begin-turn-spec =
     tie.close

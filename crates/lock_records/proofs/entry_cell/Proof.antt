@@ -15,7 +15,6 @@ cell-at-requires c κs = let s = c .before .before in let w = log-long (s .args 
 returns : tie.Need-returns
 returns c = c .cell-at .ensures ∙ rw (c .before .of-session .ensures)
 
-
 pub entry-cell-spec : {M : Type 1} → statement M
 entry-cell-spec =
     tie.close

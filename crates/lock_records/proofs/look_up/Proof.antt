@@ -20,7 +20,6 @@ cell-for-requires c κs = let a = c .before .before .before .before .before .bef
 returns-2 : tie.Need-returns-2
 returns-2 c = let a = c .before .before .before .before .before .before .before .args in looks (a .call) (a .t2) (a .n) (a .classes) (a .locks) (a .logs .now) (c .before .before .before .before .before .session .result) (c .before .before .before .before .before .session .ensures) _ (c .before .before .before .before .admit .ensures) (c .before .before .before .if1 .left) _ (c .cell-for .ensures ∙ rw (c .before .of-session .ensures))
 
-
 pub look-up-spec : {M : Type 1} → statement M
 look-up-spec =
     tie.close

@@ -20,7 +20,6 @@ peek-plan-requires c κs = let a = c .before .before .before .before .before .ar
 returns-2 : tie.Need-returns-2
 returns-2 c = let a = c .before .before .before .before .before .before .args in peek-decides (a .n) (a .classes) (a .locks) (a .logs .now) (a .t1) (a .session) _ (c .before .before .before .before .admit .ensures) (c .before .before .before .if1 .left) _ (c .before .of-session .ensures) (a .cell) _ (c .peek-plan .ensures)
 
-
 pub peek-plan-spec : {M : Type 1} → statement M
 peek-plan-spec =
     tie.close

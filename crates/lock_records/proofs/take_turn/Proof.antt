@@ -26,7 +26,6 @@ same-length-2 c = c .before .before .before .before .before .before .any .kept .
 returns-2 : tie.Need-returns-2
 returns-2 c = let a = c .before .before .before .before .before .before .before .before .before .before .before .before .before .before .before .before .args in taken (a .call) (a .values .now) (a .classes .now) (a .logs .now) (a .t2) (a .locks) (a .l) (c .before .before .before .before .before .before .before .before .before .before .before .before .session .result) (c .before .before .before .before .before .before .before .before .before .before .before .before .session .ensures) _ (c .before .before .before .before .before .before .before .before .before .before .before .admit .ensures) (c .before .before .before .before .before .before .before .before .before .before .if1 .left) _ _ _ (c .before .before .before .before .before .before .any .ensures) _ (c .on-run .ensures)
 
-
 pub take-turn-spec : {M : Type 1} → statement M
 take-turn-spec =
     tie.close

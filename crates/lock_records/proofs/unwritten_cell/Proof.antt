@@ -23,7 +23,6 @@ returns c = let s = c .before .before .before .before .before .before in written
 returns-2 : tie.Need-returns-2
 returns-2 c = let s = c .before .before .before .before .before .before in unwritten (s .args .logs .now) (s .args .session) (s .args .m) (s .args .i) (s .pre .3) (s .pre .0) (s .pre .1) (s .pre .2) _ (c .before .before .before .before .of-session .ensures) _ (c .before .before .before .cell-at .ensures) _ (c .before .before .find .ensures) _ (c .before .publishes .ensures) (c .if1 .left)
 
-
 pub unwritten-cell-spec : {M : Type 1} → statement M
 unwritten-cell-spec =
     tie.close
