@@ -107,25 +107,7 @@ pub fn lengths_fit(
     logs == 2048
 }
 
-// The lengths fit, and the session is one of sixteen.
-fn admits(
-    n: usize,
-    classes: usize,
-    readers: usize,
-    claimants: usize,
-    exclusives: usize,
-    logs: usize,
-    session: u8,
-) -> bool
-    ensures { λ r. ⌜ r ≡ eqb (admission (lengthsMatch n classes readers claimants exclusives logs) session) 0 ⌝ }
-{
-    if !lengths_fit(n, classes, readers, claimants, exclusives, logs) {
-        return false;
-    }
-    session < 16
-}
-
-// 0 where they do; else 7 where the lengths do not fit, and 1 where the session is above 15. The number of a refusal is computed apart from the test.
+// 7 where the lengths do not fit, 1 where the session is above 15, or 0.
 pub fn admit(
     n: usize,
     classes: usize,
@@ -137,13 +119,13 @@ pub fn admit(
 ) -> u8
     ensures { λ r. ⌜ r ≡ admission (lengthsMatch n classes readers claimants exclusives logs) session ⌝ }
 {
-    if admits(n, classes, readers, claimants, exclusives, logs, session) {
-        return 0;
+    if !lengths_fit(n, classes, readers, claimants, exclusives, logs) {
+        return 7;
     }
-    if lengths_fit(n, classes, readers, claimants, exclusives, logs) {
+    if 15 < session {
         return 1;
     }
-    7
+    0
 }
 
 // Phase at most 4; in phases 1 to 4 at most 32 entries, each of a cell below n.
