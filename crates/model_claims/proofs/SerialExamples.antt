@@ -4,21 +4,21 @@ use mathlib.Core.Path.{_≡_, refl, _∙_}
 use mathlib.Core.Bool.{Bool, true, false, cond, _&&_}
 use mathlib.Core.List.{List, [], _∷_, map, reverse}
 use lib.ListN.{replicate}
 use Rattle.model.specs.declared.Call.{Call}
 use Rattle.model.specs.declared.Call.the-variants.{Begin, Read, Write, Seal, Advance}
 use Rattle.model.specs.declared.Answer.{Answer}
 use Rattle.model.specs.declared.Answer.the-variants.{Done, Value, Sealed, Moved, Waiting, Committed, Refused}
 use Rattle.model.specs.Buffers.{Store, idle}
 use Rattle.model.specs.Computing.{computing, counting}
 use Rattle.model.specs.History.{Event, tellsOf, run, events, told}
 use Rattle.model.specs.Isolation.{All}
 use Rattle.model.specs.Serial.{serialStep, serial, OneAtATime, SeriallyEqual}
 use Rattle.model.specs.Effects.{number}
 use Rattle.model.specs.Step.{setUpAnswer, setUp}
 use Rattle.model.specs.Told.{Told, begins}
 use Rattle.model.proofs.Names.{noneOpen, none-open, open-none}
-use Rattle.model.proofs.Serial.{serially-equal}
+use Rattle.model_claims.proofs.Serial.{serially-equal}
 use Rattle.model.proofs.Tools.{test, clash, both-l, both-r}
 
 -- ---- the test
 

@@ -9,33 +9,33 @@ use mathlib.Core.List.{List}
 use lib.Dec.{leb, ltb, eqb}
 use lib.ListN.{length, getD}
 use borrow.Author.Tests.{eqb-true, eqb-false, eq-eqb, leb-true, not-true}
 use Rattle.model.specs.declared.Call.{Call}
 use Rattle.model.specs.declared.Call.the-variants.{Begin, Read, Write, Seal, Advance, Abandon, Peek}
 use Rattle.model.specs.declared.Answer.{Answer}
 use Rattle.model.specs.declared.Answer.the-variants.{Done, Value, Sealed, Moved, Committed}
 use Rattle.model.specs.declared.Plan.{Plan}
 use Rattle.model.specs.declared.Plan.the-variants.{Refuse, Start, Enter, EnterUpdate, Cancel}
 use Rattle.model.specs.Buffers.{Store, size, entryAt, slotIn, targetIn, lockAt, cap}
 use Rattle.model.specs.Isolation.{All}
 use Rattle.model.specs.Serial.{Serial, serialStep, Undisturbed}
 use Rattle.model.specs.Readers.{otherReaders}
 use Rattle.model.specs.Search.{some?, tally}
 use Rattle.model.specs.Plans.{recordFits, guard, known, claimed, newCell, readSlot, writeSlot, writeCapped, sealTarget, promotePlan, advanceTarget, plan, admit}
 use Rattle.model.specs.Effects.{number, recordOf, releaseAnswer, answer, logOf}
 use Rattle.model.specs.Step.{sessionOf, planOf, answerOf}
 use Rattle.model.specs.Told.{Told, ending, tells, begins, WhereGot}
 use Rattle.model.proofs.Advancing.{target-some}
 use Rattle.model.proofs.Effects.{slot-some}
 use Rattle.model.proofs.Invariant.{latest, Promoting, Finishing, Inv}
 use Rattle.model.proofs.Ledger.{closed, saw, sealedAt, advanced, Ledger, calm, starts, observe}
 use Rattle.model.proofs.Passing.{choose, guarded, running-cell, cell-new}
 use Rattle.model.proofs.Preservation.{inside, inside-wrote, phase-le, runs, none-written}
 use Rattle.model.proofs.Quiet.{Quiet, refuses, peeks}
 use Rattle.model.proofs.Roles.{flip}
-use Rattle.model.proofs.SerialLedger.{overlay, Follows, follows-tick, follows-calm, follows-rest, follows-start, follows-on, follows-commit, follows-end, follows-write}
-use Rattle.model.proofs.SerialLocks.{unlogged-out, no-readers, own-claim, reads-store, reads-entry}
+use Rattle.model_claims.proofs.SerialLedger.{overlay, Follows, follows-tick, follows-calm, follows-rest, follows-start, follows-on, follows-commit, follows-end, follows-write}
+use Rattle.model_claims.proofs.SerialLocks.{unlogged-out, no-readers, own-claim, reads-store, reads-entry}
 use Rattle.model.proofs.Tools.{split, test, clash, both-l, both-r}
 use Rattle.model.proofs.View.{slot, look, target}
 
 -- call k answered a, where the serial store z follows the ledger T: it goes on to follow, nobody was in the way, and a value got is the draft's
 pub record Serially (start : List ℕ) (T : Ledger) (z : Serial) (k : Call) (a : Answer) : Type 0 where

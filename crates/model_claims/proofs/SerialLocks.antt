@@ -7,18 +7,18 @@ use mathlib.Core.Bool.{true, false}
 use mathlib.Core.Option.{none, some}
 use mathlib.Core.List.{List}
 use lib.ListN.{length, getD}
 use Rattle.model.specs.Buffers.{Store, Entry, slotIn, isDirty, currentOf, lockAt}
 use Rattle.model.specs.Readers.{otherReaders}
 use Rattle.model.specs.Effects.{recordOf}
 use Rattle.model.proofs.Effects.{unknown, idle-out, running-role, slot-none}
 use Rattle.model.proofs.Invariant.{role, latest, Running, Link, Inv}
 use Rattle.model.proofs.Ledger.{Ledger}
 use Rattle.model.proofs.Preservation.{runs}
 use Rattle.model.proofs.Roles.{out, holds, pends, claims?}
-use Rattle.model.proofs.SerialLedger.{overlay}
+use Rattle.model_claims.proofs.SerialLedger.{overlay}
 use Rattle.model.proofs.Sets.{alone-others}
 use Rattle.model.proofs.Tools.{same, test, clash}
 use Rattle.model.proofs.View.{slot, look}
 
 -- ---- who is nothing to a cell
 

@@ -5,23 +5,23 @@ use mathlib.Core.Path.{_≡_, refl, sym, _∙_, subst}
 use mathlib.Core.Bool.{false}
 use mathlib.Core.List.{List, [], _∷_, reverse}
 use lib.Seq.{ext-getD}
 use Rattle.model.specs.declared.Call.{Call}
 use Rattle.model.specs.Buffers.{Store, fresh}
 use Rattle.model.specs.Serial.{serial, NoneOpen, OneAtATime, ReadsSerially, Undisturbed, SeriallyEqual}
 use Rattle.model.specs.History.{Event, run, events, name, history, transaction, isOpen}
 use Rattle.model.specs.Isolation.{All}
 use Rattle.model.specs.Effects.{number}
 use Rattle.model.specs.Step.{answerOf, setUpAnswer, setUp}
 use Rattle.model.specs.Told.{tells}
 use Rattle.model.proofs.Demand3.{set-up-fresh}
 use Rattle.model.proofs.Invariant.{latest, all-map, Inv}
 use Rattle.model.proofs.Ledger.{blank, ledger}
 use Rattle.model.proofs.Roles.{flip}
 use Rattle.model.proofs.Runs.{inv-fresh, ready, ledger-of, inv-run, match-run}
-use Rattle.model.proofs.SerialCalls.{Serially, serially}
-use Rattle.model.proofs.SerialLedger.{Follows}
-use Rattle.model.proofs.SerialLocks.{closed-out, value-latest}
+use Rattle.model_claims.proofs.SerialCalls.{Serially, serially}
+use Rattle.model_claims.proofs.SerialLedger.{Follows}
+use Rattle.model_claims.proofs.SerialLocks.{closed-out, value-latest}
 use Rattle.model.proofs.Tools.{clash}
 
 -- from any store with the invariant and no transaction open
 module _ (φ : Store) (I₀ : Inv (φ .lent .values) φ blank) where

@@ -6,24 +6,24 @@ use mathlib.Core.Path.{_≡_, refl, subst}
 use mathlib.Core.Bool.{Bool, true, not, _&&_}
 use mathlib.Core.List.{List, [], _∷_, map, reverse}
 use lib.ListN.{length, replicate}
 use Rattle.model.specs.declared.Call.{Call}
 use Rattle.model.specs.declared.Call.the-variants.{Begin, Read, Write, Seal, Advance}
 use Rattle.model.specs.declared.Answer.{Answer}
 use Rattle.model.specs.declared.Answer.the-variants.{Done, Value, Sealed, Moved, Waiting, Committed}
 use Rattle.model.specs.Buffers.{Store, idle, fresh}
 use Rattle.model.specs.Computing.{computing, counting}
 use Rattle.model.specs.History.{Event, run, events, Item, item, history, name, Name, transaction, wrote, readsBeforeWriting, snapshot, commit, committed}
 use Rattle.model.specs.Isolation.{Last, lastCommit, noCommit, Demand3}
 use Rattle.model.specs.Search.{below}
 use Rattle.model.specs.Effects.{recordOf}
 use Rattle.model.specs.Told.{began, got, put}
 use Rattle.model.proofs.Demand3.{demand3-from}
 use Rattle.model.proofs.Ledger.{Ledger, blank, amend, starts, observe, ledger}
 use Rattle.model.proofs.Names.{committed-in}
-use Rattle.model.proofs.Resuming.{by-sixteen, atStart, restart, openOf, openBelow, openItems, resumes}
+use Rattle.model_claims.proofs.Resuming.{by-sixteen, atStart, restart, openOf, openBelow, openItems, resumes}
 use Rattle.model.proofs.Runs.{inv-fresh, Ready, ledger-of, ready}
-use Rattle.model.proofs.SerialExamples.{given}
+use Rattle.model_claims.proofs.SerialExamples.{given}
 use Rattle.model.proofs.Tools.{clash, upd}
 
 -- two cells of class 2 with values 3 and 5; session 0 runs, with cell 1 read and then 4 written to cell 0, and is a reader of both
 unfoldable pub started : Store
