@@ -1,13 +1,13 @@
--- `field::little_endian::put_word` meets its contract: its stores are those of the number's bytes at the one width.
+-- `little_endian::put_word` meets its contract: its stores are those of the number's bytes at the one width.
 -- Assumes nothing.
 use native.Mathlib.Numerals.{add-one}
 use native.Mathlib.Omega.{arith}
 use lib.ListN.{length-set}
-use Rattle.field.specs.LittleEndian.{bytesOf}
-use Rattle.field.proofs.Numbers.{all-of, write-none, write-all}
+use Rattle.little_endian.specs.LittleEndian.{bytesOf}
+use Rattle.little_endian.proofs.Numbers.{all-of, write-none, write-all}
 use borrow.Author.Needs.{needs}
-use Rattle.field.proofs.little_endian.put_word.Statement.{statement}
-use Rattle.field.proofs.little_endian.put_word.Tie as tie
+use Rattle.little_endian.proofs.put_word.Statement.{statement}
+use Rattle.little_endian.proofs.put_word.Tie as tie
 
 returns : tie.Need-returns
 returns c = write-none _ _ _ _ (c .if1 .taken)

@@ -3,8 +3,7 @@ ghost use mathlib.Core.Path.{_≡_};
 ghost use Prim.Native.Nat.{_+_, _≤_, _<_};
 ghost use lib.ListN.{length};
 ghost use lib.Seq.{sets};
-ghost use Rattle.field.specs.LittleEndian.{numberAt, bytesOf};
-ghost use Rattle.field.specs.Table.{Whole};
+ghost use Rattle.little_endian.specs.LittleEndian.{numberAt, bytesOf, Whole};
 
 fn wide16(x: u8) -> u16
     ensures { λ r. ⌜ (r ≡ x) × (r < 256) ⌝ }
@@ -18,14 +17,14 @@ fn wide32(x: u8) -> u32
     x as u32
 }
 
-pub(crate) fn wide(x: u16) -> usize
+pub fn wide(x: u16) -> usize
     ensures { λ r. ⌜ r ≡ x ⌝ }
 {
     x as usize
 }
 
 // The number in one byte, or in none, at `at`.
-pub(crate) fn byte_at(bytes: &[u8], at: usize, width: usize) -> u8
+pub fn byte_at(bytes: &[u8], at: usize, width: usize) -> u8
     requires { ⌜ Whole 1 width ⌝ ∗ ⌜ at + width ≤ length (now bytes) ⌝ }
     ensures { λ r. ⌜ r ≡ numberAt (now (bytes .entry)) at width ⌝ }
 {
@@ -36,7 +35,7 @@ pub(crate) fn byte_at(bytes: &[u8], at: usize, width: usize) -> u8
 }
 
 // The number in two bytes, or in none, from `at`.
-pub(crate) fn word_at(bytes: &[u8], at: usize, width: usize) -> u16
+pub fn word_at(bytes: &[u8], at: usize, width: usize) -> u16
     requires { ⌜ Whole 2 width ⌝ ∗ ⌜ at + width ≤ length (now bytes) ⌝ }
     ensures { λ r. ⌜ r ≡ numberAt (now (bytes .entry)) at width ⌝ }
 {
@@ -47,7 +46,7 @@ pub(crate) fn word_at(bytes: &[u8], at: usize, width: usize) -> u16
 }
 
 // The number in four bytes, or in none, from `at`.
-pub(crate) fn long_at(bytes: &[u8], at: usize, width: usize) -> u32
+pub fn long_at(bytes: &[u8], at: usize, width: usize) -> u32
     requires { ⌜ Whole 4 width ⌝ ∗ ⌜ at + width ≤ length (now bytes) ⌝ }
     ensures { λ r. ⌜ r ≡ numberAt (now (bytes .entry)) at width ⌝ }
 {
@@ -60,7 +59,7 @@ pub(crate) fn long_at(bytes: &[u8], at: usize, width: usize) -> u32
 }
 
 // Puts a number into one byte, or into none, at `at`.
-pub(crate) fn put_byte(target: &mut [u8], at: usize, width: usize, x: u8)
+pub fn put_byte(target: &mut [u8], at: usize, width: usize, x: u8)
     requires { ⌜ Whole 1 width ⌝ ∗ ⌜ at + width ≤ length (now target) ⌝ }
     ensures { λ _. ⌜ now (target .exit) ≡ sets (now (target .entry)) at (bytesOf width x) ⌝ }
 {
@@ -71,7 +70,7 @@ pub(crate) fn put_byte(target: &mut [u8], at: usize, width: usize, x: u8)
 }
 
 // Puts a number into two bytes, or into none, from `at`.
-pub(crate) fn put_word(target: &mut [u8], at: usize, width: usize, x: u16)
+pub fn put_word(target: &mut [u8], at: usize, width: usize, x: u16)
     requires { ⌜ Whole 2 width ⌝ ∗ ⌜ at + width ≤ length (now target) ⌝ }
     ensures { λ _. ⌜ now (target .exit) ≡ sets (now (target .entry)) at (bytesOf width x) ⌝ }
 {
@@ -83,7 +82,7 @@ pub(crate) fn put_word(target: &mut [u8], at: usize, width: usize, x: u16)
 }
 
 // Puts a number into four bytes, or into none, from `at`.
-pub(crate) fn put_long(target: &mut [u8], at: usize, width: usize, x: u32)
+pub fn put_long(target: &mut [u8], at: usize, width: usize, x: u32)
     requires { ⌜ Whole 4 width ⌝ ∗ ⌜ at + width ≤ length (now target) ⌝ }
     ensures { λ _. ⌜ now (target .exit) ≡ sets (now (target .entry)) at (bytesOf width x) ⌝ }
 {

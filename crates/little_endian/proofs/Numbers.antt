@@ -8,8 +8,7 @@ use mathlib.Core.Logic.{_⊎_, ⊎-elim}
 use mathlib.Core.List.{List}
 use lib.ListN.{length, getD}
 use lib.Seq.{drop-cons, sets}
-use Rattle.field.specs.LittleEndian.{number, numberAt, bytesOf}
-use Rattle.field.specs.Table.{Whole}
+use Rattle.little_endian.specs.LittleEndian.{number, numberAt, bytesOf, Whole}
 
 -- A number that takes bytes takes all of them.
 pub all-of : (all w : ℕ) → Whole all w → (w ≡ 0 → ⊥) → w ≡ all

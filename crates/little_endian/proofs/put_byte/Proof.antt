@@ -1,14 +1,14 @@
--- `field::little_endian::put_byte` meets its contract: its stores are those of the number's bytes at the one width.
+-- `little_endian::put_byte` meets its contract: its stores are those of the number's bytes at the one width.
 -- Assumes nothing.
 use Prim.Native.Nat.{ℕ, _%_}
 use mathlib.Core.Path.{_≡_, sym, _∙_, ap}
 use native.Mathlib.Omega.{arith}
 use lib.ListN.{set}
-use Rattle.field.specs.LittleEndian.{bytesOf}
-use Rattle.field.proofs.Numbers.{write-none, write-all}
+use Rattle.little_endian.specs.LittleEndian.{bytesOf}
+use Rattle.little_endian.proofs.Numbers.{write-none, write-all}
 use borrow.Author.Needs.{needs}
-use Rattle.field.proofs.little_endian.put_byte.Statement.{statement}
-use Rattle.field.proofs.little_endian.put_byte.Tie as tie
+use Rattle.little_endian.proofs.put_byte.Statement.{statement}
+use Rattle.little_endian.proofs.put_byte.Tie as tie
 
 returns : tie.Need-returns
 returns c = write-none _ _ _ _ (c .if1 .taken)
