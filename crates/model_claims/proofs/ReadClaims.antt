@@ -1,4 +1,4 @@
--- Of each word and claim that is no number or test, a small history or store of specs/Words.antt of which it holds and one of which it does not.
+-- Of each word and claim that is no number or test, a small history or store of model/specs/Words.antt of which it holds and one of which it does not.
 use Prim.Native.Nat.{ℕ, _≤_, _<_}
 use native.Mathlib.Omega.{arith}
 use mathlib.Core.Path.{_≡_, refl, sym, _∙_, ap, subst}

@@ -1,4 +1,4 @@
--- The words of demand 3 are what the tables of specs/Words.antt say, by computation.
+-- The words of demand 3 are what the tables of model/specs/Words.antt say, by computation.
 use mathlib.Core.Path.{_≡_, refl}
 use mathlib.Core.List.{List, [], _∷_, map}
 use Rattle.model.specs.declared.Call.{Call}

@@ -1,4 +1,4 @@
--- One after the other: what it claims is `SeriallyEqual` of specs/Serial.antt. Along a list in which a transaction begins only
+-- One after the other: what it claims is `SeriallyEqual` of model/specs/Serial.antt. Along a list in which a transaction begins only
 -- when none is open, the serial store follows the ledger call by call; with none open the store's values and the serial store's are the last committed.
 use Prim.Native.Nat.{ℕ, _<_}
 use mathlib.Core.Path.{_≡_, refl, sym, _∙_, subst}
