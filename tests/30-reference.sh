@@ -1,6 +1,6 @@
 #!/usr/bin/env bash
-# Builds the second program, the plain C store and people's tools into target/, and tries them: unit tests, examples, bad input,
-# random comparisons, and wrong stores that the comparison must tell. SEED changes the random cases.
+# People's tools, which read and write fields by the proved functions, with the second program and the plain C replay behind them: examples, bad input,
+# the time line; and the proved fields against the second program. SEED changes the random cases. tests/00-plain.sh tries the two programs themselves.
 set -uo pipefail
 cd "$(dirname "$0")/.."
 
@@ -78,18 +78,6 @@ fi
 build
 set +e
 
-echo "-- unit tests"
-cargo test --quiet --offline --release --features plain --manifest-path reference/Cargo.toml >"$work/unit" 2>&1
-unit_status=$?
-unit_passed=$(sed -n 's/^test result: .* \([0-9]*\) passed; .*/\1/p' "$work/unit" | awk '{ sum += $1 } END { print sum + 0 }')
-unit_failed=$(sed -n 's/^test result: .* \([0-9]*\) failed; .*/\1/p' "$work/unit" | awk '{ sum += $1 } END { print sum + 0 }')
-if [ "$unit_status" -ne 0 ] || [ "$unit_passed" -eq 0 ]; then
-    cat "$work/unit"
-    [ "$unit_failed" -gt 0 ] || unit_failed=1
-fi
-echo "$unit_passed unit tests passed, $unit_failed failed"
-add "$unit_passed" "$unit_failed"
-
 echo "-- examples"
 for name in listing skew mixed; do
     check "$name on the second program" example "$name" "$replay_reference"
@@ -119,19 +107,8 @@ check "a stored value is shown" shows listing "= 4"
 check "a wrong cell line is refused" refused 1 "from line 14 on, the cells are not those that the calls leave" foreign_output 's/^c 0 4$/c 0 3/'
 check "a missing answer is refused" refused 1 "line 13 is not the answer of call 13" foreign_output '/^13 /d'
 
-echo "-- comparisons, seed $seed"
-check "replays, in batch" shown "$compare" replays --program "$plain_replay" --mode batch --seed "$seed" --count 40000
-check "replays, each in a process" shown "$compare" replays --program "$plain_replay" --against "$replay_reference" --mode spawn \
-    --seed "$((seed + 1))" --count 1500
-check "calls on arbitrary buffers" beside "plain C store" "$compare" calls --seed "$seed" --count 1000000
-check "fields" beside "plain C fields" "$compare" fields --seed "$seed" --count 1000000
+echo "-- the proved fields, seed $seed"
 check "the proved fields are built" proved_fields
 check "the proved fields" beside "proved fields" env LD_LIBRARY_PATH="$PWD/target/c/proved" "$compare" fields --seed "$seed" --count 1000000
-
-echo "-- wrong stores"
-python3 tests/fuzz/wrong_stores.py "$compare" "$work" "$seed" 2>&1 | tee "$work/wrong.log"
-closing=$(grep -E '^[0-9]+ passed, [0-9]+ failed$' "$work/wrong.log" | tail -n 1)
-closing=${closing:-0 passed, 1 failed}
-add "$(echo "$closing" | cut -d' ' -f1)" "$(echo "$closing" | cut -d' ' -f3)"
 
 finish

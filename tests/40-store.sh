@@ -46,13 +46,15 @@ benchmark() {
 check "the second program is built" bash -c '. tests/fuzz/build.sh'
 . tests/fuzz/build.sh
 check "the replay is built" test -x target/bin/replay
+check "the replay on the fuzzer's corpus" shown corpus
+check "the proved replay on random files" shown "$compare" replays --program "$PWD/target/bin/replay" --mode spawn --seed "$seed" --count "$replays"
+
+# What stands on the archive for C comes last: it may still be in the making.
 for name in listing skew mixed; do
     check "the replay of $name" example $name
 done
 check "the calls for C are built" calls_for_c
 check "the proved calls on arbitrary buffers" beside "proved calls for C" env LD_LIBRARY_PATH="$PWD/target/c/proved-store" "$compare" calls --seed "$seed" --count 1000000
 check "the proved calls and plain C on the benchmark's lists" benchmark
-check "the replay on the fuzzer's corpus" shown corpus
-check "the proved replay on random files" shown "$compare" replays --program "$PWD/target/bin/replay" --mode spawn --seed "$seed" --count "$replays"
 
 finish

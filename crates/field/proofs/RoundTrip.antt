@@ -17,14 +17,15 @@ use Rattle.field.specs.declared.TagLayout.the-variants.{Known, Unknown}
 use Rattle.field.specs.declared.Call.{Call}
 use Rattle.field.specs.declared.Reading.the-variants.{Field, End, Refused}
 use Rattle.field.specs.LittleEndian.{number, numberAt, bytesOf}
-use Rattle.field.specs.Table.{Whole, Proper, layoutOf}
+use Rattle.little_endian.specs.LittleEndian.{Whole}
+use Rattle.field.specs.Table.{Proper, layoutOf}
 use Rattle.field.specs.Answer.{done, cutShort, unknownTag, wrongLength, shortTarget}
 use Rattle.field.specs.Field.{callAt, readingOf, readingAt, bodyOf, fieldOf, WriteReply, writeReply, writing}
 use Rattle.field.specs.RoundTrip.{Bytes, Fitting, kept, carried}
 use Rattle.field.proofs.Rows.{proper}
 use Rattle.field.proofs.Readings.{accepted}
 use Rattle.field.proofs.Writings.{length-bytesOf, small, length-field, short, written}
-use Rattle.field.proofs.Numbers.{all-of}
+use Rattle.little_endian.proofs.Numbers.{all-of}
 use Rattle.field.proofs.Inverse.{limit, back, there, runs}
 
 -- ---- what was written reads back

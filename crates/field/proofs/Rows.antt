@@ -11,7 +11,8 @@ use lib.Dec.{T, eqb, eqb→eq}
 use Rattle.field.specs.declared.Layout.{Layout}
 use Rattle.field.specs.declared.TagLayout.{TagLayout}
 use Rattle.field.specs.declared.TagLayout.the-variants.{Known, Unknown}
-use Rattle.field.specs.Table.{Row, Whole, Proper, table, find, layoutOf}
+use Rattle.little_endian.specs.LittleEndian.{Whole}
+use Rattle.field.specs.Table.{Row, Proper, table, find, layoutOf}
 
 both : (a b : Bool) → T (a && b) → T a × T b
 both true b h = (tt, h)

@@ -12,8 +12,8 @@ use borrow.Author.Tests.{lt-ltb, le-ltb}
 use Rattle.field.specs.declared.Layout.{Layout}
 use Rattle.field.specs.declared.TagLayout.the-variants.{Known, Unknown}
 use Rattle.field.specs.declared.Call.{Call}
-use Rattle.field.specs.LittleEndian.{bytesOf}
-use Rattle.field.specs.Table.{Whole, Proper, layoutOf}
+use Rattle.little_endian.specs.LittleEndian.{bytesOf, Whole}
+use Rattle.field.specs.Table.{Proper, layoutOf}
 use Rattle.field.specs.Answer.{done, unknownTag, shortTarget}
 use Rattle.field.specs.Field.{bodyOf, fieldOf, writeReply, writingOf, writing}
 

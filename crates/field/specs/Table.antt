@@ -2,10 +2,10 @@
 -- Assumes nothing.
 use Prim.Native.Nat.{ℕ, _+_}
 use mathlib.Core.Path.{_≡_}
-use mathlib.Core.Logic.{_⊎_}
 use mathlib.Core.List.{List, [], _∷_}
 use mathlib.Core.Bool.{cond}
 use lib.Dec.{eqb}
+use Rattle.little_endian.specs.LittleEndian.{Whole}
 use Rattle.field.specs.declared.Kind.{Kind}
 use Rattle.field.specs.declared.Kind.the-variants.{Begin, Read, Write, Seal, Advance, Abandon, StartingCell}
 use Rattle.field.specs.declared.Layout.{Layout}
@@ -45,10 +45,6 @@ find t (r ∷ rows) = cond (eqb t (r .tag)) (Known (r .layout)) (find t rows)
 -- A tag's layout; a tag that the table lacks is unknown.
 unfoldable pub layoutOf : ℕ → TagLayout
 layoutOf t = find t table
-
--- A number takes all of its bytes or none.
-abbrev pub Whole : ℕ → ℕ → Type 0
-Whole all w = (w ≡ 0) ⊎ (w ≡ all)
 
 -- What the code relies on in a layout. It is no rule of its own: every row of the table has it (`proofs/Rows.antt`).
 pub record Proper (l : Layout) : Type 0 where

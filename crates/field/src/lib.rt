@@ -1,6 +1,5 @@
 // The call fields of document 01, section "Call fields": the reader and the writer of one field, and the types that they speak of. Crate c_api has the same two
 // for C.
-mod little_endian;
 mod tags;
 
 ghost use mathlib.Core.Path.{_≡_};

@@ -23,17 +23,7 @@ pub mod Agreement
 pub mod Commits
 pub mod Writers
 pub mod Demand3
-pub mod Resuming
-pub mod Started
 pub mod Orders
 pub mod Cases
-pub mod Anomalies
-pub mod ReadWords
 pub mod Twin
 pub mod Caps
-pub mod SerialLedger
-pub mod SerialLocks
-pub mod SerialCalls
-pub mod Serial
-pub mod SerialExamples
-pub mod ReadClaims

@@ -116,7 +116,7 @@ inv-from I [] = I
 inv-from I (k ∷ ks) = keep (inv-from I ks) k
 
 -- a start: the invariant, and the ledger of what is told there, all of it at place 0. Transactions may be open, each of a session that runs: it has begun,
--- and may have read and written; none is sealed and none committed (`ready-none-sealed`, Resuming.antt)
+-- and may have read and written; none is sealed and none committed (`ready-none-sealed`, Resuming.antt of crate model_claims)
 pub record Ready (φ : Store) (h₀ : List Item) (T₀ : Ledger) : Type 0 where
   pub inv : Inv (φ .lent .values) φ T₀
   pub match : Matches (length (φ .lent .values)) h₀ T₀

@@ -82,7 +82,7 @@ pub record Cap : Type 0 where
   pub most : ℕ
 
 -- one cell of a class with a value; its session 0 runs
-abbrev ofClass : ℕ → ℕ → Store
+abbrev pub ofClass : ℕ → ℕ → Store
 ofClass k v = filled (lending (v ∷ []) (k ∷ []) 1 1 1 2048 0) 0 16 0 0 (session 1 0 0)
 
 -- what set-up answers to a value, and a write to it

@@ -1,5 +1,5 @@
--- The words of demand 3, read off small histories in numerals (document 01, "What demand 3 counts"): proofs/ReadWords.antt proves the tables by
--- computation. Calls, events and items stand in their order here.
+-- The words of demand 3, read off small histories in numerals (document 01, "What demand 3 counts"): ReadWords.antt of crate model_claims proves the
+-- tables by computation. Calls, events and items stand in their order here.
 use Prim.Native.Nat.{ℕ}
 use mathlib.Core.Bool.{Bool, true, false}
 use mathlib.Core.List.{List, [], _∷_, _++_, reverse}

@@ -1,0 +1,101 @@
+-- The claim judges: a lost update, a dirty read, a broken snapshot and a read ahead do not meet it; write skew does. Each is computed; the last is the theorem's.
+use Prim.Native.Nat.{_<_}
+use native.Mathlib.Omega.{arith}
+use mathlib.Core.Path.{_≡_, refl, ap}
+use mathlib.Core.Logic.{_⊎_, inl, inr}
+use mathlib.Core.Bool.{Bool, true, false, not, _&&_}
+use mathlib.Core.List.{List, [], _∷_, reverse}
+use lib.Dec.{leb, eqb}
+use borrow.Author.Tests.{le-leb}
+use Rattle.model.specs.Anomalies.{lostUpdate, dirtyRead, brokenSnapshot, readAhead}
+use Rattle.model.specs.Computing.{computing, counting}
+use Rattle.model.specs.History.{Item, told, history, Name, name, transaction, isOpen, wrote, valueWritten, snapshot, commit, committed}
+use Rattle.model.specs.Isolation.{Last, lastCommit, noCommit, Isolated}
+use Rattle.model.specs.Orders.{given, skew, skewUnsealed}
+use Rattle.model.specs.Step.{setUp}
+use Rattle.model.proofs.Demand3.{demand3}
+use Rattle.model.proofs.Names.{committed-in}
+use Rattle.model.proofs.Tools.{clash}
+
+-- ---- the four
+
+-- two writers of cell 0 whose spans meet
+pub lost-update-refused : Isolated (3 ∷ 5 ∷ []) (told [] lostUpdate) → ⊥
+unfolding lostUpdate counting
+lost-update-refused i = go (i .apart (name 1 0) (name 2 1) 0 (λ e. let z = ap (λ (x : Name). x .place) e in omega arith) refl refl refl refl)
+  where
+    go : (9 < 8) ⊎ (10 < 7) → ⊥
+    go (inl h) = omega arith
+    go (inr h) = omega arith
+
+-- 4 is nobody's commit and not the starting value
+pub dirty-read-refused : Isolated (3 ∷ 5 ∷ []) (told [] dirtyRead) → ⊥
+unfolding dirtyRead counting
+dirty-read-refused i = go (i .reads (name 3 1) refl .0)
+  where
+    free : Name → Bool
+    free x = not (committed 2 (transaction x (told [] dirtyRead)) && wrote (transaction x (told [] dirtyRead)) 0)
+
+    go : Last (3 ∷ 5 ∷ []) (told [] dirtyRead) 0 5 4 → ⊥
+    go (noCommit _ e) = omega arith
+    go (lastCommit x c _ _) = clash (free x) (committed-in 2 free (told [] dirtyRead) refl x (c .commits)) (rw (c .commits, c .wrote))
+
+-- of two commits to cell 0 the reader got the older
+pub broken-snapshot-refused : Isolated (3 ∷ 5 ∷ []) (told [] brokenSnapshot) → ⊥
+unfolding brokenSnapshot counting
+broken-snapshot-refused i = go (i .reads (name 13 2) refl .1 .0)
+  where
+    older : Name → Bool
+    older x = not (eqb (valueWritten (transaction x (told [] brokenSnapshot)) 0) 4 && leb 12 (commit 2 (transaction x (told [] brokenSnapshot))))
+
+    go : Last (3 ∷ 5 ∷ []) (told [] brokenSnapshot) 0 16 4 → ⊥
+    go (noCommit non e) = omega arith
+    go (lastCommit x c newest e) =
+        let l = newest (name 7 1) (record { commits = refl; wrote = refl; before = omega arith }) in
+        clash (older x) (committed-in 2 older (told [] brokenSnapshot) refl x (c .commits)) (rw (e, le-leb 12 (commit 2 (transaction x (told [] brokenSnapshot))) l))
+
+-- 6 is committed after the snapshot, and the starting value is 5
+pub read-ahead-refused : Isolated (3 ∷ 5 ∷ []) (told [] readAhead) → ⊥
+unfolding readAhead counting
+read-ahead-refused i = go (i .reads (name 1 0) refl .0)
+  where
+    later : Name → Bool
+    later x = not (wrote (transaction x (told [] readAhead)) 1 && leb (commit 2 (transaction x (told [] readAhead))) 7)
+
+    not-both : (a b : Bool) → a ≡ true → b ≡ true → not (a && b) ≡ false
+    not-both a b e f = rw (e, f)
+
+    go : Last (3 ∷ 5 ∷ []) (told [] readAhead) 1 7 6 → ⊥
+    go (noCommit _ e) = omega arith
+    go (lastCommit x c _ _) =
+        clash (later x) (committed-in 2 later (told [] readAhead) refl x (c .commits))
+        (not-both (wrote (transaction x (told [] readAhead)) 1) (leb (commit 2 (transaction x (told [] readAhead))) 7) (c .wrote)
+        (le-leb (commit 2 (transaction x (told [] readAhead))) 7 (omega (arith, c .before))))
+
+-- ---- write skew
+
+abbrev pub skewed : List Item
+skewed = history [] (setUp (given skew)) (reverse (skew .calls))
+
+-- both transactions commit, with spans that meet
+pub skew-commits : (committed 2 (transaction (name 1 0) skewed) ≡ true) × (committed 2 (transaction (name 2 1) skewed) ≡ true)
+    × (snapshot (transaction (name 1 0) skewed) ≡ 9) × (commit 2 (transaction (name 1 0) skewed) ≡ 11)
+    × (snapshot (transaction (name 2 1) skewed) ≡ 10) × (commit 2 (transaction (name 2 1) skewed) ≡ 14)
+unfolding skew given counting computing
+skew-commits = (refl, refl, refl, refl, refl, refl)
+
+-- and the claim holds of them
+pub skew-accepted : Isolated (3 ∷ 5 ∷ []) skewed
+unfolding skew given computing
+skew-accepted = demand3 (given skew) refl (skew .calls) .isolated
+
+-- ---- a transaction that waits
+
+abbrev pub waited : List Item
+waited = history [] (setUp (given skewUnsealed)) (reverse (skewUnsealed .calls))
+
+-- it is open, has written cell 0 and is not committed: the claim says that it does not hold all its writer locks
+pub waiting-uncommitted : (isOpen (transaction (name 1 0) waited) ≡ true) × (committed 2 (transaction (name 1 0) waited) ≡ false)
+    × (wrote (transaction (name 1 0) waited) 0 ≡ true)
+unfolding skewUnsealed given computing counting
+waiting-uncommitted = (refl, refl, refl)

@@ -1,0 +1,10 @@
+pub mod Resuming
+pub mod SerialLedger
+pub mod SerialLocks
+pub mod SerialCalls
+pub mod Serial
+pub mod SerialExamples
+pub mod Started
+pub mod Anomalies
+pub mod ReadWords
+pub mod ReadClaims

@@ -1,0 +1,236 @@
+-- Of each word and claim that is no number or test, a small history or store of model/specs/Words.antt of which it holds and one of which it does not.
+use Prim.Native.Nat.{ℕ, _≤_, _<_}
+use native.Mathlib.Omega.{arith}
+use mathlib.Core.Path.{_≡_, refl, sym, _∙_, ap, subst}
+use mathlib.Core.Logic.{inl, inr}
+use mathlib.Core.Bool.{Bool, true, false, cond, not, _&&_, _||_}
+use mathlib.Core.List.{List, [], _∷_}
+use lib.Dec.{leb, eqb}
+use lib.ListN.{getD}
+use borrow.Author.Tests.{eqb-true, eqb-false, leb-true, ltb-true}
+use Rattle.model.specs.declared.Call.the-variants.{Begin, Read, Write, Seal, Advance, Abandon}
+use Rattle.model.specs.declared.Answer.the-variants.{Done, Value, Moved, Waiting, Refused}
+use Rattle.model.specs.Caps.{GotWithin, WithinCaps}
+use Rattle.model.specs.Computing.{computing, counting}
+use Rattle.model.specs.History.{event, Item, item, told, history, Name, name, transaction, wrote, valueWritten, cellsWritten, readsBeforeWriting}
+use Rattle.model.specs.Isolation.{All, Commits, snapshotOf, commitOf, ToldAt, CommitsTo, Last, lastCommit, noCommit, Isolated, Holds, firsts, HoldsAtCommit, Demand3}
+use Rattle.model.specs.Serial.{serialStep, serial, NoneOpen, ReadsSerially, Undisturbed, SeriallyEqual}
+use Rattle.model.specs.Told.{began, got, put, sealed, moved, seals, moves, ReadOf}
+use Rattle.model.specs.Words.{wroteThenRead, firstRead, midway, toldRunning, toldSealed}
+use Rattle.model.proofs.Matching.{name-is}
+use Rattle.model.proofs.Names.{committed-in, noneOpen, none-open}
+use Rattle.model.proofs.Tools.{clash, both-l, both-r}
+
+abbrev first : List ℕ
+first = 3 ∷ 5 ∷ []
+
+-- ---- commits before a place
+
+abbrev committing : List Item
+committing = told [] wroteThenRead
+
+-- session 0's fourth call is an advance of its own, and its third is not
+pub told-at : ToldAt first committing (name 1 0) 4 moves
+unfolding wroteThenRead counting
+told-at = inl (refl, refl)
+
+pub told-at-not : ToldAt first committing (name 1 0) 3 moves → ⊥
+unfolding wroteThenRead counting
+told-at-not (inl e) = eqb-false 4 3 refl (e .0)
+told-at-not (inr (inl e)) = clash false (e .1) refl
+told-at-not (inr (inr (inl e))) = clash false (e .1) refl
+told-at-not (inr (inr (inr (inl e)))) = clash false (e .1) refl
+
+-- session 0's commit, at place 4, is one to cell 1 and to no other, and before place 5 and not before place 4; the reader's is to no cell
+pub commits-to : CommitsTo first committing 1 5 (name 1 0)
+unfolding wroteThenRead counting
+commits-to = record { commits = refl; wrote = refl; before = omega arith }
+
+pub commits-to-not : (CommitsTo first committing 1 4 (name 1 0) → ⊥) × (CommitsTo first committing 0 5 (name 1 0) → ⊥) × (CommitsTo first committing 1 8 (name 5 1) → ⊥)
+unfolding wroteThenRead counting
+commits-to-not = (λ c. let l : 4 < 4 = c .before in omega arith, λ c. clash false (c .wrote) refl, λ c. clash false (c .wrote) refl)
+
+-- what holds of it holds of each commit to cell 1: there is no other
+implied : (a b : Bool) → (not a || b) ≡ true → a ≡ true → b ≡ true
+implied true b h e = h
+implied false b h e = absurd (clash false e refl)
+
+each-commit : (f : Name → Bool) → f (name 1 0) ≡ true → (q : ℕ) (x : Name) → CommitsTo first committing 1 q x → f x ≡ true
+each-commit f t q x c =
+    implied (wrote (transaction x committing) 1) (f x) (committed-in 2 g committing (unfold wroteThenRead counting in rw t) x (c .commits)) (c .wrote)
+  where
+    g : Name → Bool
+    g x = not (wrote (transaction x committing) 1) || f x
+
+none-before : (x : Name) → CommitsTo first committing 1 4 x → ⊥
+none-before x c =
+    omega (arith, c .before, leb-true 4 (commitOf first committing x) (each-commit (λ x. leb 4 (commitOf first committing x)) (unfold wroteThenRead counting in refl) 4 x c))
+
+-- it is the last before place 7, with its value; before place 4 there is none, and the value is the starting value
+pub last-commit : Last first committing 1 7 4
+last-commit =
+    let e : commitOf first committing (name 1 0) ≡ 4 = unfold wroteThenRead counting in refl in
+    lastCommit (name 1 0) (unfold wroteThenRead counting in record { commits = refl; wrote = refl; before = omega arith })
+    (λ y c. omega (arith, e, leb-true (commitOf first committing y) 4 (each-commit (λ x. leb (commitOf first committing x) 4) (unfold wroteThenRead counting in refl) 7 y c)))
+    (unfold wroteThenRead counting in refl)
+
+pub starting-value : Last first committing 1 4 5
+starting-value = noCommit none-before refl
+
+pub last-commit-not : (Last first committing 1 7 5 → ⊥) × (Last first committing 1 4 4 → ⊥)
+last-commit-not = (stale, early)
+  where
+    stale : Last first committing 1 7 5 → ⊥
+    stale (noCommit non _) = non (name 1 0) (unfold wroteThenRead counting in record { commits = refl; wrote = refl; before = omega arith })
+    stale (lastCommit x c _ e) =
+        let t = each-commit (λ x. eqb (valueWritten (transaction x committing) 1) 4) (unfold wroteThenRead counting in refl) 7 x c in
+        omega (arith, e, eqb-true (valueWritten (transaction x committing) 1) 4 t)
+
+    early : Last first committing 1 4 4 → ⊥
+    early (noCommit _ e) = omega arith
+    early (lastCommit x c _ _) = none-before x c
+
+-- ---- the claim about transactions
+
+-- it holds of one that reads a starting value and commits with its seal
+pub first-read-isolated : Isolated first (told [] firstRead)
+first-read-isolated =
+    record {
+      snapshots = λ x d. subst (λ (x : Name). (x .place < snapshotOf first h x) × (snapshotOf first h x ≤ commitOf first h x) × ToldAt first h x (snapshotOf first h x) seals) (only x d)
+          (unfold firstRead counting in (omega arith, omega arith, inr (inl (refl, refl))));
+      commits = λ x d. subst (λ (x : Name). ToldAt first h x (commitOf first h x) (λ w. cond (eqb (cellsWritten 2 (transaction x h)) 0) (seals w) (moves w))) (only x d)
+          (unfold firstRead counting in inr (inl (refl, refl)));
+      reads = λ x d. subst (λ (x : Name). All (λ (r : ReadOf). Last first h (r .cell) (snapshotOf first h x) (r .value)) (readsBeforeWriting (transaction x h))) (only x d)
+          (unfold firstRead counting in (noCommit (λ y c. clash false (subst (λ (x : Name). wrote (transaction x h) 1 ≡ true) (sym (only y (c .commits))) (c .wrote)) refl) refl, tt));
+      apart = λ x y c ne d e. absurd (ne (sym (only x d) ∙ only y e));
+    }
+  where
+    h : List Item
+    h = told [] firstRead
+
+    only : (x : Name) → Commits first (told [] firstRead) x → name 1 0 ≡ x
+    only x d =
+        let t = committed-in 2 (λ x. eqb (x .place) 1 && eqb (x .session) 0) (told [] firstRead) (unfold firstRead counting in refl) x d in
+        name-is 1 0 x (sym (eqb-true (x .place) 1 (both-l (eqb (x .place) 1) (eqb (x .session) 0) t)))
+        (sym (eqb-true (x .session) 0 (both-r (eqb (x .place) 1) (eqb (x .session) 0) t)))
+
+-- not of one that is sealed where it begins, nor of one that is sealed after its commit
+pub sealed-too-early : Isolated first (item 5 0 sealed ∷ item 5 0 began ∷ []) → ⊥
+unfolding counting
+sealed-too-early i = let l : 5 < 5 = i .snapshots (name 5 0) refl .0 in omega arith
+
+pub sealed-too-late : Isolated first (item 3 0 moved ∷ item 4 0 sealed ∷ item 2 0 (put 0 4) ∷ item 1 0 began ∷ []) → ⊥
+unfolding counting
+sealed-too-late i = let l : 4 ≤ 3 = i .snapshots (name 1 0) refl .1 in omega arith
+
+-- ---- writer locks
+
+pub holds : Holds (midway 2 4 1 1) 1 0
+unfolding midway computing
+holds = (refl, refl)
+
+-- not without the mark, nor where another is claimant
+pub holds-not : (Holds (midway 2 4 1 0) 1 0 → ⊥) × (Holds (midway 2 4 0 1) 1 0 → ⊥) × (Holds (midway 2 4 1 1) 1 1 → ⊥)
+unfolding midway computing
+holds-not = (λ h. eqb-false 0 1 refl (h .1), λ h. eqb-false 0 1 refl (h .0), λ h. eqb-false 16 1 refl (h .0))
+
+-- a commit without the claim, and one without the mark: the commit is an advance in phase 3
+pub commit-unclaimed : HoldsAtCommit toldSealed (midway 3 4 16 1) (Advance 1 ∷ []) → ⊥
+unfolding midway toldSealed firsts computing counting
+commit-unclaimed h = eqb-false 16 1 refl (h .withThis (name 0 1) refl 0 refl .0)
+
+-- the lock held later, when the same session runs again, does not count
+pub claimed-after-commit : HoldsAtCommit toldSealed (midway 3 4 16 1) (Advance 1 ∷ Seal 1 ∷ Write 1 0 4 ∷ Begin 1 ∷ Advance 1 ∷ Advance 1 ∷ []) → ⊥
+unfolding midway toldSealed firsts computing counting
+claimed-after-commit h = eqb-false 16 1 refl (h .withThis (name 0 1) refl 0 refl .0)
+
+pub commit-unmarked : HoldsAtCommit toldSealed (midway 3 4 1 0) (Advance 1 ∷ []) → ⊥
+unfolding midway toldSealed firsts computing counting
+commit-unmarked h = eqb-false 0 1 refl (h .withThis (name 0 1) refl 0 refl .1)
+
+-- all locks held before the commit, and without one: in phase 2 the lock of the one cell written is held already
+held-midway : (c : ℕ) → wrote (transaction (name 0 1) toldSealed) c ≡ true → Holds (midway 2 4 1 1) 1 c
+held-midway c w = subst (Holds (midway 2 4 1 1) 1) (eqb-true 0 c (only (eqb 0 c) (unfold toldSealed counting in w))) holds
+  where
+    only : (b : Bool) → (b || false) ≡ true → b ≡ true
+    only true h = refl
+    only false h = h
+
+pub held-before-commit : HoldsAtCommit toldSealed (midway 2 4 1 1) (Advance 1 ∷ []) → ⊥
+unfolding midway toldSealed firsts computing counting
+held-before-commit h = h .notBefore (name 0 1) 0 refl (omega arith) (omega arith) 0 refl held-midway
+
+pub held-uncommitted : HoldsAtCommit toldSealed (midway 2 4 1 1) [] → ⊥
+unfolding midway toldSealed computing counting
+held-uncommitted h = h .notUncommitted (name 0 1) refl refl 0 refl held-midway
+
+-- ---- demand 3
+
+-- what is told at the start counts: a value read there that is not the store's, by a transaction that then commits; and a commit without the claim
+pub read-at-start : Demand3 (toldRunning 9) (midway 1 4 16 0) (Seal 1 ∷ Advance 1 ∷ []) → ⊥
+unfolding midway toldRunning computing counting
+read-at-start d = go (d .isolated .reads (name 0 1) refl .0)
+  where
+    go : Last first (history (toldRunning 9) (midway 1 4 16 0) (Advance 1 ∷ Seal 1 ∷ [])) 0 1 9 → ⊥
+    go (noCommit _ e) = omega arith
+    go (lastCommit x c _ _) =
+        omega (arith, c .before, ltb-true 0 (commitOf first (history (toldRunning 9) (midway 1 4 16 0) (Advance 1 ∷ Seal 1 ∷ [])) x) (c .commits))
+
+pub unclaimed-at-start : Demand3 toldSealed (midway 3 4 16 1) (Advance 1 ∷ []) → ⊥
+unclaimed-at-start d = commit-unclaimed (d .locks)
+
+-- ---- caps
+
+-- of a value got, by its cell's class; of the values that a list leaves, and of those that it is answered
+pub got-within : GotWithin (midway 1 4 16 0) (item 3 0 (got 0 8)) × GotWithin (midway 1 4 16 0) (item 3 0 (put 0 9))
+unfolding midway computing
+got-within = (omega arith, tt)
+
+pub got-within-not : (GotWithin (midway 1 4 16 0) (item 3 0 (got 0 9)) → ⊥) × (GotWithin (midway 1 4 16 0) (item 3 0 (got 1 8)) → ⊥)
+unfolding midway computing
+got-within-not = (λ l. let h : 9 ≤ 8 = l in omega arith, λ l. let h : 8 ≤ 6 = l in omega arith)
+
+pub stored-above : WithinCaps (midway 3 9 1 1) (Advance 1 ∷ []) → ⊥
+unfolding midway computing counting
+stored-above w = let h : 9 ≤ 8 = w .stored 0 in omega arith
+
+pub got-above : WithinCaps (midway 1 9 16 0) (Read 1 0 ∷ []) → ⊥
+unfolding midway computing counting
+got-above w = let h : 9 ≤ 8 = w .got .0 in omega arith
+
+-- ---- one after the other
+
+pub undisturbed : Undisturbed Done × Undisturbed (Refused 2)
+undisturbed = ((λ e. eqb-false 100 6 refl e, λ e. eqb-false 100 104 refl e), (λ e. eqb-false 2 6 refl e, λ e. eqb-false 2 104 refl e))
+
+pub undisturbed-not : (Undisturbed (Refused 6) → ⊥) × (Undisturbed Waiting → ⊥)
+undisturbed-not = (λ u. u .0 refl, λ u. u .1 refl)
+
+pub open-not : NoneOpen (told [] (event (Begin 0) Done ∷ [])) → ⊥
+unfolding counting
+open-not f = clash true refl (f (name 1 0))
+
+-- a value read is the own write's
+pub reads-draft : ReadsSerially first (event (Read 0 0) (Value 4) ∷ event (Write 0 0 4) Done ∷ event (Begin 0) Done ∷ [])
+unfolding counting serial serialStep
+reads-draft = (((tt, (tt, tt)), (tt, tt)), (refl, tt))
+
+pub reads-draft-not : ReadsSerially first (event (Read 0 0) (Value 3) ∷ event (Write 0 0 4) Done ∷ event (Begin 0) Done ∷ []) → ⊥
+unfolding counting serial serialStep
+reads-draft-not r = eqb-false 3 4 refl (r .1 .0)
+
+-- a value read that the serial store has not, an answer 6, and a value left that only an abandoned draft has
+pub reads-another : SeriallyEqual (midway 1 4 16 0) (Read 1 0 ∷ []) → ⊥
+unfolding midway computing counting serial serialStep
+reads-another e = eqb-false 4 3 refl (e .reads .1 .0)
+
+pub disturbed : SeriallyEqual (midway 2 4 0 0) (Advance 1 ∷ []) → ⊥
+unfolding midway computing counting serial serialStep
+disturbed e = e .undisturbed .0 .0 refl
+
+pub leaves-another : SeriallyEqual (midway 3 4 16 1) (Advance 1 ∷ Abandon 0 ∷ Write 0 0 4 ∷ Begin 0 ∷ []) → ⊥
+unfolding midway noneOpen computing counting serial serialStep
+leaves-another e =
+    eqb-false 4 3 refl
+    (ap (λ (l : List ℕ). getD l 0 0)
+    (e .left (none-open (told [] (event (Advance 1) Moved ∷ event (Abandon 0) Done ∷ event (Write 0 0 4) Done ∷ event (Begin 0) Done ∷ [])) refl)))

@@ -1,0 +1,215 @@
+-- Each call meets the serial store's step: a call on a store whose ledger the serial store follows is answered as the serial store has it, and the
+-- serial store goes on to follow. By the plan of the call: each plan's answer is one piece of news, and nobody else is in the way of any.
+use Prim.Native.Nat.{ℕ, suc, _<_}
+use native.Mathlib.Omega.{arith}
+use mathlib.Core.Path.{_≡_, refl, sym, _∙_}
+use mathlib.Core.Bool.{Bool, true, false, cond, not, _&&_, _||_}
+use mathlib.Core.Option.{none}
+use mathlib.Core.List.{List}
+use lib.Dec.{leb, ltb, eqb}
+use lib.ListN.{length, getD}
+use borrow.Author.Tests.{eqb-true, eqb-false, eq-eqb, leb-true, not-true}
+use Rattle.model.specs.declared.Call.{Call}
+use Rattle.model.specs.declared.Call.the-variants.{Begin, Read, Write, Seal, Advance, Abandon, Peek}
+use Rattle.model.specs.declared.Answer.{Answer}
+use Rattle.model.specs.declared.Answer.the-variants.{Done, Value, Sealed, Moved, Committed}
+use Rattle.model.specs.declared.Plan.{Plan}
+use Rattle.model.specs.declared.Plan.the-variants.{Refuse, Start, Enter, EnterUpdate, Cancel}
+use Rattle.model.specs.Buffers.{Store, size, entryAt, slotIn, targetIn, lockAt, cap}
+use Rattle.model.specs.Isolation.{All}
+use Rattle.model.specs.Serial.{Serial, serialStep, Undisturbed}
+use Rattle.model.specs.Readers.{otherReaders}
+use Rattle.model.specs.Search.{some?, tally}
+use Rattle.model.specs.Plans.{recordFits, guard, known, claimed, newCell, readSlot, writeSlot, writeCapped, sealTarget, promotePlan, advanceTarget, plan, admit}
+use Rattle.model.specs.Effects.{number, recordOf, releaseAnswer, answer, logOf}
+use Rattle.model.specs.Step.{sessionOf, planOf, answerOf}
+use Rattle.model.specs.Told.{Told, ending, tells, begins, WhereGot}
+use Rattle.model.proofs.Advancing.{target-some}
+use Rattle.model.proofs.Effects.{slot-some}
+use Rattle.model.proofs.Invariant.{latest, Promoting, Finishing, Inv}
+use Rattle.model.proofs.Ledger.{closed, saw, sealedAt, advanced, Ledger, calm, starts, observe}
+use Rattle.model.proofs.Passing.{choose, guarded, running-cell, cell-new}
+use Rattle.model.proofs.Preservation.{inside, inside-wrote, phase-le, runs, none-written}
+use Rattle.model.proofs.Quiet.{Quiet, refuses, peeks}
+use Rattle.model.proofs.Roles.{flip}
+use Rattle.model_claims.proofs.SerialLedger.{overlay, Follows, follows-tick, follows-calm, follows-rest, follows-start, follows-on, follows-commit, follows-end, follows-write}
+use Rattle.model_claims.proofs.SerialLocks.{unlogged-out, no-readers, own-claim, reads-store, reads-entry}
+use Rattle.model.proofs.Tools.{split, test, clash, both-l, both-r}
+use Rattle.model.proofs.View.{slot, look, target}
+
+-- call k answered a, where the serial store z follows the ledger T: it goes on to follow, nobody was in the way, and a value got is the draft's
+pub record Serially (start : List ℕ) (T : Ledger) (z : Serial) (k : Call) (a : Answer) : Type 0 where
+  pub follows : Follows start (observe (length start) k a T) (serialStep (record { call = k; answer = a }) z)
+  pub undisturbed : Undisturbed a
+  pub read : All (WhereGot (λ c v. v ≡ getD (z .draft) c 0)) (tells k a)
+
+-- an answer neither 6 nor 104
+module _ {start : List ℕ} {T : Ledger} {z : Serial} (k : Call) (a : Answer) where
+  answered : eqb (number a) 6 ≡ false → eqb (number a) 104 ≡ false → All (WhereGot (λ c v. v ≡ getD (z .draft) c 0)) (tells k a)
+      → Follows start (observe (length start) k a T) (serialStep (record { call = k; answer = a }) z) → Serially start T z k a
+  answered x y r f = record { follows = f; undisturbed = (eqb-false (number a) 6 x, eqb-false (number a) 104 y); read = r }
+
+module _ {start : List ℕ} {σ : Store} {T : Ledger} {z : Serial} (I : Inv start σ T) (F : Follows start T z) where
+  G : Follows start (calm T) z
+  G = follows-calm F
+
+  abbrev Fine : Call → Plan → Type 0
+  Fine k p = Serially start T z k (answer (sessionOf k) p σ)
+
+  -- ---- what tells nothing
+
+  quiet : (k : Call) (p : Plan) → Quiet k σ p → Fine k p
+  unfolding observe serialStep
+  quiet k p q = answered k (answer (sessionOf k) p σ) (q .not-6) (q .not-104) (rw (q .told) tt) (rw (q .told, q .not-105) (follows-tick G))
+
+  refused : (r : ℕ) → (ltb r 100 && not (eqb r 6)) ≡ true → (k : Call) → Fine k (Refuse r)
+  refused r small k = quiet k (Refuse r) (refuses k σ r small)
+
+  -- a call that the guard lets pass; one on a cell, of a running session
+  passing : (k : Call) (fits : Bool) (p : Plan) → let s = sessionOf k in
+      (s < 16 → recordFits (size (σ .lent)) (logOf σ s) (recordOf σ s) ≡ true → fits ≡ true → Fine k p) → Fine k (admit (σ .lent) s (guard (size (σ .lent)) (logOf σ s) (recordOf σ s) fits p))
+  passing k fits p f =
+      guarded (Fine k) (σ .lent) (sessionOf k) (recordOf σ (sessionOf k)) fits p (refused 7 refl k) (refused 1 refl k) (refused 9 refl k) (refused 2 refl k) f
+
+  on-cell : (k : Call) (c : ℕ) (p : Plan) → let s = sessionOf k in
+      (recordOf σ s .phase ≡ 1 → c < length start → Fine k p) → Fine k (admit (σ .lent) s (guard (size (σ .lent)) (logOf σ s) (recordOf σ s) (eqb (recordOf σ s .phase) 1) (known (size (σ .lent)) c p)))
+  unfolding size
+  on-cell k c p f =
+      running-cell (Fine k) (σ .lent) (sessionOf k) (recordOf σ (sessionOf k)) c p (refused 7 refl k) (refused 1 refl k) (refused 9 refl k) (refused 2 refl k)
+      (refused 3 refl k) (λ _ ph l. f ph (omega (arith, I .shape .values)))
+
+  -- ---- one session has a transaction open
+
+  alone : (s : ℕ) → T .mine s .live ≡ true → (u : ℕ) → (u ≡ s → ⊥) → T .mine u .live ≡ false
+  alone s l u n = flip (T .mine u .live) (λ h. n (F .alone s u l h))
+
+  -- a new cell of a running session: nobody claims it
+  on-new : (k : Call) (c : ℕ) (p : Plan) → let s = sessionOf k in
+      recordOf σ s .phase ≡ 1 → c < length start → slot σ s c ≡ none → Fine k p → Fine k (newCell (recordOf σ s) (lockAt (σ .lent .locks) c) p)
+  on-new k c p ph lc new f =
+      let s = sessionOf k in
+      let a = alone s (runs I s ph .live) in
+      cell-new (Fine k) (recordOf σ s) (lockAt (σ .lent .locks) c) p (refused 5 refl k)
+      (λ n. absurd (own-claim I s a c lc n .1 (unlogged-out σ s c new))) (λ _ _. f)
+
+  read-fine : (s c : ℕ) → Fine (Read s c) (planOf (Read s c) σ)
+  unfolding planOf plan readSlot answer observe tells ending serialStep slot
+  read-fine s c =
+      on-cell (Read s c) c (readSlot (logOf σ s) (recordOf σ s) (lockAt (σ .lent .locks) c) c (slotIn (logOf σ s) (recordOf σ s .count) c))
+      (λ ph lc.
+      let a = alone s (runs I s ph .live) in
+      choose (Fine (Read s c)) (readSlot (logOf σ s) (recordOf σ s) (lockAt (σ .lent .locks) c) c) (slot σ s c)
+      (λ p. on-new (Read s c) c (Enter c) ph lc p (told ph lc (getD (σ .lent .values) c 0) (reads-store I s a c lc ph p)))
+      (λ j p. told ph lc (entryAt (logOf σ s) j .current) (reads-entry I s a c lc ph (entryAt (logOf σ s) j) (slot-some σ s c p))))
+    where
+      told : recordOf σ s .phase ≡ 1 → c < length start → (v : ℕ) → v ≡ overlay (T .mine s) (latest start (T .commits)) c → Serially start T z (Read s c) (Value v)
+      told ph lc v e =
+          let r = runs I s ph in
+          record {
+            follows = follows-tick (follows-on G s (r .live) (saw c v) (r .live) refl refl (λ d. d));
+            undisturbed = (λ e. omega arith, λ e. omega arith);
+            read = (e ∙ sym (F .works s (r .live) .draft (r .open′) c lc), tt);
+          }
+
+  write-fine : (s c v : ℕ) → Fine (Write s c v) (planOf (Write s c v) σ)
+  unfolding planOf plan writeCapped writeSlot answer observe tells ending serialStep slot
+  write-fine s c v =
+      let k = getD (σ .lent .classes) c 0 in
+      on-cell (Write s c v) c (cond (ltb k 16) (writeCapped (logOf σ s) (recordOf σ s) (lockAt (σ .lent .locks) c) c v (cap k)) (Refuse 8))
+      (λ ph lc.
+      split (Fine (Write s c v)) (ltb k 16)
+      (λ _. split (Fine (Write s c v)) (leb v (cap k))
+      (λ _. choose (Fine (Write s c v)) (writeSlot (recordOf σ s) (lockAt (σ .lent .locks) c) c v) (slot σ s c)
+      (λ p. on-new (Write s c v) c (EnterUpdate c v) ph lc p (wrote ph lc)) (λ j p. wrote ph lc))
+      (λ _. refused 4 refl (Write s c v)))
+      (λ _. refused 8 refl (Write s c v)))
+    where
+      wrote : recordOf σ s .phase ≡ 1 → c < length start → Serially start T z (Write s c v) Done
+      wrote ph lc = let r = runs I s ph in answered (Write s c v) Done refl refl (tt, tt) (follows-tick (follows-write G s (r .live) c v lc (r .open′)))
+
+  seal-fine : (s : ℕ) → Fine (Seal s) (planOf (Seal s) σ)
+  unfolding planOf plan sealTarget answer observe tells ending serialStep target
+  seal-fine s =
+      passing (Seal s) (eqb (recordOf σ s .phase) 1) (sealTarget (targetIn (logOf σ s) (recordOf σ s .count) 0))
+      (λ lt k h.
+      let ph = eqb-true (recordOf σ s .phase) 1 h in
+      let r = runs I s ph in
+      choose (Fine (Seal s)) sealTarget (target σ s 0)
+      (λ p.
+      answered (Seal s) Committed refl refl (tt, (tt, tt))
+      (follows-tick (follows-rest G s (r .live) (sealedAt (length start) (T .place)) (r .live) refl refl
+      (eq-eqb (tally (T .mine s .wrote) (length start)) 0 (none-written I s lt ph (inside I s k (λ e. omega arith)) p)))))
+      (λ c p.
+      answered (Seal s) Sealed refl refl (tt, tt)
+      (follows-tick (follows-on G s (r .live) (sealedAt (length start) (T .place)) (r .live) refl refl (λ d. absurd (clash (T .mine s .done) d (r .open′)))))))
+
+  abandon-fine : (s : ℕ) → Fine (Abandon s) (planOf (Abandon s) σ)
+  unfolding planOf plan answer observe tells ending serialStep
+  abandon-fine s =
+      passing (Abandon s) (eqb (recordOf σ s .phase) 1 || eqb (recordOf σ s .phase) 2) Cancel
+      (λ lt k h.
+      test (eqb (recordOf σ s .phase) 1)
+      (λ q. let r = runs I s (eqb-true (recordOf σ s .phase) 1 q) in gave-up (r .live) (r .open′))
+      (λ q.
+      let ph = eqb-true (recordOf σ s .phase) 2 (rw q at h) in
+      let r : Promoting start (T .commits) (T .place) (recordOf σ s .next) (look σ s) (T .mine s) = rw ph at (I .link s) in
+      gave-up (r .live) (r .open′)))
+    where
+      gave-up : T .mine s .live ≡ true → T .mine s .done ≡ false → Serially start T z (Abandon s) Done
+      gave-up l d = answered (Abandon s) Done refl refl (tt, tt) (follows-tick (follows-end G s l d))
+
+  -- where a begin is told, no transaction is open
+  abbrev Alone : List Told → Type 0
+  Alone ws = All (λ (w : Told). begins w ≡ true → (u : ℕ) → T .mine u .live ≡ false) ws
+
+  begin-fine : (s : ℕ) → Alone (tells (Begin s) (answerOf (Begin s) σ)) → Serially start T z (Begin s) (answerOf (Begin s) σ)
+  unfolding answerOf planOf plan answer observe tells ending starts serialStep
+  begin-fine s =
+      guarded (λ p. Alone (tells (Begin s) (answer s p σ)) → Fine (Begin s) p)
+      (σ .lent) s (recordOf σ s) (eqb (recordOf σ s .phase) 0) Start
+      (λ _. refused 7 refl (Begin s)) (λ _. refused 1 refl (Begin s)) (λ _. refused 9 refl (Begin s)) (λ _. refused 2 refl (Begin s))
+      (λ _ _ _ alone. answered (Begin s) Done refl refl (tt, tt) (follows-tick (follows-start G s (alone .0 refl))))
+
+  advance-fine : (s : ℕ) → Fine (Advance s) (planOf (Advance s) σ)
+  unfolding planOf plan advanceTarget promotePlan claimed answer releaseAnswer observe tells ending serialStep target
+  advance-fine s =
+      passing (Advance s) (leb 2 (recordOf σ s .phase)) (advanceTarget s (logOf σ s) (recordOf σ s) (lockAt (σ .lent .locks)) (targetIn (logOf σ s) (recordOf σ s .count) (recordOf σ s .next)))
+      (λ lt k h.
+      let two = leb-true 2 (recordOf σ s .phase) h in
+      choose (Fine (Advance s)) (advanceTarget s (logOf σ s) (recordOf σ s) (lockAt (σ .lent .locks))) (target σ s (recordOf σ s .next)) (λ _. refused 9 refl (Advance s))
+      (λ c tgt.
+      let lc = inside-wrote I s k (λ e. omega arith) c (target-some σ s (recordOf σ s .next) tgt .1) in
+      let l = lockAt (σ .lent .locks) c in
+      split (Fine (Advance s)) (eqb (recordOf σ s .phase) 2)
+      (λ q.
+      let r : Promoting start (T .commits) (T .place) (recordOf σ s .next) (look σ s) (T .mine s) = rw (eqb-true (recordOf σ s .phase) 2 q) at (I .link s) in
+      let a = alone s (r .live) in
+      split (Fine (Advance s)) (not (eqb (l .claimant) 16) && not (eqb (l .claimant) s))
+      (λ cl.
+      let x = eqb-false (l .claimant) 16 (not-true (eqb (l .claimant) 16) (both-l (not (eqb (l .claimant) 16)) (not (eqb (l .claimant) s)) cl)) in
+      let y = eqb-false (l .claimant) s (not-true (eqb (l .claimant) s) (both-r (not (eqb (l .claimant) 16)) (not (eqb (l .claimant) s)) cl)) in
+      absurd (y (own-claim I s a c lc x .0)))
+      (λ _. split (Fine (Advance s)) (eqb (otherReaders s (l .readers)) 0) (λ _. moved (r .live))
+      (λ z. absurd (eqb-false (otherReaders s (l .readers)) 0 z (no-readers I s a c lc)))))
+      (λ q. split (Fine (Advance s)) (eqb (recordOf σ s .phase) 3)
+      (λ q′. let r : Finishing (T .mine s) = rw (eqb-true (recordOf σ s .phase) 3 q′) at (I .link s) in moved (r .live))
+      (λ q′.
+      let a = eqb-false (recordOf σ s .phase) 2 q in
+      let b = eqb-false (recordOf σ s .phase) 3 q′ in
+      let ph : recordOf σ s .phase ≡ 4 = omega (arith, phase-le I s k) in
+      let r : Finishing (T .mine s) = rw ph at (I .link s) in
+      split (Serially start T z (Advance s)) (some? (target σ s (suc c))) (λ _. moved (r .live))
+      (λ _. answered (Advance s) Committed refl refl (tt, tt) (follows-tick (follows-commit G s (r .live) closed refl refl refl (r .done))))))))
+    where
+      moved : T .mine s .live ≡ true → Serially start T z (Advance s) Moved
+      moved l = answered (Advance s) Moved refl refl (tt, tt) (follows-tick (follows-on G s l (advanced (length start) (T .place)) l refl refl (λ d. rw d)))
+
+  pub serially : (k : Call) → Alone (tells k (answerOf k σ)) → Serially start T z k (answerOf k σ)
+  unfolding answerOf planOf
+  serially (Begin s) b = begin-fine s b
+  serially (Read s c) b = read-fine s c
+  serially (Write s c v) b = write-fine s c v
+  serially (Seal s) b = seal-fine s
+  serially (Advance s) b = advance-fine s
+  serially (Abandon s) b = abandon-fine s
+  serially (Peek s c) b = quiet (Peek s c) _ (peeks σ s c)
