@@ -18,12 +18,12 @@ use Rattle.model.proofs.Tools.{test}
 use Rattle.store.specs.Lent.{storeOf}
 use Rattle.transcript.specs.declared.Printed.{Printed}
 use Rattle.transcript.specs.declared.Printed.the-variants.{Bytes, Short}
-use Rattle.transcript.specs.Items.{Item, itemsAt, values, classes}
-use Rattle.transcript.specs.Lines.{sizeLine, setUpLine}
+use Rattle.text.specs.Items.{Item, itemsAt, values, classes}
+use Rattle.text.specs.Lines.{sizeLine, setUpLine}
 use Rattle.transcript.specs.Replay.{Replayed, replayed, replaying}
 use Rattle.transcript.specs.Output.{Out, out, put, Leading, Fitted, Roomy}
 use Rattle.transcript.specs.Transcript.{given, callsText, afterSetUp, setUpText, itemsText, transcript}
-use Rattle.transcript.proofs.Puts.{ends-at}
+use Rattle.text.proofs.Puts.{ends-at}
 
 -- ---- set-up on lent buffers
 

@@ -9,15 +9,15 @@ use Rattle.model.specs.declared.Answer.{Answer}
 use Rattle.model.specs.declared.Call.{Call}
 use Rattle.model.specs.Buffers.{Store}
 use Rattle.model.specs.Step.{Outcome, outcome, effect, step, answerOf}
-use Rattle.transcript.specs.declared.Next.{Next}
-use Rattle.transcript.specs.declared.Next.the-variants as next
-use Rattle.transcript.specs.Items.{Item, asked, following}
-use Rattle.transcript.specs.Lines.{answerLine, cellLines}
+use Rattle.text.specs.declared.Next.{Next}
+use Rattle.text.specs.declared.Next.the-variants as next
+use Rattle.text.specs.Items.{Item, asked, following}
+use Rattle.text.specs.Lines.{answerLine, cellLines}
 use Rattle.transcript.specs.Output.{Out, out, put, CallPrinted, callPrinted, turn, stopLine}
 use Rattle.transcript.specs.Transcript.{callsText}
 use Rattle.transcript.proofs.Forward.{text-asked, text-end, text-refused, text-late-cell}
-use Rattle.transcript.proofs.Next.{the-type}
-use Rattle.transcript.proofs.Puts.{after}
+use Rattle.text.proofs.Next.{the-type}
+use Rattle.text.proofs.Puts.{after}
 
 module _ (k : Call) (i : ℕ) (o : List ℕ) (at : ℕ) (σ : Store) where
   pub turning : {x : Answer} {φ : Store} {a : ℕ} {p : List ℕ} → outcome x φ ≡ effect k σ → out a p ≡ put o at (answerLine i x) → callPrinted (out a p) φ ≡ turn k i o at σ

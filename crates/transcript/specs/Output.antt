@@ -13,12 +13,12 @@ use Rattle.model.specs.Slices.{Slice}
 use Rattle.model.specs.Step.{step, answerOf}
 use Rattle.store.specs.Lent.{before, afterwards}
 use Rattle.transcript.specs.declared.Turn.{Turn}
-use Rattle.transcript.specs.declared.Next.{Next}
-use Rattle.transcript.specs.declared.Next.the-variants as next
-use Rattle.transcript.specs.declared.Cells.{Cells}
-use Rattle.transcript.specs.declared.Cells.the-variants.{Found, TooMany}
-use Rattle.transcript.specs.Items.{itemsAt, values, classes, later}
-use Rattle.transcript.specs.Lines.{fieldLine, answerLine}
+use Rattle.text.specs.declared.Next.{Next}
+use Rattle.text.specs.declared.Next.the-variants as next
+use Rattle.text.specs.declared.Cells.{Cells}
+use Rattle.text.specs.declared.Cells.the-variants.{Found, TooMany}
+use Rattle.text.specs.Items.{itemsAt, values, classes, later}
+use Rattle.text.specs.Lines.{fieldLine, answerLine}
 use Rattle.transcript.specs.Transcript.{callsText}
 
 -- ---- one text

@@ -11,7 +11,7 @@ use model::Sessions;
 ghost use Prim.Native.Nat.{_+_, _≤_, _<_};
 ghost use lib.ListN.{length};
 ghost use Rattle.store.specs.Lent.{before};
-ghost use Rattle.transcript.specs.Items.{itemsAt};
+ghost use Rattle.text.specs.Items.{itemsAt};
 ghost use Rattle.transcript.specs.Output.{Puts, PutsCalls, TakesTurn, Leading, Fitted, Roomy};
 ghost use Rattle.transcript.specs.Transcript.{given, setUpText, transcript};
 

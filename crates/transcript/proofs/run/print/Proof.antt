@@ -1,9 +1,9 @@
 -- `transcript::run::print` meets its contract: too long an input, too many cells, or the cells and what follows. Assumes nothing.
 use native.Mathlib.Omega.{arith}
 use mathlib.Core.Path.{refl, _∙_, ap, subst}
-use Rattle.transcript.specs.Lines.{sizeLine}
+use Rattle.text.specs.Lines.{sizeLine}
 use Rattle.transcript.specs.Output.{put, ReadCells}
-use Rattle.transcript.proofs.Puts.{ends-at}
+use Rattle.text.proofs.Puts.{ends-at}
 use Rattle.transcript.proofs.Starting.{size-text, too-many-text}
 use borrow.Author.Needs.{needs}
 use Rattle.transcript.proofs.run.print.Statement.{statement}

@@ -5,11 +5,11 @@ use native.Mathlib.Omega.{arith}
 use mathlib.Core.Path.{_≡_, refl, sym, _∙_, ap, subst}
 use lib.ListN.{length}
 use Rattle.store.specs.Lent.{storeOf}
-use Rattle.transcript.specs.Items.{itemsAt, following}
+use Rattle.text.specs.Items.{itemsAt, following}
 use Rattle.transcript.specs.Output.{put}
 use Rattle.transcript.specs.Transcript.{callsText}
-use Rattle.transcript.proofs.Puts.{then}
-use Rattle.transcript.proofs.Scanning.{Advances, advances, items-by}
+use Rattle.text.proofs.Puts.{then}
+use Rattle.text.proofs.Scanning.{Advances, advances, items-by}
 use Rattle.transcript.proofs.Turns.{turned-text, stops}
 use borrow.Author.Needs.{needs}
 use Rattle.transcript.proofs.run.run_calls.Statement.{statement}
