@@ -16,9 +16,9 @@ ghost use Rattle.transcript.specs.Transcript.{transcript};
 // The calls from a place on, each with its line, then the line of what ends them and the cells.
 fn run_calls(
     input: &[u8],
-    from: usize,
+    mut place: usize,
     output: &mut [u8],
-    sessions: Sessions,
+    mut sessions: Sessions,
     values: &mut [u32],
     classes: &[u8],
     readers: &mut [u16],
@@ -26,11 +26,9 @@ fn run_calls(
     exclusives: &mut [u8],
     logs: &mut [u32],
 ) -> usize
-    requires { ⌜ (from ≤ length (now input)) × (length (now input) ≤ 65536) × (409600 ≤ length (now output)) × (length (now values) ≤ 1024) ⌝ }
-    ensures { λ r. ⌜ PutsCalls input from output (before values classes readers claimants exclusives logs sessions) r ⌝ }
+    requires { ⌜ (place ≤ length (now input)) × (length (now input) ≤ 65536) × (409600 ≤ length (now output)) × (length (now values) ≤ 1024) ⌝ }
+    ensures { λ r. ⌜ PutsCalls input place output (before values classes readers claimants exclusives logs sessions) r ⌝ }
 {
-    let mut sessions = sessions;
-    let mut place = from;
     let mut ordinal: u32 = 1;
     let mut at = 0;
     loop {

@@ -15,7 +15,7 @@ use Rattle.transcript.proofs.run.run_calls.Statement.{statement}
 use Rattle.transcript.proofs.run.run_calls.Tie as tie
 
 abbrev Inv-loop : tie.InvT-loop
-Inv-loop input from output₀ values₀ classes readers₀ claimants₀ exclusives₀ logs₀ sessions₀ place₀ ordinal₀ at₀ output values readers claimants exclusives logs sessions place ordinal at =
+Inv-loop input place₀ output₀ sessions₀ values₀ classes readers₀ claimants₀ exclusives₀ logs₀ ordinal₀ at₀ place output sessions values readers claimants exclusives logs ordinal at =
     (place ≤ length input)
     × (4 * ordinal ≤ place + 4)
     × (at + 21 ≤ 21 * ordinal)
@@ -26,10 +26,10 @@ Inv-loop input from output₀ values₀ classes readers₀ claimants₀ exclusiv
     × (length exclusives ≡ length exclusives₀)
     × (length logs ≡ length logs₀)
     × (put output at (callsText ordinal (storeOf values classes readers claimants exclusives logs sessions) (itemsAt input place))
-    ≡ put output₀ 0 (callsText 1 (storeOf values₀ classes readers₀ claimants₀ exclusives₀ logs₀ sessions₀) (itemsAt input from)))
+    ≡ put output₀ 0 (callsText 1 (storeOf values₀ classes readers₀ claimants₀ exclusives₀ logs₀ sessions₀) (itemsAt input place₀)))
 
 abbrev μ-loop : tie.MeasureT-loop
-μ-loop input from output₀ values₀ classes readers₀ claimants₀ exclusives₀ logs₀ sessions₀ place₀ ordinal₀ at₀ output values readers claimants exclusives logs sessions place ordinal at = length input - place
+μ-loop input place₀ output₀ sessions₀ values₀ classes readers₀ claimants₀ exclusives₀ logs₀ ordinal₀ at₀ place output sessions values readers claimants exclusives logs ordinal at = length input - place
 
 loop-holds : tie.Need-loop-holds Inv-loop μ-loop
 loop-holds c = (omega arith, omega arith, omega arith, refl, refl, refl, refl, refl, refl, refl)
