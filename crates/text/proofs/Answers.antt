@@ -1,17 +1,16 @@
--- The words of an answer: its number, and after 101 the value.
+-- The line of an answer: the ordinal and the answer's number, and after 101 the value.
 use Prim.Native.Nat.{ℕ}
-use mathlib.Core.Path.{_≡_, refl}
-use mathlib.Core.List.{[], _∷_, _++_}
+use mathlib.Core.Path.{_≡_, refl, sym, _∙_, ap}
+use mathlib.Core.List.{List, [], _∷_, _++_, append-assoc}
 use denote.Enum.Declared.{tagOf}
 use types.Run.{OneOf, miss}
 use Rattle.model.specs.declared.Answer.{Answer}
 use Rattle.model.specs.declared.Answer.the-variants.{Done, Value, Sealed, Moved, Waiting, Committed, Refused}
 use Rattle.model.specs.Effects.{number}
 use Rattle.model.proofs.Answer.{the-type}
-use Rattle.text.specs.Lines.{word, space, newline, answerWords}
+use Rattle.text.specs.Lines.{word, space, newline, answerWords, answerLine}
 
--- of an answer that is no value
-pub plain-words : (a : Answer) → OneOf (0 ∷ 2 ∷ 3 ∷ 4 ∷ 5 ∷ 6 ∷ []) (tagOf the-type a) → answerWords a ≡ word (number a) newline
+plain-words : (a : Answer) → OneOf (0 ∷ 2 ∷ 3 ∷ 4 ∷ 5 ∷ 6 ∷ []) (tagOf the-type a) → answerWords a ≡ word (number a) newline
 unfolding answerWords
 plain-words Done h = refl
 plain-words (Value v) h = absurd (miss (0 ∷ 2 ∷ 3 ∷ 4 ∷ 5 ∷ 6 ∷ []) 1 tt h)
@@ -21,7 +20,12 @@ plain-words Waiting h = refl
 plain-words Committed h = refl
 plain-words (Refused k) h = refl
 
+-- of an answer that is no value
+pub plain-line : (i n : ℕ) (a : Answer) → n ≡ number a → OneOf (0 ∷ 2 ∷ 3 ∷ 4 ∷ 5 ∷ 6 ∷ []) (tagOf the-type a) → word i space ++ word n newline ≡ answerLine i a
+unfolding answerLine
+plain-line i n a e h = ap (λ (m : ℕ). word i space ++ word m newline) e ∙ ap (λ (t : List ℕ). word i space ++ t) (sym (plain-words a h))
+
 -- of a value
-pub value-words : (a : Answer) (n v : ℕ) → n ≡ number a → a ≡ Value v → word n space ++ word v newline ≡ answerWords a
-unfolding answerWords
-value-words a n v e h = rw (e, h)
+pub value-line : (i n v : ℕ) (a : Answer) → n ≡ number a → a ≡ Value v → (word i space ++ word n space) ++ word v newline ≡ answerLine i a
+unfolding answerLine answerWords
+value-line i n v a e h = rw (e, h) (append-assoc (word i space) _ _)

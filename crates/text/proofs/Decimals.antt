@@ -61,9 +61,9 @@ pub length-word : (k n end : ℕ) → n < 10 ^ suc k → length (word n end) ≤
 unfolding word
 length-word k n end h = simp length-append (omega (arith, length-decimal k n h))
 
+pub length-pair : (j k n m end : ℕ) → n < 10 ^ suc j → m < 10 ^ suc k → length (word n space ++ word m end) ≤ j + k + 4
+length-pair j k n m end h i = simp length-append (omega (arith, length-word j n space h, length-word k m end i))
+
 pub length-cell : (i v : ℕ) → i < 10000 → v < 4294967296 → length (cellLine i v) ≤ 18
 unfolding cellLine
-length-cell i v h k =
-    let w = length-word 3 i space (omega arith) in
-    let x = length-word 9 v newline (omega arith) in
-    simp length-append (omega arith)
+length-cell i v h k = omega (arith, length-pair 3 9 i v newline (omega arith) (omega arith))

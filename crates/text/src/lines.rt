@@ -6,7 +6,7 @@ ghost use mathlib.Core.List.{_∷_, [], _++_};
 ghost use Prim.Native.Nat.{_+_, _*_, _≤_, _<_};
 ghost use lib.ListN.{length};
 ghost use Rattle.text.specs.Decimal.{decimal};
-ghost use Rattle.text.specs.Lines.{word, sizeLine, setUpLine, fieldLine, cellLine, answerLine, cellLines};
+ghost use Rattle.text.specs.Lines.{word, space, sizeLine, setUpLine, fieldLine, cellLine, answerLine, cellLines};
 ghost use Rattle.text.specs.Output.{out, put, Puts, stopLine};
 
 const SPACE: u8 = 32;
@@ -40,6 +40,15 @@ fn put_word(output: &mut [u8], at: usize, n: u32, end: u8) -> usize
 {
     let last = put_number(output, at, n);
     put_byte(output, last, end)
+}
+
+// Two numbers with a space between them, and what parts or ends them.
+fn put_pair(output: &mut [u8], at: usize, n: u32, m: u32, end: u8) -> usize
+    requires { ⌜ at + length (word n space ++ word m end) ≤ length (now output) ⌝ }
+    ensures { λ r. ⌜ out r (now (output .exit)) ≡ put (now (output .entry)) at (word n space ++ word m end) ⌝ }
+{
+    let a = put_word(output, at, n, SPACE);
+    put_word(output, a, m, end)
 }
 
 // A text as it is.
@@ -78,8 +87,7 @@ fn put_field(output: &mut [u8], at: usize, place: u32, n: u8) -> usize
     ensures { λ r. ⌜ Puts output at (fieldLine place n) 16 r ⌝ }
 {
     let a = put_text(output, at, b"field ");
-    let b = put_word(output, a, place, SPACE);
-    put_word(output, b, n as u32, NEWLINE)
+    put_pair(output, a, place, n as u32, NEWLINE)
 }
 
 // The line of what ends the calls; none where the input ends.
@@ -104,13 +112,12 @@ pub fn put_answer(output: &mut [u8], at: usize, ordinal: u32, answer: Answer) ->
     requires { ⌜ (ordinal < 100000) × (at + 21 ≤ length (now output)) ⌝ }
     ensures { λ r. ⌜ Puts output at (answerLine ordinal answer) 21 r ⌝ }
 {
-    let n = answer.number();
-    let a = put_word(output, at, ordinal, SPACE);
+    let n = answer.number() as u32;
     let Answer::Value(v) = answer else {
-        return put_word(output, a, n as u32, NEWLINE);
+        return put_pair(output, at, ordinal, n, NEWLINE);
     };
-    let b = put_word(output, a, n as u32, SPACE);
-    put_word(output, b, v, NEWLINE)
+    let a = put_pair(output, at, ordinal, n, SPACE);
+    put_word(output, a, v, NEWLINE)
 }
 
 // c CELL VALUE
@@ -118,10 +125,8 @@ fn put_cell(output: &mut [u8], at: usize, cell: u32, value: u32) -> usize
     requires { ⌜ (cell < 10000) × (at + 18 ≤ length (now output)) ⌝ }
     ensures { λ r. ⌜ out r (now (output .exit)) ≡ put (now (output .entry)) at (cellLine cell value) ⌝ }
 {
-    let a = put_byte(output, at, 99);
-    let b = put_byte(output, a, SPACE);
-    let c = put_word(output, b, cell, SPACE);
-    put_word(output, c, value, NEWLINE)
+    let a = put_text(output, at, b"c ");
+    put_pair(output, a, cell, value, NEWLINE)
 }
 
 // A line for each cell.
