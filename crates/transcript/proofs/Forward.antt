@@ -6,8 +6,8 @@ use Rattle.model.specs.declared.Call.{Call}
 use Rattle.model.specs.Buffers.{Store}
 use Rattle.model.specs.History.{run, events}
 use Rattle.model.specs.Step.{step, answerOf}
-use Rattle.transcript.specs.Items.{Item, cell, asked, refused, calls}
-use Rattle.transcript.specs.Lines.{fieldLine, answerLine, answerLines, cellLines, endLine}
+use Rattle.text.specs.Items.{Item, cell, asked, refused, calls}
+use Rattle.text.specs.Lines.{fieldLine, answerLine, answerLines, cellLines, endLine}
 use Rattle.transcript.specs.Transcript.{callsText}
 
 module _ (σ : Store) (k : Call) where

@@ -7,8 +7,8 @@ use Rattle.model.specs.Step.{setUp}
 use Rattle.model.specs.History.{run, events}
 use Rattle.model.specs.Isolation.{Demand3}
 use Rattle.model.proofs.Demand3.{demand3}
-use Rattle.transcript.specs.Items.{itemsAt, later}
-use Rattle.transcript.specs.Lines.{answerLines, cellLines, endLine}
+use Rattle.text.specs.Items.{itemsAt, later}
+use Rattle.text.specs.Lines.{answerLines, cellLines, endLine}
 use Rattle.transcript.specs.Transcript.{callsText, afterSetUp, setUpText, itemsText, transcript, givenBy, callsOf, Accepted}
 
 -- a line for each event, in the order of the calls, then what ends them, then the values that the calls leave

@@ -1,10 +1,5 @@
-pub mod Answers
-pub mod CellLines
-pub mod Decimals
 pub mod Forward
 pub mod Isolated
-pub mod Puts
-pub mod Scanning
 pub mod Starting
 pub mod Turns
 pub mod Worked

@@ -18,12 +18,13 @@ use Rattle.model.proofs.Tools.{test}
 use Rattle.store.specs.Lent.{storeOf}
 use Rattle.transcript.specs.declared.Printed.{Printed}
 use Rattle.transcript.specs.declared.Printed.the-variants.{Bytes, Short}
-use Rattle.transcript.specs.Items.{Item, itemsAt, values, classes}
-use Rattle.transcript.specs.Lines.{sizeLine, setUpLine}
+use Rattle.text.specs.Items.{Item, itemsAt, values, classes}
+use Rattle.text.specs.Lines.{sizeLine, setUpLine}
 use Rattle.transcript.specs.Replay.{Replayed, replayed, replaying}
-use Rattle.transcript.specs.Output.{Out, out, put, Leading, Fitted, Roomy}
+use Rattle.text.specs.Output.{Out, out, put, Leading}
+use Rattle.transcript.specs.Output.{Fitted}
 use Rattle.transcript.specs.Transcript.{given, callsText, afterSetUp, setUpText, itemsText, transcript}
-use Rattle.transcript.proofs.Puts.{ends-at}
+use Rattle.text.proofs.Puts.{ends-at}
 
 -- ---- set-up on lent buffers
 
@@ -91,19 +92,24 @@ leading-text input vs ks n place h l = simp (le-leb _ _ h, l .cells, l .kinds, l
 
 -- ---- what is lent
 
--- the parts that set-up is handed
-pub fitted : (vs ks readers claimants exclusives logs : List ℕ) (n o : ℕ) → n ≤ 1024 → Roomy o (length vs) (length ks) (length readers) (length claimants) (length exclusives) (length logs)
-    → Fitted (take n vs) (take n ks) (take n readers) (take n claimants) (take n exclusives) (take 2048 logs)
-fitted vs ks readers claimants exclusives logs n o h r =
-    let first : (xs : List ℕ) → 1024 ≤ length xs → length (take n xs) ≡ n = λ xs k. length-take-le n xs (omega arith) in
-    let v = first vs (r .values) in
+-- the cells that were read
+pub taken-few : (vs : List ℕ) (n : ℕ) → n ≤ 1024 → length vs ≡ 1024 → length (take n vs) ≤ 1024
+taken-few vs n few v = omega (arith, length-take-le n vs (omega arith))
+
+pub taken-both : (vs ks : List ℕ) (n : ℕ) → n ≤ 1024 → length vs ≡ 1024 → length ks ≡ 1024 → length (take n ks) ≡ length (take n vs)
+taken-both vs ks n few v k = length-take-le n ks (omega arith) ∙ sym (length-take-le n vs (omega arith))
+
+-- what set-up is handed
+pub fitted : (vs ks readers claimants exclusives logs : List ℕ) → length vs ≤ 1024 → length ks ≡ length vs → length readers ≡ 1024 → length claimants ≡ 1024 → length exclusives ≡ 1024 → length logs ≡ 2048
+    → Fitted vs ks (take (length vs) readers) (take (length vs) claimants) (take (length vs) exclusives) logs
+fitted vs ks readers claimants exclusives logs few classed r c e l =
     record {
-      few = omega arith;
-      classed = first ks (r .classes) ∙ sym v;
-      read = first readers (r .readers) ∙ sym v;
-      claimed = first claimants (r .claimants) ∙ sym v;
-      marked = first exclusives (r .exclusives) ∙ sym v;
-      logged = length-take-le 2048 logs (r .logs);
+      few = few;
+      classed = classed;
+      read = length-take-le _ readers (omega arith);
+      claimed = length-take-le _ claimants (omega arith);
+      marked = length-take-le _ exclusives (omega arith);
+      logged = l;
     }
 
 -- ---- the whole answer

@@ -1,4 +1,4 @@
--- One call: what the store's step and the line's writer ensure is the call's turn, and after it the rest of the text is that of the items behind it.
+-- One call: after the store's step and the answer's line the rest of the text is that of the items behind it.
 use Prim.Native.Nat.{ℕ, _+_}
 use native.Mathlib.Numerals.{add-one}
 use mathlib.Core.Path.{_≡_, sym, _∙_, ap}
@@ -9,30 +9,24 @@ use Rattle.model.specs.declared.Answer.{Answer}
 use Rattle.model.specs.declared.Call.{Call}
 use Rattle.model.specs.Buffers.{Store}
 use Rattle.model.specs.Step.{Outcome, outcome, effect, step, answerOf}
-use Rattle.transcript.specs.declared.Next.{Next}
-use Rattle.transcript.specs.declared.Next.the-variants as next
-use Rattle.transcript.specs.Items.{Item, asked, following}
-use Rattle.transcript.specs.Lines.{answerLine, cellLines}
-use Rattle.transcript.specs.Output.{Out, out, put, CallPrinted, callPrinted, turn, stopLine}
+use Rattle.text.specs.declared.Next.{Next}
+use Rattle.text.specs.declared.Next.the-variants as next
+use Rattle.text.specs.Items.{Item, asked, following}
+use Rattle.text.specs.Lines.{answerLine, cellLines}
+use Rattle.text.specs.Output.{out, put, stopLine}
 use Rattle.transcript.specs.Transcript.{callsText}
 use Rattle.transcript.proofs.Forward.{text-asked, text-end, text-refused, text-late-cell}
-use Rattle.transcript.proofs.Next.{the-type}
-use Rattle.transcript.proofs.Puts.{after}
+use Rattle.text.proofs.Next.{the-type}
+use Rattle.text.proofs.Puts.{after}
 
 module _ (k : Call) (i : ℕ) (o : List ℕ) (at : ℕ) (σ : Store) where
-  pub turning : {x : Answer} {φ : Store} {a : ℕ} {p : List ℕ} → outcome x φ ≡ effect k σ → out a p ≡ put o at (answerLine i x) → callPrinted (out a p) φ ≡ turn k i o at σ
-  unfolding effect turn
-  turning {x} {φ} {a} {p} e f =
+  -- what is left of the text after a call
+  pub turned-text : (items : List Item) {x : Answer} {φ : Store} {a : ℕ} {p : List ℕ} → outcome x φ ≡ effect k σ → out a p ≡ put o at (answerLine i x) → put p a (callsText (i + 1) φ items) ≡ put o at (callsText i σ (asked k ∷ items))
+  unfolding effect
+  turned-text items {x} {φ} {a} {p} e f =
       let said : x ≡ answerOf k σ = ap (λ (r : Outcome). r .answer) e in
       let left : φ ≡ step k σ = ap (λ (r : Outcome). r .store) e in
-      ap (λ (w : Out). callPrinted w φ) (f ∙ ap (λ (y : Answer). put o at (answerLine i y)) said) ∙ ap (callPrinted (put o at (answerLine i (answerOf k σ)))) left
-
-  -- what is left of the text after a call
-  pub turned-text : (items : List Item) {φ : Store} {a : ℕ} {p : List ℕ} → callPrinted (out a p) φ ≡ turn k i o at σ → put p a (callsText (i + 1) φ items) ≡ put o at (callsText i σ (asked k ∷ items))
-  unfolding turn
-  turned-text items {φ} {a} {p} e =
-      let line : out a p ≡ put o at (answerLine i (answerOf k σ)) = ap (λ (t : CallPrinted). t .out) e in
-      let left : φ ≡ step k σ = ap (λ (t : CallPrinted). t .store) e in
+      let line : out a p ≡ put o at (answerLine i (answerOf k σ)) = f ∙ ap (λ (y : Answer). put o at (answerLine i y)) said in
       rw (add-one, left) (after o at _ _ line ∙ ap (put o at) (sym (text-asked σ k i items)))
 
 -- what is no call ends them

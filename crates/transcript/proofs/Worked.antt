@@ -5,9 +5,9 @@ use Rattle.model.specs.Computing.{computing, counting}
 use Rattle.field.specs.Field.{callAt, readingOf, readingAt}
 use Rattle.field.specs.LittleEndian.{number, numberAt}
 use Rattle.field.specs.Table.{table, find, layoutOf}
-use Rattle.transcript.specs.Decimal.{digits, decimal}
-use Rattle.transcript.specs.Items.{nextOfField, nextOf, following, itemsWithin, itemsAt, values, classes, later, calls}
-use Rattle.transcript.specs.Lines.{word, sizeLine, setUpLine, fieldLine, cellLine, answerWords, answerLine, answerLines, cellLines, endLine}
+use Rattle.text.specs.Decimal.{digits, decimal}
+use Rattle.text.specs.Items.{nextOfField, nextOf, following, itemsWithin, itemsAt, values, classes, later, calls}
+use Rattle.text.specs.Lines.{word, sizeLine, setUpLine, fieldLine, cellLine, answerWords, answerLine, answerLines, cellLines, endLine}
 use Rattle.transcript.specs.Transcript.{given, callsText, afterSetUp, setUpText, itemsText, transcript}
 use Rattle.transcript.specs.Worked.{Worked, worked, replayed}
 

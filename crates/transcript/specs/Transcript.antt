@@ -12,8 +12,8 @@ use Rattle.model.specs.Buffers.{Store, idle}
 use Rattle.model.specs.Effects.{number}
 use Rattle.model.specs.Step.{setUpAnswer, setUp}
 use Rattle.model.specs.History.{run, events}
-use Rattle.transcript.specs.Items.{Item, itemsAt, values, classes, later, calls}
-use Rattle.transcript.specs.Lines.{sizeLine, setUpLine, answerLines, cellLines, endLine}
+use Rattle.text.specs.Items.{Item, itemsAt, values, classes, later, calls}
+use Rattle.text.specs.Lines.{sizeLine, setUpLine, answerLines, cellLines, endLine}
 
 -- what set-up is given for the starting cells: nothing in locks, logs and records
 unfoldable pub given : List ℕ → List ℕ → Store

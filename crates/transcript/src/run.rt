@@ -1,62 +1,24 @@
-// Set-up, and the calls.
-use crate::Cells;
-use crate::Next;
-use crate::Turn;
-use crate::items::next_at;
-use crate::leading;
-use crate::lines;
-use model::Call;
-use model::Session;
+// The cells, set-up, and the calls.
 use model::Sessions;
-ghost use Prim.Native.Nat.{_+_, _≤_, _<_};
+use text::Cells;
+use text::Next;
+use text::items::next_at;
+use text::leading::read_cells;
+use text::lines;
+ghost use mathlib.Core.Path.{_≡_};
+ghost use Prim.Native.Nat.{_≤_};
 ghost use lib.ListN.{length};
 ghost use Rattle.store.specs.Lent.{before};
-ghost use Rattle.transcript.specs.Items.{itemsAt};
-ghost use Rattle.transcript.specs.Output.{Puts, PutsCalls, TakesTurn, Leading, Fitted, Roomy};
-ghost use Rattle.transcript.specs.Transcript.{given, setUpText, transcript};
-
-// One call with its line.
-fn take_turn(
-    call: Call,
-    ordinal: u32,
-    output: &mut [u8],
-    at: usize,
-    sessions: Sessions,
-    values: &mut [u32],
-    classes: &[u8],
-    readers: &mut [u16],
-    claimants: &mut [u8],
-    exclusives: &mut [u8],
-    logs: &mut [u32],
-) -> Turn
-    requires { ⌜ (ordinal < 100000) × (at + 21 ≤ length (now output)) ⌝ }
-    ensures { λ r. ⌜ TakesTurn call ordinal output at values classes readers claimants exclusives logs sessions r ⌝ }
-{
-    let reply = store::step(
-        call,
-        sessions,
-        values,
-        classes,
-        readers,
-        claimants,
-        exclusives,
-        logs,
-    );
-    let answer = reply.answer;
-    let after = reply.sessions;
-    let end = lines::put_answer(output, at, ordinal, answer);
-    Turn {
-        at: end,
-        sessions: after,
-    }
-}
+ghost use Rattle.text.specs.Output.{Puts};
+ghost use Rattle.transcript.specs.Output.{PutsCalls, PutsSetUp, Fitted};
+ghost use Rattle.transcript.specs.Transcript.{transcript};
 
 // The calls from a place on, each with its line, then the line of what ends them and the cells.
 fn run_calls(
     input: &[u8],
-    from: usize,
+    mut place: usize,
     output: &mut [u8],
-    sessions: Sessions,
+    mut sessions: Sessions,
     values: &mut [u32],
     classes: &[u8],
     readers: &mut [u16],
@@ -64,24 +26,18 @@ fn run_calls(
     exclusives: &mut [u8],
     logs: &mut [u32],
 ) -> usize
-    requires { ⌜ (from ≤ length (now input)) × (length (now input) ≤ 65536) × (409600 ≤ length (now output)) × (length (now values) ≤ 1024) ⌝ }
-    ensures { λ r. ⌜ PutsCalls input from output (before values classes readers claimants exclusives logs sessions) r ⌝ }
+    requires { ⌜ (place ≤ length (now input)) × (length (now input) ≤ 65536) × (409600 ≤ length (now output)) × (length (now values) ≤ 1024) ⌝ }
+    ensures { λ r. ⌜ PutsCalls input place output (before values classes readers claimants exclusives logs sessions) r ⌝ }
 {
-    let mut sessions = sessions;
-    let mut place = from;
     let mut ordinal: u32 = 1;
     let mut at = 0;
     loop {
         let next = next_at(input, place);
         let Next::Call { call, length } = next else {
-            let end = lines::put_stop(output, at, place, next);
-            return lines::put_cells(output, end, &values[..]);
+            return lines::put_end(output, at, place, next, &values[..]);
         };
-        let t = take_turn(
+        let reply = store::step(
             call,
-            ordinal,
-            output,
-            at,
             sessions,
             values,
             classes,
@@ -90,16 +46,16 @@ fn run_calls(
             exclusives,
             logs,
         );
-        let after = t.sessions;
-        sessions = after;
-        at = t.at;
+        let answer = reply.answer;
+        sessions = reply.sessions;
+        at = lines::put_answer(output, at, ordinal, answer);
         ordinal += 1;
         place += length;
     }
 }
 
 // Set-up on the cells that were read, then the calls; a refused set-up is all that is printed.
-pub(crate) fn set_up_and_run(
+fn set_up_and_run(
     input: &[u8],
     from: usize,
     output: &mut [u8],
@@ -111,15 +67,10 @@ pub(crate) fn set_up_and_run(
     logs: &mut [u32],
 ) -> usize
     requires { ⌜ (from ≤ length (now input)) × (length (now input) ≤ 65536) × (409600 ≤ length (now output)) ⌝ ∗ ⌜ Fitted (now values) (now classes) (now readers) (now claimants) (now exclusives) (now logs) ⌝ }
-    ensures { λ r. ⌜ Puts output 0 (setUpText (given (now (values .entry)) (now (classes .entry))) (itemsAt (now (input .entry)) from)) 409600 r ⌝ }
+    ensures { λ r. ⌜ PutsSetUp input from output values classes r ⌝ }
 {
-    let records = [Session {
-        phase: 0,
-        count: 0,
-        next: 0,
-    }; 16];
     let reply = store::set_up(
-        Sessions { records },
+        model::all_idle(),
         &values[..],
         classes,
         readers,
@@ -147,66 +98,54 @@ pub(crate) fn set_up_and_run(
     )
 }
 
-// The text after the leading cells, `count` of them, which stand at the front of `values` and `classes`.
+// The same on locks and logs of its own.
 fn run_cells(
     input: &[u8],
-    count: usize,
-    place: usize,
+    from: usize,
     output: &mut [u8],
     values: &mut [u32],
     classes: &[u8],
-    readers: &mut [u16],
-    claimants: &mut [u8],
-    exclusives: &mut [u8],
-    logs: &mut [u32],
 ) -> usize
-    requires { ⌜ length (now input) ≤ 65536 ⌝ ∗ ⌜ Leading (now input) (now values) (now classes) count place ⌝ ∗ ⌜ Roomy (length (now output)) (length (now values)) (length (now classes)) (length (now readers)) (length (now claimants)) (length (now exclusives)) (length (now logs)) ⌝ }
-    ensures { λ r. ⌜ Puts output 0 (transcript (now (input .entry))) 409600 r ⌝ }
+    requires { ⌜ (from ≤ length (now input)) × (length (now input) ≤ 65536) × (409600 ≤ length (now output)) × (length (now values) ≤ 1024) × (length (now classes) ≡ length (now values)) ⌝ }
+    ensures { λ r. ⌜ PutsSetUp input from output values classes r ⌝ }
 {
+    let mut readers = [0u16; 1024];
+    let mut claimants = [0u8; 1024];
+    let mut exclusives = [0u8; 1024];
+    let mut logs = [0u32; 2048];
+    let count = values.len();
     set_up_and_run(
         input,
-        place,
+        from,
         output,
-        &mut values[..count],
-        &classes[..count],
+        values,
+        classes,
         &mut readers[..count],
         &mut claimants[..count],
         &mut exclusives[..count],
-        &mut logs[..2048],
+        &mut logs,
     )
 }
 
 // The whole text.
-pub(crate) fn print(
-    input: &[u8],
-    output: &mut [u8],
-    values: &mut [u32],
-    classes: &mut [u8],
-    readers: &mut [u16],
-    claimants: &mut [u8],
-    exclusives: &mut [u8],
-    logs: &mut [u32],
-) -> usize
-    requires { ⌜ Roomy (length (now output)) (length (now values)) (length (now classes)) (length (now readers)) (length (now claimants)) (length (now exclusives)) (length (now logs)) ⌝ }
+pub(crate) fn print(input: &[u8], output: &mut [u8]) -> usize
+    requires { ⌜ 409600 ≤ length (now output) ⌝ }
     ensures { λ r. ⌜ Puts output 0 (transcript (now (input .entry))) 409600 r ⌝ }
 {
     if 65536 < input.len() {
-        return lines::put_text(output, 0, b"size\n");
+        return lines::put_size(output, 0);
     }
-    let found = leading::read_cells(input, values, classes);
+    let mut values = [0u32; 1024];
+    let mut classes = [0u8; 1024];
+    let found = read_cells(input, &mut values, &mut classes);
     let Cells::Found { count, place } = found else {
         return lines::put_set_up(output, 0, 7);
     };
     run_cells(
         input,
-        count,
         place,
         output,
-        values,
-        &classes[..],
-        readers,
-        claimants,
-        exclusives,
-        logs,
+        &mut values[..count],
+        &classes[..count],
     )
 }

@@ -1,0 +1,5 @@
+pub mod Answers
+pub mod CellLines
+pub mod Decimals
+pub mod Puts
+pub mod Scanning
