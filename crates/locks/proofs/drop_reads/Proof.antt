@@ -1,26 +1,24 @@
--- The loop keeps what the entries so far leave of the readers, and that the cells seen are theirs.
-use Prim.Native.Nat.{ℕ, _<_, _≤_, _-_}
+-- The loop keeps what the entries so far leave of the readers, and which cells are marked.
+use Prim.Native.Nat.{_<_, _≤_, _-_}
 use mathlib.Core.Path.{refl, _∙_, _≡_}
 use native.Mathlib.Omega.{arith}
 use lib.ListN.{length}
-use Rattle.model.specs.Buffers.{cellAt, slotIn}
-use Rattle.model.specs.Search.{some?}
+use Rattle.model.specs.Buffers.{cellAt}
 use Rattle.model.proofs.Laws.{below-is}
-use Rattle.locks.specs.Sweeps.{marked, DroppedSoFar}
-use Rattle.locks.proofs.Sweeps.{drop-start, drop-more, seen-start, seen-length, seen-more}
+use Rattle.locks.specs.Sweeps.{DroppedSoFar}
+use Rattle.locks.proofs.Sweeps.{Marks, drop-start, drop-more, marks-start, marks-more}
 use Rattle.locks.proofs.drop_reads.Statement.{statement}
 use Rattle.locks.proofs.drop_reads.Tie as tie
 
 abbrev Inv-loop : tie.InvT-loop
-Inv-loop log count readers₀ session seen₀ i₀ readers seen i =
-    (i ≤ count) × (length readers ≡ length readers₀) × DroppedSoFar log count i session readers₀ readers × (length seen ≡ 16)
-    × ((c : ℕ) → c < 1024 → marked seen c ≡ some? (slotIn log i c))
+Inv-loop log count readers₀ session written₀ i₀ readers written i =
+    (i ≤ count) × (length readers ≡ length readers₀) × DroppedSoFar log count i session readers₀ readers × Marks log i written
 
 abbrev μ-loop : tie.MeasureT-loop
-μ-loop log count readers₀ session seen₀ i₀ readers seen i = count - i
+μ-loop log count readers₀ session written₀ i₀ readers written i = count - i
 
 loop-holds : tie.Need-loop-holds Inv-loop μ-loop
-loop-holds c = (omega arith, refl, drop-start _ _ _ _, refl, seen-start _)
+loop-holds c = (omega arith, refl, drop-start _ _ _ _, marks-start _)
 
 drop-at-requires : tie.Need-drop-at-requires Inv-loop μ-loop
 drop-at-requires c κs =
@@ -45,9 +43,8 @@ loop-again c =
     let lt : cellAt (a .args .log .now) (l .i) < 1024 = omega arith in (
       omega arith,
       d .kept .1 .1 .0 ∙ l .inv .1,
-      drop-more _ _ _ _ _ _ _ h lt lR (l .inv .4) (l .inv .2) _ (d .ensures .1),
-      seen-length _ _ _ (l .inv .3) lt (l .inv .4) _ (d .ensures .0),
-      seen-more _ _ _ (l .inv .3) lt (l .inv .4) _ (d .ensures .0),
+      drop-more _ _ _ _ _ _ _ h lt lR (l .inv .3) (l .inv .2) _ (d .ensures .1),
+      marks-more _ _ _ (l .inv .3) lt _ (d .ensures .0),
     )
 
 same-length : tie.Need-same-length Inv-loop μ-loop
