@@ -17,8 +17,8 @@ use Rattle.model.specs.declared.Lock.{Lock}
 use Rattle.model.proofs.Laws.{Long, lock-sweep, leave-leave}
 use Rattle.model.proofs.Tools.{same, test, which, clash, orElse-none}
 use Rattle.log.proofs.Searches.{find-here, find-up}
-use Rattle.log.proofs.Targets.{first-judges}
-use Rattle.locks.specs.Sweeps.{locksOf, DroppedSoFar, marked, mark, droppedWritten, droppedAt}
+use Rattle.log.proofs.Targets.{first-judges, written-first, slot-some}
+use Rattle.locks.specs.Sweeps.{locksOf, DroppedSoFar, NoneWritten, marked, mark, droppedWritten, droppedAt}
 use Rattle.locks.proofs.Digits.{no-member, marked-same, marked-other}
 
 -- ---- one lock
@@ -156,22 +156,21 @@ module _ (log : List ℕ) (k s : ℕ) (written R : List ℕ) (c : ℕ) (e : c �
 
 -- ---- sealing
 
--- before the first entry nothing is marked and nothing is left
+-- with nothing written nothing is marked; before the first entry nothing is left
 none-marked : (c : ℕ) → c < 1024 → marked (replicate 16 0) c ≡ false
 unfolding marked
 none-marked c l = rw (getD-replicate {A = ℕ} 16 (c / 64) 0 0 (omega arith)) (no-member (c % 64))
 
-none-published : (log : List ℕ) (c : ℕ) → publishesIn log 0 c ≡ false
-unfolding publishesIn lookIn entryOf slotIn find
-none-published log c = refl
-
-pub marks-start : (log : List ℕ) → Marks log 0 (replicate 16 0)
-marks-start log =
+pub marks-none : (log : List ℕ) (i : ℕ) → NoneWritten log i → Marks log i (replicate 16 0)
+marks-none log i n =
     record {
       words = refl;
       entered = λ c l h. absurd (clash (marked (replicate 16 0) c) h (none-marked c l));
-      published = λ c l h. absurd (clash (publishesIn log 0 c) h (none-published log c));
+      published = λ c l h. let w = written-first log i c h in absurd (clash (publishes (entryAt log (w .0))) (w .2) (n (w .0) (slot-some log i c (w .1) .0)));
     }
+
+pub none-more : (log : List ℕ) (i : ℕ) → NoneWritten log i → publishes (entryAt log i) ≡ false → NoneWritten log (i + 1)
+none-more log i n p j l = same j i (λ e. rw e p) (λ d. n j (omega arith))
 
 pub drop-start : (log : List ℕ) (m s : ℕ) (R : List ℕ) → DroppedSoFar log m 0 s R R
 unfolding sweep
@@ -239,3 +238,11 @@ module _ (log : List ℕ) (m i s : ℕ) (written R₀ R : List ℕ) (li : i < m)
       first (λ q. q ∙ p)
       (λ _ q. test (publishesIn log i c) (λ h. absurd (clash (marked written c) (inv .published c lt h) t)) (λ h. q ∙ h)) in
       rw t (leave-on R C E c s ∙ ap (onLock c (leave s)) e ∙ sym (sweep-leaves C E eC eE u))))))
+
+-- with nothing written the cell is left
+pub drop-unmarked : (log : List ℕ) (m i s : ℕ) (R₀ R : List ℕ) → i < m → cellAt log i < 1024 → cellAt log i < length R₀ → NoneWritten log i
+    → publishes (entryAt log i) ≡ false → DroppedSoFar log m i s R₀ R → (c : ℕ) → c ≡ cellAt log i → (R′ : List ℕ) → R′ ≡ set R c (withoutReader s (getD R c 0))
+    → DroppedSoFar log m (i + 1) s R₀ R′
+drop-unmarked log m i s R₀ R li lt lR n p w c e R′ r =
+    drop-more log m i s (replicate 16 0) R₀ R li lt lR (marks-none log i n) w R′
+    (drop-left log i s (replicate 16 0) R c e p (rw e (none-marked (cellAt log i) lt)) R′ r .1)

@@ -1,7 +1,7 @@
 -- The locks as three lent lists, and what rolling back and sealing leave of them, by the session's log.
 use mathlib.Core.Path.{_≡_}
 use Prim.Native.Nat.{ℕ, _*_, _/_, _%_, _≤_, _<_}
-use mathlib.Core.Bool.{Bool, true, cond, not}
+use mathlib.Core.Bool.{Bool, true, false, cond, not}
 use mathlib.Core.List.{List}
 use lib.ListN.{length, getD, set}
 use denote.Ref.{now}
@@ -40,6 +40,10 @@ DroppedSoFar log m k s R R' =
 
 abbrev pub DropsReads : List ℕ → ℕ → ℕ → List ℕ → List ℕ → Type 0
 DropsReads log m s R R' = DroppedSoFar log m m s R R'
+
+-- none of the first k entries publishes
+abbrev pub NoneWritten : List ℕ → ℕ → Type 0
+NoneWritten log k = (j : ℕ) → j < k → publishes (entryAt log j) ≡ false
 
 -- a set of cells below 1,024 as sixteen words of 64 binary digits
 unfoldable pub marked : List ℕ → ℕ → Bool

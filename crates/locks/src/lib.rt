@@ -7,7 +7,7 @@ ghost use lib.Dec.{eqb};
 ghost use lib.ListN.{length, getD, set};
 ghost use Rattle.model.specs.Readers.{withReader, withoutReader, otherReaders};
 ghost use Rattle.model.specs.Buffers.{cellAt, publishes, lockAt, setLock, onLock, join, leave, vacate, withdraw, claim, acquire};
-ghost use Rattle.locks.specs.Sweeps.{Swept, DropsReads, marked, mark, locksBefore, locksAfter, RollsBack, DropsAt};
+ghost use Rattle.locks.specs.Sweeps.{Swept, DropsReads, DroppedSoFar, NoneWritten, marked, mark, locksBefore, locksAfter, RollsBack, DropsAt};
 ghost use Rattle.locks.specs.Changes.{LockFor, oneOf, ChangeFits, ChangesOne, Withdraws, CarriesOut, DropsIf};
 use model::Change;
 use model::Lock;
@@ -232,13 +232,34 @@ fn drop_at(log: &[u32], k: usize, readers: &mut [u16], written: &mut [u64; 16], 
     leave_at(readers, cell, session);
 }
 
-// Sealing: the session leaves the readers of each cell entered but not written.
+// The session leaves the readers of the cells before the first entry that publishes; the entry's index, or the count.
+fn drop_unwritten(log: &[u32], count: usize, readers: &mut [u16], session: u8) -> usize
+    requires { ⌜ (Swept session (now log) count (length (now readers))) × (length (now readers) ≤ 1024) ⌝ }
+    ensures { λ r. ⌜ (r ≤ count) × NoneWritten (now (log .entry)) r × DroppedSoFar (now (log .entry)) count r session (now (readers .entry)) (now (readers .exit)) ⌝ }
+{
+    let mut i = 0;
+    while i < count {
+        if log::publishes(log, i) {
+            return i;
+        }
+        let cell = log::cell_at(log, i);
+        leave_at(readers, cell, session);
+        i += 1;
+    }
+    i
+}
+
+// Sealing: the session leaves the readers of each cell entered but not written. Where nothing is written no cell need be marked.
 pub fn drop_reads(log: &[u32], count: usize, readers: &mut [u16], session: u8)
     requires { ⌜ (Swept session (now log) count (length (now readers))) × (length (now readers) ≤ 1024) ⌝ }
     ensures { λ _. ⌜ DropsReads (now (log .entry)) count session (now (readers .entry)) (now (readers .exit)) ⌝ }
 {
+    let first = drop_unwritten(log, count, readers, session);
+    if first == count {
+        return;
+    }
     let mut written = [0u64; 16];
-    let mut i = 0;
+    let mut i = first;
     while i < count {
         drop_at(log, i, readers, &mut written, session);
         i += 1;
