@@ -40,7 +40,7 @@ fn in_numbers(r: SessionReply) -> NumberReply
     }
 }
 
-// The same for begin, read and seal, each by the answers that it gives: one test or two in place of a jump by the tag.
+// The same for begin, and below for read and seal, each by the answers that it gives: one test or two in place of a jump by the tag.
 fn begin_in_numbers(r: SessionReply) -> NumberReply
     requires { ⌜ ofBegin (r .answer) ≡ true ⌝ }
     ensures { λ n. ⌜ n ≡ numbersOf r ⌝ }

@@ -5,7 +5,7 @@ ghost use mathlib.Core.Bool.{true, false, not, _&&_, _||_};
 ghost use Prim.Native.Nat.{_+_, _*_, _<_, _≤_};
 ghost use lib.Dec.{eqb};
 ghost use lib.ListN.{length};
-ghost use Rattle.model.specs.Buffers.{free, cap, fits, allFit, lengthsMatch};
+ghost use Rattle.model.specs.Buffers.{free, cap, allFit, lengthsMatch};
 ghost use Rattle.model.specs.Plans.{claimed, newCell, entriesFit, recordFits, guard, readPlan, writeCapped, writePlan, sealPlan, peekPlan};
 ghost use Rattle.model.specs.Turns.{TakesTurn, TurnsLog};
 ghost use Rattle.model.specs.declared.Plan.the-variants.{Start, Cancel};
