@@ -2,8 +2,10 @@
 mod fields;
 
 ghost use mathlib.Core.Path.{_≡_};
+ghost use mathlib.Core.Bool.{true};
 ghost use Rattle.model.specs.declared.Call.the-variants.{Begin, Read, Write, Seal, Advance, Abandon, Peek};
-ghost use Rattle.c_api.specs.InNumbers.{SetsUpInNumbers, TakesInNumbers, TellsPlace, numbersOf};
+ghost use Rattle.c_api.specs.InNumbers.{SetsUpInNumbers, TakesInNumbers, TellsPlace, numbersOf, refusalOf, ofBegin, ofRead, ofSeal};
+use model::Answer;
 use model::Plan;
 use model::Session;
 use model::SessionReply;
@@ -30,10 +32,88 @@ fn in_numbers(r: SessionReply) -> NumberReply
     ensures { λ n. ⌜ n ≡ numbersOf r ⌝ }
 {
     let answer = r.answer;
-    let session = r.session;
+    let x = r.session;
     NumberReply {
         number: answer.number() as u32,
         value: answer.value(),
+        session: x,
+    }
+}
+
+// The same for begin, and below for read and seal, each by the answers that it gives: one test or two in place of a jump by the tag.
+fn begin_in_numbers(r: SessionReply) -> NumberReply
+    requires { ⌜ ofBegin (r .answer) ≡ true ⌝ }
+    ensures { λ n. ⌜ n ≡ numbersOf r ⌝ }
+{
+    let answer = r.answer;
+    let session = r.session;
+    if let Answer::Refused(number) = answer {
+        return NumberReply {
+            number: number as u32,
+            value: 0,
+            session,
+        };
+    }
+    NumberReply {
+        number: 100,
+        value: 0,
+        session,
+    }
+}
+
+// The number of a refusal, 0 of any other answer.
+fn refusal(answer: Answer) -> u32
+    ensures { λ n. ⌜ n ≡ refusalOf answer ⌝ }
+{
+    if let Answer::Refused(number) = answer {
+        return number as u32;
+    }
+    0
+}
+
+fn read_in_numbers(r: SessionReply) -> NumberReply
+    requires { ⌜ ofRead (r .answer) ≡ true ⌝ }
+    ensures { λ n. ⌜ n ≡ numbersOf r ⌝ }
+{
+    let answer = r.answer;
+    let session = r.session;
+    if let Answer::Value(value) = answer {
+        return NumberReply {
+            number: 101,
+            value,
+            session,
+        };
+    }
+    NumberReply {
+        number: refusal(answer),
+        value: 0,
+        session,
+    }
+}
+
+fn seal_in_numbers(r: SessionReply) -> NumberReply
+    requires { ⌜ ofSeal (r .answer) ≡ true ⌝ }
+    ensures { λ n. ⌜ n ≡ numbersOf r ⌝ }
+{
+    let answer = r.answer;
+    let session = r.session;
+    if let Answer::Refused(number) = answer {
+        return NumberReply {
+            number: number as u32,
+            value: 0,
+            session,
+        };
+    }
+    if let Answer::Committed = answer {
+        return NumberReply {
+            number: 105,
+            value: 0,
+            session,
+        };
+    }
+    NumberReply {
+        number: 102,
+        value: 0,
         session,
     }
 }
@@ -83,7 +163,7 @@ pub extern "C" fn rukkanei_begin(
 ) -> NumberReply
     ensures { λ r. ⌜ TakesInNumbers (Begin session) values classes readers claimants exclusives logs x r ⌝ }
 {
-    in_numbers(store::begin(
+    begin_in_numbers(store::begin(
         x,
         values,
         classes,
@@ -110,7 +190,7 @@ pub extern "C" fn rukkanei_read(
 ) -> NumberReply
     ensures { λ r. ⌜ TakesInNumbers (Read session cell) values classes readers claimants exclusives logs x r ⌝ }
 {
-    in_numbers(store::read(
+    read_in_numbers(store::read(
         x,
         values,
         classes,
@@ -167,7 +247,7 @@ pub extern "C" fn rukkanei_seal(
 ) -> NumberReply
     ensures { λ r. ⌜ TakesInNumbers (Seal session) values classes readers claimants exclusives logs x r ⌝ }
 {
-    in_numbers(store::seal(
+    seal_in_numbers(store::seal(
         x,
         values,
         classes,

@@ -1,11 +1,11 @@
 -- A class byte and a value, and all of them: what one cell more makes of the test, and how a loop's answer is the model's.
-use mathlib.Core.Path.{_≡_, _∙_}
+use mathlib.Core.Path.{_≡_, sym, _∙_}
 use mathlib.Core.Bool.{Bool, true, false, _&&_}
 use mathlib.Core.List.{List}
 use Prim.Native.Nat.{ℕ, _+_, _<_, _≤_}
 use native.Mathlib.Omega.{arith}
 use native.Mathlib.Numerals.{add-one}
-use borrow.Author.Tests.{lt-ltb, le-ltb}
+use borrow.Author.Tests.{lt-ltb, le-ltb, lt-leb, le-leb}
 use lib.Dec.{leb}
 use lib.ListN.{length, getD, drop, drop-of-length-le}
 use lib.Seq.{drop-cons}
@@ -15,9 +15,13 @@ pub fits-not : (k v : ℕ) → 15 < k → false ≡ fits k v
 unfolding fits
 fits-not k v h = rw (le-ltb k 16 h)
 
-pub fits-cap : (k v m : ℕ) → k ≤ 15 → m ≡ cap k → leb v m ≡ fits k v
+pub fits-over : (k v m : ℕ) → k ≤ 15 → m ≡ cap k → m < v → false ≡ fits k v
 unfolding fits
-fits-cap k v m h e = rw (lt-ltb k 16 (omega arith), e)
+fits-over k v m h e o = let c : leb v (cap k) ≡ false = lt-leb v (cap k) (rw (sym e) o) in rw (lt-ltb k 16 (omega arith), c)
+
+pub fits-within : (k v m : ℕ) → k ≤ 15 → m ≡ cap k → v ≤ m → true ≡ fits k v
+unfolding fits
+fits-within k v m h e o = let c : leb v (cap k) ≡ true = le-leb v (cap k) (rw (sym e) o) in rw (lt-ltb k 16 (omega arith), c)
 
 module _ (vs ks : List ℕ) (i : ℕ) (h : i < length vs) (k : length ks ≡ length vs) (b : Bool) (e : b ≡ fits (getD ks i 0) (getD vs i 0)) where
   fit-step : allFit (drop i vs) (drop i ks) ≡ (b && allFit (drop (i + 1) vs) (drop (i + 1) ks))

@@ -5,7 +5,7 @@ ghost use mathlib.Core.Bool.{true, false, not, _&&_, _||_};
 ghost use Prim.Native.Nat.{_+_, _*_, _<_, _≤_};
 ghost use lib.Dec.{eqb};
 ghost use lib.ListN.{length};
-ghost use Rattle.model.specs.Buffers.{free, cap, fits, allFit, lengthsMatch};
+ghost use Rattle.model.specs.Buffers.{free, cap, allFit, lengthsMatch};
 ghost use Rattle.model.specs.Plans.{claimed, newCell, entriesFit, recordFits, guard, readPlan, writeCapped, writePlan, sealPlan, peekPlan};
 ghost use Rattle.model.specs.Turns.{TakesTurn, TurnsLog};
 ghost use Rattle.model.specs.declared.Plan.the-variants.{Start, Cancel};
@@ -48,24 +48,19 @@ pub fn cap(class: u8) -> u32
     CAPS[class as usize]
 }
 
-// A class byte of at most 15, and a value within its cap.
-fn fits_cap(class: u8, value: u32) -> bool
-    ensures { λ r. ⌜ r ≡ fits class value ⌝ }
-{
-    if 15 < class {
-        return false;
-    }
-    value <= cap(class)
-}
-
-// Each value within the cap of its class.
+// Each class byte at most 15, and each value within the cap of its class. The table is put on the stack once, before the loop.
 pub fn all_fit(values: &[u32], classes: &[u8]) -> bool
     requires { ⌜ length (now classes) ≡ length (now values) ⌝ }
     ensures { λ r. ⌜ r ≡ allFit (now (values .entry)) (now (classes .entry)) ⌝ }
 {
+    let caps = CAPS;
     let mut i = 0;
     while i < values.len() {
-        if !fits_cap(classes[i], values[i]) {
+        let class = classes[i];
+        if 15 < class {
+            return false;
+        }
+        if caps[class as usize] < values[i] {
             return false;
         }
         i += 1;

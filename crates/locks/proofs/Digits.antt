@@ -68,17 +68,17 @@ no-member (suc s) = no-member s
 
 -- ---- a set of cells in words of 64 digits
 
-pub mark-store : (seen : List ℕ) (c : ℕ) → set seen (c / 64) (bitOr (getD seen (c / 64) 0) (1 * 2 ^ (c % 64) % 2 ^ 64)) ≡ mark seen c
+pub mark-store : (written : List ℕ) (c : ℕ) → set written (c / 64) (bitOr (getD written (c / 64) 0) (1 * 2 ^ (c % 64) % 2 ^ 64)) ≡ mark written c
 unfolding mark
-mark-store seen c = rw (shifted 64 (c % 64) (omega arith), or-joins (c % 64) (getD seen (c / 64) 0))
+mark-store written c = rw (shifted 64 (c % 64) (omega arith), or-joins (c % 64) (getD written (c / 64) 0))
 
-pub marked-same : (seen : List ℕ) (c : ℕ) → c / 64 < length seen → marked (mark seen c) c ≡ true
+pub marked-same : (written : List ℕ) (c : ℕ) → c / 64 < length written → marked (mark written c) c ≡ true
 unfolding marked mark
-marked-same seen c h = rw (getD-set-same seen (c / 64) _ 0 h) (member-assign-same _ (c % 64) true)
+marked-same written c h = rw (getD-set-same written (c / 64) _ 0 h) (member-assign-same _ (c % 64) true)
 
-pub marked-other : (seen : List ℕ) (c d : ℕ) → c / 64 < length seen → (d ≡ c → ⊥) → marked (mark seen c) d ≡ marked seen d
+pub marked-other : (written : List ℕ) (c d : ℕ) → c / 64 < length written → (d ≡ c → ⊥) → marked (mark written c) d ≡ marked written d
 unfolding marked mark
-marked-other seen c d h n =
+marked-other written c d h n =
     same (d / 64) (c / 64)
-    (λ e. rw (e, getD-set-same seen (c / 64) _ 0 h) (member-assign-other _ (c % 64) (d % 64) true (λ q. n (omega arith))))
-    (λ e. rw (getD-set-other seen (c / 64) (d / 64) _ 0 e))
+    (λ e. rw (e, getD-set-same written (c / 64) _ 0 h) (member-assign-other _ (c % 64) (d % 64) true (λ q. n (omega arith))))
+    (λ e. rw (getD-set-other written (c / 64) (d / 64) _ 0 e))

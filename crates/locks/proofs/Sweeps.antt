@@ -1,5 +1,5 @@
 -- What the sweeps do to the locks, entry by entry. A session that withdraws from a cell changes three lists at one place. Sealing passes over a
--- cell seen before, where the model's sweep leaves it once more: leaving twice is leaving once.
+-- cell that an entry before it published, where the model's sweep may leave it once more: leaving twice is leaving once.
 use Prim.Native.Nat.{ℕ, suc, _+_, _/_, _%_, _<_, _≤_}
 use mathlib.Core.Bool.{Bool, true, false, not}
 use mathlib.Core.List.{List}
@@ -9,7 +9,7 @@ use native.Mathlib.Omega.{arith}
 use lib.ListN.{length, getD, set, length-set, replicate, getD-replicate, List·getD-eq-default}
 use lib.Seq.{getD-set-same, set-getD}
 use borrow.Author.Tests.{eq-eqb, ne-eqb}
-use Rattle.model.specs.Buffers.{Locks, cellAt, entryAt, slotIn, publishes, publishesIn, lockAt, setLock, onLock, sweep, leave, vacate, withdraw}
+use Rattle.model.specs.Buffers.{Locks, cellAt, entryAt, entryOf, slotIn, lookIn, publishes, publishesIn, lockAt, setLock, onLock, sweep, leave, vacate, withdraw}
 use Rattle.model.specs.Effects.{rolledBack}
 use Rattle.model.specs.Readers.{withoutReader}
 use Rattle.model.specs.Search.{some?, orElse, find}
@@ -17,8 +17,8 @@ use Rattle.model.specs.declared.Lock.{Lock}
 use Rattle.model.proofs.Laws.{Long, lock-sweep, leave-leave}
 use Rattle.model.proofs.Tools.{same, test, which, clash, orElse-none}
 use Rattle.log.proofs.Searches.{find-here, find-up}
-use Rattle.log.proofs.Targets.{first-judges}
-use Rattle.locks.specs.Sweeps.{locksOf, DroppedSoFar, marked, mark, droppedSeen, droppedAt}
+use Rattle.log.proofs.Targets.{first-judges, written-first, slot-some}
+use Rattle.locks.specs.Sweeps.{locksOf, DroppedSoFar, NoneWritten, marked, mark, droppedWritten, droppedAt}
 use Rattle.locks.proofs.Digits.{no-member, marked-same, marked-other}
 
 -- ---- one lock
@@ -73,10 +73,15 @@ module _ (log : List ℕ) (s : ℕ) (L : Locks) where
   unfolding rolledBack sweep
   roll-more i c K M e k m = rw (add-one, m, k, e)
 
--- ---- the cells seen
+-- ---- the cells marked
 
-module _ (log : List ℕ) (i : ℕ) (seen : List ℕ) (len : length seen ≡ 16) (lt : cellAt log i < 1024)
-    (inv : (c : ℕ) → c < 1024 → marked seen c ≡ some? (slotIn log i c)) where
+-- before entry i: cells of entries before it, and each of those that its first entry publishes
+pub record Marks (log : List ℕ) (i : ℕ) (written : List ℕ) : Type 0 where
+  pub words : length written ≡ 16
+  pub entered : (c : ℕ) → c < 1024 → marked written c ≡ true → some? (slotIn log i c) ≡ true
+  pub published : (c : ℕ) → c < 1024 → publishesIn log i c ≡ true → marked written c ≡ true
+
+module _ (log : List ℕ) (i : ℕ) (written : List ℕ) (inv : Marks log i written) (lt : cellAt log i < 1024) where
   slot-same : some? (slotIn log (i + 1) (cellAt log i)) ≡ true
   unfolding slotIn find orElse
   slot-same = rw (add-one, eq-eqb (cellAt log i) (cellAt log i) refl) (which (find (cellAt log) i (cellAt log i)) (λ p. rw p) (λ k p. rw p))
@@ -85,60 +90,103 @@ module _ (log : List ℕ) (i : ℕ) (seen : List ℕ) (len : length seen ≡ 16)
   unfolding slotIn find
   slot-other d n = rw (add-one, ne-eqb (cellAt log i) d (λ e. n (sym e)), orElse-none)
 
-  module _ (seen′ : List ℕ) (got : seen′ ≡ droppedSeen log i seen) where
-    pub seen-length : length seen′ ≡ 16
-    unfolding droppedSeen mark
-    seen-length = rw got (test (marked seen (cellAt log i)) (λ t. rw t len) (λ t. rw (t, length-set) len))
+  published-other : (d : ℕ) → (d ≡ cellAt log i → ⊥) → publishesIn log (i + 1) d ≡ publishesIn log i d
+  unfolding publishesIn lookIn
+  published-other d n = rw (slot-other d n)
 
-    pub seen-more : (d : ℕ) → d < 1024 → marked seen′ d ≡ some? (slotIn log (i + 1) d)
-    unfolding droppedSeen
-    seen-more d l =
+  -- of the cell itself: by the entry that was its first before, or by this one
+  published-same : publishesIn log (i + 1) (cellAt log i) ≡ true → (publishesIn log i (cellAt log i) ≡ true → ⊥) → publishes (entryAt log i) ≡ true
+  unfolding slotIn
+  published-same h n =
+      let c = cellAt log i in
+      which (find (cellAt log) i c)
+      (λ p. sym (first-judges log (i + 1) c (rw add-one (find-here (cellAt log) c i p refl))) ∙ h)
+      (λ k p. absurd (n (first-judges log i c p ∙ sym (first-judges log (i + 1) c (find-up (cellAt log) c i (i + 1) (omega arith) p)) ∙ h)))
+
+  module _ (written′ : List ℕ) (got : written′ ≡ droppedWritten log i written) where
+    marked-kept : (d : ℕ) → (d ≡ cellAt log i → ⊥) → marked written′ d ≡ marked written d
+    unfolding droppedWritten
+    marked-kept d n =
+        let w = inv .words in
+        rw got (test (publishes (entryAt log i)) (λ p. rw p (marked-other written (cellAt log i) d (omega arith) n)) (λ p. rw p))
+
+    marked-here : publishes (entryAt log i) ≡ true → marked written′ (cellAt log i) ≡ true
+    unfolding droppedWritten
+    marked-here p = let w = inv .words in rw (got, p) (marked-same written (cellAt log i) (omega arith))
+
+    marked-still : marked written (cellAt log i) ≡ true → marked written′ (cellAt log i) ≡ true
+    unfolding droppedWritten
+    marked-still m = test (publishes (entryAt log i)) marked-here (λ p. rw (got, p) m)
+
+    marks-words : length written′ ≡ 16
+    unfolding droppedWritten mark
+    marks-words = rw got (test (publishes (entryAt log i)) (λ p. rw (p, length-set) (inv .words)) (λ p. rw p (inv .words)))
+
+    pub marks-more : Marks log (i + 1) written′
+    marks-more =
         let c = cellAt log i in
-        rw got
-        (test (marked seen c)
-        (λ t. rw t (same d c (λ e. rw e (t ∙ sym slot-same)) (λ n. rw (slot-other d n) (inv d l))))
-        (λ t.
-        rw t
-        (same d c (λ e. rw e (marked-same seen c (omega arith) ∙ sym slot-same))
-        (λ n. rw (slot-other d n) (marked-other seen c d (omega arith) n ∙ inv d l)))))
+        record {
+          words = marks-words;
+          entered = λ d l h. same d c (λ e. rw e slot-same) (λ n. rw (slot-other d n) (inv .entered d l (sym (marked-kept d n) ∙ h)));
+          published = λ d l h.
+              same d c
+              (λ e.
+              rw e
+              (test (publishesIn log i c) (λ q. marked-still (inv .published c lt q))
+              (λ q. marked-here (published-same (rw e at h) (λ r. clash (publishesIn log i c) r q)))))
+              (λ n. marked-kept d n ∙ inv .published d l (sym (published-other d n) ∙ h));
+        }
 
 -- the three ways through one entry, with its cell read
-module _ (log : List ℕ) (k s : ℕ) (seen R : List ℕ) (c : ℕ) (e : c ≡ cellAt log k) where
-  pub drop-seen : marked seen c ≡ true → (seen ≡ droppedSeen log k seen) × (R ≡ droppedAt log k s seen R)
-  unfolding droppedSeen droppedAt
-  drop-seen t = (rw (← e, t), rw (← e, t))
+module _ (log : List ℕ) (k s : ℕ) (written R : List ℕ) (c : ℕ) (e : c ≡ cellAt log k) where
+  pub drop-written : publishes (entryAt log k) ≡ true → (written′ : List ℕ) → written′ ≡ mark written c
+      → (written′ ≡ droppedWritten log k written) × (R ≡ droppedAt log k s written R)
+  unfolding droppedWritten droppedAt
+  drop-written p written′ got = (rw (p, ← e) got, rw p)
 
-  module _ (t : marked seen c ≡ false) (seen′ : List ℕ) (got : seen′ ≡ mark seen c) where
-    pub drop-written : publishes (entryAt log k) ≡ true → (seen′ ≡ droppedSeen log k seen) × (R ≡ droppedAt log k s seen R)
-    unfolding droppedSeen droppedAt
-    drop-written p = (rw (← e, t) got, rw (← e, t, p))
+  module _ (p : publishes (entryAt log k) ≡ false) where
+    pub drop-marked : marked written c ≡ true → (written ≡ droppedWritten log k written) × (R ≡ droppedAt log k s written R)
+    unfolding droppedWritten droppedAt
+    drop-marked t = (rw p, rw (p, ← e, t))
 
-    pub drop-left : publishes (entryAt log k) ≡ false → (R′ : List ℕ) → R′ ≡ set R c (withoutReader s (getD R c 0))
-        → (seen′ ≡ droppedSeen log k seen) × (R′ ≡ droppedAt log k s seen R)
-    unfolding droppedSeen droppedAt
-    drop-left p R′ r = (rw (← e, t) got, rw (← e, t, p) r)
+    pub drop-left : marked written c ≡ false → (R′ : List ℕ) → R′ ≡ set R c (withoutReader s (getD R c 0))
+        → (written ≡ droppedWritten log k written) × (R′ ≡ droppedAt log k s written R)
+    unfolding droppedWritten droppedAt
+    drop-left t R′ r = (rw p, rw (p, ← e, t) r)
 
 -- ---- sealing
 
--- before the first entry nothing is seen and nothing is left
-pub seen-start : (log : List ℕ) (c : ℕ) → c < 1024 → marked (replicate 16 0) c ≡ some? (slotIn log 0 c)
-unfolding marked slotIn find
-seen-start log c l = rw (getD-replicate {A = ℕ} 16 (c / 64) 0 0 (omega arith)) (no-member (c % 64))
+-- with nothing written nothing is marked; before the first entry nothing is left
+none-marked : (c : ℕ) → c < 1024 → marked (replicate 16 0) c ≡ false
+unfolding marked
+none-marked c l = rw (getD-replicate {A = ℕ} 16 (c / 64) 0 0 (omega arith)) (no-member (c % 64))
+
+pub marks-none : (log : List ℕ) (i : ℕ) → NoneWritten log i → Marks log i (replicate 16 0)
+marks-none log i n =
+    record {
+      words = refl;
+      entered = λ c l h. absurd (clash (marked (replicate 16 0) c) h (none-marked c l));
+      published = λ c l h. let w = written-first log i c h in absurd (clash (publishes (entryAt log (w .0))) (w .2) (n (w .0) (slot-some log i c (w .1) .0)));
+    }
+
+pub none-more : (log : List ℕ) (i : ℕ) → NoneWritten log i → publishes (entryAt log i) ≡ false → NoneWritten log (i + 1)
+none-more log i n p j l = same j i (λ e. rw e p) (λ d. n j (omega arith))
 
 pub drop-start : (log : List ℕ) (m s : ℕ) (R : List ℕ) → DroppedSoFar log m 0 s R R
 unfolding sweep
 drop-start log m s R C E p q = refl
 
-module _ (log : List ℕ) (m i s : ℕ) (seen R₀ R : List ℕ) (li : i < m) (lt : cellAt log i < 1024) (lR : cellAt log i < length R₀)
-    (inv : (c : ℕ) → c < 1024 → marked seen c ≡ some? (slotIn log i c)) where
-  -- a cell not seen: its entry is the first of the whole log, and says whether the cell is written
-  first-here : marked seen (cellAt log i) ≡ false → publishesIn log m (cellAt log i) ≡ publishes (entryAt log i)
+module _ (log : List ℕ) (m i s : ℕ) (written R₀ R : List ℕ) (li : i < m) (lt : cellAt log i < 1024) (lR : cellAt log i < length R₀)
+    (inv : Marks log i written) where
+  -- the cell's first entry of all is this one, which then says whether the cell is written, or one before it
+  first : {P : Type 0} → (publishesIn log m (cellAt log i) ≡ publishes (entryAt log i) → P)
+      → (some? (slotIn log i (cellAt log i)) ≡ true → publishesIn log m (cellAt log i) ≡ publishesIn log i (cellAt log i) → P) → P
   unfolding slotIn
-  first-here t =
+  first f g =
       let c = cellAt log i in
-      which (slotIn log i c)
-      (λ p. first-judges log m c (find-up (cellAt log) c (suc i) m (omega arith) (find-here (cellAt log) c i p refl)))
-      (λ k p. absurd (clash (marked seen c) (inv c lt ∙ ap some? p) t))
+      which (find (cellAt log) i c)
+      (λ q. f (first-judges log m c (find-up (cellAt log) c (suc i) m (omega arith) (find-here (cellAt log) c i q refl))))
+      (λ k q. g (rw q) (first-judges log m c (find-up (cellAt log) c i m (omega arith) q) ∙ sym (first-judges log i c q)))
 
   module _ (C E : List ℕ) (eC : length C ≡ length R₀) (eE : length E ≡ length R₀) where
     abbrev unwritten : ℕ → Bool
@@ -158,30 +206,43 @@ module _ (log : List ℕ) (m i s : ℕ) (seen R₀ R : List ℕ) (li : i < m) (l
     unfolding sweep
     sweep-leaves h = rw (add-one, h)
 
-    -- a cell seen was left before
-    left-before : marked seen (cellAt log i) ≡ true → publishesIn log m (cellAt log i) ≡ false
+    -- a cell entered before was left before
+    left-before : some? (slotIn log i (cellAt log i)) ≡ true → publishesIn log m (cellAt log i) ≡ false
         → onLock (cellAt log i) (leave s) before ≡ before
     unfolding onLock slotIn
-    left-before t h =
+    left-before f h =
         let c = cellAt log i in
         let long : Long (length R₀) (locksOf R₀ C E) = record { readers = refl; claimants = eC; exclusives = eE } in
-        let f : some? (find (cellAt log) i c) ≡ true = sym (inv c lt) ∙ t in
         let g : lockAt before c ≡ leave s (lockAt (locksOf R₀ C E) c) =
         lock-sweep unwritten (leave s) (cellAt log) (locksOf R₀ C E) (length R₀) long (leave-leave s) c lR i ∙ rw (f, h) in
         let k : leave s (lockAt before c) ≡ lockAt before c = rw g (leave-leave s (lockAt (locksOf R₀ C E) c)) in
         ap (λ (l : Lock). setLock c l before) k ∙ put-same c before
 
-  pub drop-more : DroppedSoFar log m i s R₀ R → (R′ : List ℕ) → R′ ≡ droppedAt log i s seen R → DroppedSoFar log m (i + 1) s R₀ R′
+    -- a cell that is written, or entered before, is as before
+    passed : (publishesIn log m (cellAt log i) ≡ false → some? (slotIn log i (cellAt log i)) ≡ true) → before ≡ after
+    passed f = test (publishesIn log m (cellAt log i)) (λ h. sym (sweep-keeps h)) (λ h. sym (sweep-leaves h ∙ left-before (f h) h))
+
+  pub drop-more : DroppedSoFar log m i s R₀ R → (R′ : List ℕ) → R′ ≡ droppedAt log i s written R → DroppedSoFar log m (i + 1) s R₀ R′
   unfolding droppedAt
   drop-more w R′ got C E eC eE =
       let c = cellAt log i in
       let e = w C E eC eE in
       rw got
-      (test (marked seen c)
+      (test (publishes (entryAt log i))
+      (λ p. rw p (e ∙ passed C E eC eE (λ h. first (λ q. absurd (clash (publishesIn log m c) (q ∙ p) h)) (λ f _. f))))
+      (λ p.
+      rw p
+      (test (marked written c) (λ t. rw t (e ∙ passed C E eC eE (λ _. inv .entered c lt t)))
       (λ t.
-      rw t
-      (test (publishesIn log m c) (λ h. e ∙ sym (sweep-keeps C E eC eE h)) (λ h. e ∙ sym (sweep-leaves C E eC eE h ∙ left-before C E eC eE t h))))
-      (λ t.
-      rw t
-      (test (publishes (entryAt log i)) (λ p. rw p (e ∙ sym (sweep-keeps C E eC eE (first-here t ∙ p))))
-      (λ p. rw p (leave-on R C E c s ∙ ap (onLock c (leave s)) e ∙ sym (sweep-leaves C E eC eE (first-here t ∙ p)))))))
+      let u : publishesIn log m c ≡ false =
+      first (λ q. q ∙ p)
+      (λ _ q. test (publishesIn log i c) (λ h. absurd (clash (marked written c) (inv .published c lt h) t)) (λ h. q ∙ h)) in
+      rw t (leave-on R C E c s ∙ ap (onLock c (leave s)) e ∙ sym (sweep-leaves C E eC eE u))))))
+
+-- with nothing written the cell is left
+pub drop-unmarked : (log : List ℕ) (m i s : ℕ) (R₀ R : List ℕ) → i < m → cellAt log i < 1024 → cellAt log i < length R₀ → NoneWritten log i
+    → publishes (entryAt log i) ≡ false → DroppedSoFar log m i s R₀ R → (c : ℕ) → c ≡ cellAt log i → (R′ : List ℕ) → R′ ≡ set R c (withoutReader s (getD R c 0))
+    → DroppedSoFar log m (i + 1) s R₀ R′
+drop-unmarked log m i s R₀ R li lt lR n p w c e R′ r =
+    drop-more log m i s (replicate 16 0) R₀ R li lt lR (marks-none log i n) w R′
+    (drop-left log i s (replicate 16 0) R c e p (rw e (none-marked (cellAt log i) lt)) R′ r .1)

@@ -1,7 +1,7 @@
 -- The locks as three lent lists, and what rolling back and sealing leave of them, by the session's log.
 use mathlib.Core.Path.{_≡_}
 use Prim.Native.Nat.{ℕ, _*_, _/_, _%_, _≤_, _<_}
-use mathlib.Core.Bool.{Bool, true, cond, not}
+use mathlib.Core.Bool.{Bool, true, false, cond, not}
 use mathlib.Core.List.{List}
 use lib.ListN.{length, getD, set}
 use denote.Ref.{now}
@@ -41,24 +41,28 @@ DroppedSoFar log m k s R R' =
 abbrev pub DropsReads : List ℕ → ℕ → ℕ → List ℕ → List ℕ → Type 0
 DropsReads log m s R R' = DroppedSoFar log m m s R R'
 
+-- none of the first k entries publishes
+abbrev pub NoneWritten : List ℕ → ℕ → Type 0
+NoneWritten log k = (j : ℕ) → j < k → publishes (entryAt log j) ≡ false
+
 -- a set of cells below 1,024 as sixteen words of 64 binary digits
 unfoldable pub marked : List ℕ → ℕ → Bool
-marked seen c = member (getD seen (c / 64) 0) (c % 64)
+marked written c = member (getD written (c / 64) 0) (c % 64)
 
 unfoldable pub mark : List ℕ → ℕ → List ℕ
-mark seen c = set seen (c / 64) (withReader (c % 64) (getD seen (c / 64) 0))
+mark written c = set written (c / 64) (withReader (c % 64) (getD written (c / 64) 0))
 
--- one entry of the sweep at sealing: a cell seen before is passed over; of the others those that publish keep their readers
-unfoldable pub droppedSeen : List ℕ → ℕ → List ℕ → List ℕ
-droppedSeen log k seen = cond (marked seen (cellAt log k)) seen (mark seen (cellAt log k))
+-- one entry of the sweep at sealing: the cell of an entry that publishes is marked; of the others those that are not marked lose the session as a reader
+unfoldable pub droppedWritten : List ℕ → ℕ → List ℕ → List ℕ
+droppedWritten log k written = cond (publishes (entryAt log k)) (mark written (cellAt log k)) written
 
 unfoldable pub droppedAt : List ℕ → ℕ → ℕ → List ℕ → List ℕ → List ℕ
-droppedAt log k s seen R =
-    cond (marked seen (cellAt log k)) R
-    (cond (publishes (entryAt log k)) R (set R (cellAt log k) (withoutReader s (getD R (cellAt log k) 0))))
+droppedAt log k s written R =
+    cond (publishes (entryAt log k)) R
+    (cond (marked written (cellAt log k)) R (set R (cellAt log k) (withoutReader s (getD R (cellAt log k) 0))))
 
--- what one entry leaves of the cells seen and of the reader sets
+-- what one entry leaves of the cells marked and of the reader sets
 abbrev pub DropsAt : Slice → ℕ → ℕ → Slice → Slice → Type 0
-DropsAt log k s seen readers =
-    (now (seen .exit) ≡ droppedSeen (now (log .entry)) k (now (seen .entry)))
-    × (now (readers .exit) ≡ droppedAt (now (log .entry)) k s (now (seen .entry)) (now (readers .entry)))
+DropsAt log k s written readers =
+    (now (written .exit) ≡ droppedWritten (now (log .entry)) k (now (written .entry)))
+    × (now (readers .exit) ≡ droppedAt (now (log .entry)) k s (now (written .entry)) (now (readers .entry)))

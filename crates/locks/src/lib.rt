@@ -7,7 +7,7 @@ ghost use lib.Dec.{eqb};
 ghost use lib.ListN.{length, getD, set};
 ghost use Rattle.model.specs.Readers.{withReader, withoutReader, otherReaders};
 ghost use Rattle.model.specs.Buffers.{cellAt, publishes, lockAt, setLock, onLock, join, leave, vacate, withdraw, claim, acquire};
-ghost use Rattle.locks.specs.Sweeps.{Swept, DropsReads, marked, mark, locksBefore, locksAfter, RollsBack, DropsAt};
+ghost use Rattle.locks.specs.Sweeps.{Swept, DropsReads, DroppedSoFar, NoneWritten, marked, mark, locksBefore, locksAfter, RollsBack, DropsAt};
 ghost use Rattle.locks.specs.Changes.{LockFor, oneOf, ChangeFits, ChangesOne, Withdraws, CarriesOut, DropsIf};
 use model::Change;
 use model::Lock;
@@ -187,23 +187,23 @@ pub fn roll_back(
 // ---- the readers of the cells that are not written
 
 // Whether a cell is in a set of cells.
-fn is_marked(seen: &[u64; 16], cell: u32) -> bool
+fn is_marked(written: &[u64; 16], cell: u32) -> bool
     requires { ⌜ cell < 1024 ⌝ }
-    ensures { λ r. ⌜ r ≡ marked (now (seen .entry)) cell ⌝ }
+    ensures { λ r. ⌜ r ≡ marked (now (written .entry)) cell ⌝ }
 {
     let w = (cell / 64) as usize;
-    let word = seen[w];
+    let word = written[w];
     (word >> (cell % 64)) % 2 == 1
 }
 
 // A cell is put into a set of cells.
-fn put_mark(seen: &mut [u64; 16], cell: u32)
+fn put_mark(written: &mut [u64; 16], cell: u32)
     requires { ⌜ cell < 1024 ⌝ }
-    ensures { λ _. ⌜ now (seen .exit) ≡ mark (now (seen .entry)) cell ⌝ }
+    ensures { λ _. ⌜ now (written .exit) ≡ mark (now (written .entry)) cell ⌝ }
 {
     let w = (cell / 64) as usize;
-    let word = seen[w];
-    seen[w] = word | (1u64 << (cell % 64));
+    let word = written[w];
+    written[w] = word | (1u64 << (cell % 64));
 }
 
 // The session leaves the readers of one cell.
@@ -216,31 +216,52 @@ fn leave_at(readers: &mut [u16], cell: u32, session: u8)
     readers[c] = without_reader(set, session);
 }
 
-// The session leaves the readers of entry k's cell where the entry is the first of its cell and does not publish.
-fn drop_at(log: &[u32], k: usize, readers: &mut [u16], seen: &mut [u64; 16], session: u8)
+// Entry k at sealing: a cell that the entry publishes is marked; of one that it does not publish, and that no entry before it does, the session leaves the readers.
+fn drop_at(log: &[u32], k: usize, readers: &mut [u16], written: &mut [u64; 16], session: u8)
     requires { ⌜ (session < 16) × (4 * k + 3 < length (now log)) × (cellAt (now log) k < 1024) × (cellAt (now log) k < length (now readers)) ⌝ }
-    ensures { λ _. ⌜ DropsAt log k session seen readers ⌝ }
+    ensures { λ _. ⌜ DropsAt log k session written readers ⌝ }
 {
     let cell = log::cell_at(log, k);
-    if is_marked(&*seen, cell) {
+    if log::publishes(log, k) {
+        put_mark(written, cell);
         return;
     }
-    put_mark(seen, cell);
-    if log::publishes(log, k) {
+    if is_marked(&*written, cell) {
         return;
     }
     leave_at(readers, cell, session);
 }
 
-// Sealing: the session leaves the readers of each cell entered but not written.
+// The session leaves the readers of the cells before the first entry that publishes; the entry's index, or the count.
+fn drop_unwritten(log: &[u32], count: usize, readers: &mut [u16], session: u8) -> usize
+    requires { ⌜ (Swept session (now log) count (length (now readers))) × (length (now readers) ≤ 1024) ⌝ }
+    ensures { λ r. ⌜ (r ≤ count) × NoneWritten (now (log .entry)) r × DroppedSoFar (now (log .entry)) count r session (now (readers .entry)) (now (readers .exit)) ⌝ }
+{
+    let mut i = 0;
+    while i < count {
+        if log::publishes(log, i) {
+            return i;
+        }
+        let cell = log::cell_at(log, i);
+        leave_at(readers, cell, session);
+        i += 1;
+    }
+    i
+}
+
+// Sealing: the session leaves the readers of each cell entered but not written. Where nothing is written no cell need be marked.
 pub fn drop_reads(log: &[u32], count: usize, readers: &mut [u16], session: u8)
     requires { ⌜ (Swept session (now log) count (length (now readers))) × (length (now readers) ≤ 1024) ⌝ }
     ensures { λ _. ⌜ DropsReads (now (log .entry)) count session (now (readers .entry)) (now (readers .exit)) ⌝ }
 {
-    let mut seen = [0u64; 16];
-    let mut i = 0;
+    let first = drop_unwritten(log, count, readers, session);
+    if first == count {
+        return;
+    }
+    let mut written = [0u64; 16];
+    let mut i = first;
     while i < count {
-        drop_at(log, i, readers, &mut seen, session);
+        drop_at(log, i, readers, &mut written, session);
         i += 1;
     }
 }

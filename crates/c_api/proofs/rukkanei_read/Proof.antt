@@ -1,6 +1,7 @@
 -- `rukkanei_read` meets its contract: the store's `read`, its reply in numbers.
 use Rattle.model.specs.Buffers.{Buffers}
 use Rattle.store.specs.Lent.{buffersOf}
+use Rattle.c_api.proofs.Answers.{read-gives}
 use Rattle.c_api.proofs.Laws.{told}
 use Rattle.c_api.proofs.rukkanei_read.Statement.{statement}
 use Rattle.c_api.proofs.rukkanei_read.Tie as tie
@@ -11,8 +12,8 @@ lent c = buffersOf (c .args .values .now) (c .args .classes .now) (c .args .read
 read-requires : tie.Need-read-requires
 read-requires c κs = tt
 
-in-numbers-requires : tie.Need-in-numbers-requires
-in-numbers-requires c κs = tt
+in-numbers-requires : tie.Need-read-in-numbers-requires
+in-numbers-requires c κs = read-gives _ (lent (c .before .before .before .before .before .before .before .before .before .before .before .before .before .before .before .before .before .before .before)) _ _ _ _ _ (c .before .before .before .before .before .before .before .before .read .ensures)
 
 same-length : tie.Need-same-length
 same-length c = c .before .before .before .before .before .before .before .before .before .read .kept .1 .1 .1 .0
@@ -27,7 +28,7 @@ same-length-4 : tie.Need-same-length-4
 same-length-4 c = c .before .before .before .before .before .before .before .before .before .read .kept .1 .1 .1 .1 .1 .1 .0
 
 returns : tie.Need-returns
-returns c = told _ (lent (c .before .before .before .before .before .before .before .before .before .before .before .before .before .before .before .before .before .before .before .before)) _ _ _ _ (c .in-numbers .ensures) (c .before .before .before .before .before .before .before .before .before .read .ensures)
+returns c = told _ (lent (c .before .before .before .before .before .before .before .before .before .before .before .before .before .before .before .before .before .before .before .before)) _ _ _ _ (c .read-in-numbers .ensures) (c .before .before .before .before .before .before .before .before .before .read .ensures)
 
 pub rukkanei-read-spec : {M : Type 1} → statement M
 rukkanei-read-spec =

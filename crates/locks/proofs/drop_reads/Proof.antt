@@ -1,65 +1,77 @@
--- The loop keeps what the entries so far leave of the readers, and that the cells seen are theirs.
+-- The loop keeps which cells are marked, and what the entries so far leave of any readers of which the unwritten ones before left those at its start.
 use Prim.Native.Nat.{ℕ, _<_, _≤_, _-_}
-use mathlib.Core.Path.{refl, _∙_, _≡_}
+use mathlib.Core.Path.{refl, sym, _∙_, _≡_}
+use mathlib.Core.List.{List}
 use native.Mathlib.Omega.{arith}
 use lib.ListN.{length}
-use Rattle.model.specs.Buffers.{cellAt, slotIn}
-use Rattle.model.specs.Search.{some?}
+use Rattle.model.specs.Buffers.{cellAt}
 use Rattle.model.proofs.Laws.{below-is}
-use Rattle.locks.specs.Sweeps.{marked, DroppedSoFar}
-use Rattle.locks.proofs.Sweeps.{drop-start, drop-more, seen-start, seen-length, seen-more}
+use Rattle.locks.specs.Sweeps.{DroppedSoFar}
+use Rattle.locks.proofs.Sweeps.{Marks, drop-more, marks-none, marks-more}
 use Rattle.locks.proofs.drop_reads.Statement.{statement}
 use Rattle.locks.proofs.drop_reads.Tie as tie
 
 abbrev Inv-loop : tie.InvT-loop
-Inv-loop log count readers₀ session seen₀ i₀ readers seen i =
-    (i ≤ count) × (length readers ≡ length readers₀) × DroppedSoFar log count i session readers₀ readers × (length seen ≡ 16)
-    × ((c : ℕ) → c < 1024 → marked seen c ≡ some? (slotIn log i c))
+Inv-loop log count readers₀ session first written₀ i₀ readers written i =
+    (i ≤ count) × (length readers ≡ length readers₀)
+    × ((R : List ℕ) → length readers₀ ≡ length R → DroppedSoFar log count first session R readers₀ → DroppedSoFar log count i session R readers) × Marks log i written
 
 abbrev μ-loop : tie.MeasureT-loop
-μ-loop log count readers₀ session seen₀ i₀ readers seen i = count - i
+μ-loop log count readers₀ session first written₀ i₀ readers written i = count - i
+
+drop-unwritten-requires : tie.Need-drop-unwritten-requires Inv-loop μ-loop
+drop-unwritten-requires c κs = c .before .before .before .pre
+
+same-length : tie.Need-same-length Inv-loop μ-loop
+same-length c = c .before .before .before .drop-unwritten .kept .1 .1 .0
+
+returns : tie.Need-returns Inv-loop μ-loop
+returns c = rw (c .if1 .taken) at (c .before .before .before .drop-unwritten .ensures .2)
 
 loop-holds : tie.Need-loop-holds Inv-loop μ-loop
-loop-holds c = (omega arith, refl, drop-start _ _ _ _, refl, seen-start _)
+loop-holds c = let d = c .before .before .before .drop-unwritten .ensures in (d .0, refl, λ R e w. w, marks-none _ _ (d .1))
 
 drop-at-requires : tie.Need-drop-at-requires Inv-loop μ-loop
 drop-at-requires c κs =
-    let a = c .before .before .before .before .before .before in
     let l = c .before .before .before .loop in
+    let u = c .before .before .before .before .before .before .before in
+    let a = u .before .before .before .before in
     let lt = below-is _ (cellAt _) _ (a .pre .0 .cells) (l .i) (c .before .before .loop-test .taken) in
-    (a .pre .0 .session, omega arith, omega arith, omega (arith, l .inv .1))
+    (a .pre .0 .session, omega arith, omega arith, omega (arith, l .inv .1, u .drop-unwritten .kept .1 .1 .0))
 
 add-i : tie.Need-add-i Inv-loop μ-loop
-add-i c = omega arith
+add-i c = let h = c .before .before .before .before .before .loop-test .taken in omega arith
 
 loop-less : tie.Need-loop-less Inv-loop μ-loop
-loop-less c = omega arith
+loop-less c = let h = c .before .before .before .before .before .loop-test .taken in omega arith
 
 loop-again : tie.Need-loop-again Inv-loop μ-loop
 loop-again c =
-    let a = c .before .before .before .before .before .before .before .before .before in
     let l = c .before .before .before .before .before .before .loop in
+    let u = c .before .before .before .before .before .before .before .before .before .before in
+    let a = u .before .before .before .before in
     let d = c .before .before .drop-at in
     let h = c .before .before .before .before .before .loop-test .taken in
     let lR = below-is _ (cellAt _) _ (a .pre .0 .cells) (l .i) h in
+    let k = u .drop-unwritten .kept .1 .1 .0 in
     let lt : cellAt (a .args .log .now) (l .i) < 1024 = omega arith in (
       omega arith,
       d .kept .1 .1 .0 ∙ l .inv .1,
-      drop-more _ _ _ _ _ _ _ h lt lR (l .inv .4) (l .inv .2) _ (d .ensures .1),
-      seen-length _ _ _ (l .inv .3) lt (l .inv .4) _ (d .ensures .0),
-      seen-more _ _ _ (l .inv .3) lt (l .inv .4) _ (d .ensures .0),
+      λ R e w. drop-more _ _ _ _ _ R _ h lt (omega arith) (l .inv .3) (l .inv .2 R e w) _ (d .ensures .1),
+      marks-more _ _ _ (l .inv .3) lt _ (d .ensures .0),
     )
 
-same-length : tie.Need-same-length Inv-loop μ-loop
-same-length c = c .before .loop .inv .1
+same-length-2 : tie.Need-same-length-2 Inv-loop μ-loop
+same-length-2 c = c .before .loop .inv .1 ∙ c .before .before .before .before .before .drop-unwritten .kept .1 .1 .0
 
-returns : tie.Need-returns Inv-loop μ-loop
-returns c =
-    let e : c .before .loop .i ≡ c .before .before .before .before .args .count = omega arith in
-    rw e at (c .before .loop .inv .2)
+returns-2 : tie.Need-returns-2 Inv-loop μ-loop
+returns-2 c =
+    let u = c .before .before .before .before .before in
+    let e : c .before .loop .i ≡ u .before .before .before .before .args .count = omega arith in
+    rw e at (c .before .loop .inv .2 _ (u .drop-unwritten .kept .1 .1 .0) (u .drop-unwritten .ensures .2))
 
 pub drop-reads-spec : {M : Type 1} → statement M
 drop-reads-spec =
     tie.close
     (tie.spec
-    Inv-loop μ-loop loop-holds drop-at-requires add-i loop-less loop-again same-length returns)
+    Inv-loop μ-loop drop-unwritten-requires same-length returns loop-holds drop-at-requires add-i loop-less loop-again same-length-2 returns-2)

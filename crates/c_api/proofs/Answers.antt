@@ -1,0 +1,133 @@
+-- Which answers a begin, a read and a seal give, by the plans that they make; and so does the code, whose answer is the model's.
+use Prim.Native.Nat.{ℕ, _%_, _<_}
+use mathlib.Core.Path.{_≡_, refl, sym, ap, _∙_}
+use mathlib.Core.Bool.{Bool, true, false}
+use mathlib.Core.List.{List, [], _∷_}
+use native.Mathlib.Omega.{arith}
+use lib.Dec.{ltb, eqb}
+use lib.ListN.{replicate}
+use types.Run.{OneOf, miss}
+use denote.Enum.Declared.{tagOf}
+use Rattle.model.specs.Buffers.{Buffers, Store, idle, size, sessionAt, withSession, lockAt, lengthsFit, slotIn, targetIn}
+use Rattle.model.specs.Effects.{number, valueOf, recordOf, logOf, answer, planEffect}
+use Rattle.model.specs.Plans.{require, admit, guard, known, recordFits, claimed, newCell, readSlot, readPlan, sealTarget, sealPlan, plan}
+use Rattle.model.specs.Step.{Outcome, answerOf, planOf, effect, sessionOf, TakesRecord}
+use Rattle.model.specs.declared.Answer.{Answer}
+use Rattle.model.specs.declared.Answer.the-variants.{Done, Value, Sealed, Moved, Waiting, Committed, Refused}
+use Rattle.model.specs.declared.Call.{Call}
+use Rattle.model.specs.declared.Call.the-variants.{Begin, Read, Seal}
+use Rattle.model.specs.declared.Lock.{Lock}
+use Rattle.model.specs.declared.Plan.{Plan}
+use Rattle.model.specs.declared.Plan.the-variants.{Refuse}
+use Rattle.model.specs.declared.Session.{Session}
+use Rattle.model.specs.declared.Sessions.{Sessions}
+use Rattle.model.specs.declared.SessionReply.{SessionReply}
+use Rattle.model.proofs.Answer as answers
+use Rattle.model.proofs.Laws.{session-same}
+use Rattle.model.proofs.Tools.{split, which, clash}
+use Rattle.c_api.specs.declared.NumberReply.{NumberReply}
+use Rattle.c_api.specs.InNumbers.{numbersOf, refusalOf, ofBegin, ofRead, ofSeal}
+
+-- what holds of every refusal holds of a plan behind tests
+module _ (Q : Plan → Type 0) (no : (k : ℕ) → Q (Refuse k)) where
+  required : (b : Bool) (k : ℕ) (p : Plan) → Q p → Q (require b (Refuse k) p)
+  required b k p q = split Q b (λ _. q) (λ _. no k)
+
+  admitted : (B : Buffers) (s : ℕ) (p : Plan) → Q p → Q (admit B s p)
+  admitted B s p q = required (lengthsFit B) 7 (require (ltb s 16) (Refuse 1) p) (required (ltb s 16) 1 p q)
+
+  guarded : (n : ℕ) (log : List ℕ) (x : Session) (fit : Bool) (p : Plan) → Q p → Q (guard n log x fit p)
+  unfolding guard
+  guarded n log x fit p q = required (recordFits n log x) 9 (require fit (Refuse 2) p) (required fit 2 p q)
+
+begin-answers : (s : ℕ) (σ : Store) → ofBegin (answerOf (Begin s) σ) ≡ true
+unfolding answerOf planOf plan answer planEffect
+begin-answers s σ =
+    let Q : Plan → Type 0 = λ p. ofBegin (answer s p σ) ≡ true in
+    admitted Q (λ k. refl) (σ .lent) s _ (guarded Q (λ k. refl) (size (σ .lent)) (logOf σ s) (recordOf σ s) (eqb (recordOf σ s .phase) 0) _ refl)
+
+read-answers : (s c : ℕ) (σ : Store) → ofRead (answerOf (Read s c) σ) ≡ true
+unfolding answerOf planOf plan readPlan readSlot known newCell answer planEffect
+read-answers s c σ =
+    let Q : Plan → Type 0 = λ p. ofRead (answer s p σ) ≡ true in
+    let x = recordOf σ s in
+    let l = lockAt (σ .lent .locks) c in
+    let entry : Q (readSlot (logOf σ s) x l c (slotIn (logOf σ s) (x .count) c)) =
+    which (slotIn (logOf σ s) (x .count) c)
+    (λ e. rw e (required Q (λ k. refl) (ltb (x .count) 32) 5 _ (split Q (claimed l) (λ _. refl) (λ _. refl)))) (λ k e. rw e) in
+    admitted Q (λ k. refl) (σ .lent) s _
+    (guarded Q (λ k. refl) (size (σ .lent)) (logOf σ s) x (eqb (x .phase) 1) _ (required Q (λ k. refl) (ltb c (size (σ .lent))) 3 _ entry))
+
+seal-answers : (s : ℕ) (σ : Store) → ofSeal (answerOf (Seal s) σ) ≡ true
+unfolding answerOf planOf plan sealPlan sealTarget answer planEffect
+seal-answers s σ =
+    let Q : Plan → Type 0 = λ p. ofSeal (answer s p σ) ≡ true in
+    let x = recordOf σ s in
+    let target : Q (sealTarget (targetIn (logOf σ s) (x .count) 0)) = which (targetIn (logOf σ s) (x .count) 0) (λ e. rw e) (λ c e. rw e) in
+    admitted Q (λ k. refl) (σ .lent) s _ (guarded Q (λ k. refl) (size (σ .lent)) (logOf σ s) x (eqb (x .phase) 1) _ target)
+
+-- ---- of the code: some sixteen records have the one handed in
+
+given : (P : Answer → Bool) (k : Call) (B C : Buffers) (x y : Session) (a : Answer) → ((σ : Store) → P (answerOf k σ) ≡ true)
+    → TakesRecord k B x a C y → P a ≡ true
+unfolding effect
+given P k B C x y a h t =
+    let ss = withSession (record { records = replicate 16 idle }) (sessionOf k % 16) x in
+    let e = t ss (session-same (record { records = replicate 16 idle }) (sessionOf k % 16) x refl (omega arith)) in
+    ap (λ (o : Outcome). P (o .answer)) e ∙ h (record { lent = B; sessions = ss })
+
+module _ (s : ℕ) (B C : Buffers) (x y : Session) (a : Answer) where
+  pub begin-gives : TakesRecord (Begin s) B x a C y → ofBegin a ≡ true
+  begin-gives = given ofBegin (Begin s) B C x y a (begin-answers s)
+
+  pub read-gives : (c : ℕ) → TakesRecord (Read s c) B x a C y → ofRead a ≡ true
+  read-gives c = given ofRead (Read s c) B C x y a (read-answers s c)
+
+  pub seal-gives : TakesRecord (Seal s) B x a C y → ofSeal a ≡ true
+  seal-gives = given ofSeal (Seal s) B C x y a (seal-answers s)
+
+-- ---- what is left of an answer where matches have passed over variants: its tag is one of the others
+
+abbrev Tagged : List ℕ → Answer → Type 0
+Tagged ks a = OneOf ks (tagOf answers.the-type a)
+
+pub not-refused : (a : Answer) → Tagged (0 ∷ 1 ∷ 2 ∷ 3 ∷ 4 ∷ 5 ∷ []) a → 0 ≡ refusalOf a
+not-refused Done h = refl
+not-refused (Value v) h = refl
+not-refused Sealed h = refl
+not-refused Moved h = refl
+not-refused Waiting h = refl
+not-refused Committed h = refl
+not-refused (Refused k) h = absurd (miss (0 ∷ 1 ∷ 2 ∷ 3 ∷ 4 ∷ 5 ∷ []) 6 tt h)
+
+pub begin-left : (a : Answer) → ofBegin a ≡ true → Tagged (0 ∷ 1 ∷ 2 ∷ 3 ∷ 4 ∷ 5 ∷ []) a → a ≡ Done
+begin-left Done g h = refl
+begin-left (Value v) g h = absurd (clash false g refl)
+begin-left Sealed g h = absurd (clash false g refl)
+begin-left Moved g h = absurd (clash false g refl)
+begin-left Waiting g h = absurd (clash false g refl)
+begin-left Committed g h = absurd (clash false g refl)
+begin-left (Refused k) g h = absurd (miss (0 ∷ 1 ∷ 2 ∷ 3 ∷ 4 ∷ 5 ∷ []) 6 tt h)
+
+pub read-left : (a : Answer) → ofRead a ≡ true → Tagged (0 ∷ 2 ∷ 3 ∷ 4 ∷ 5 ∷ 6 ∷ []) a → (refusalOf a ≡ number a) × (0 ≡ valueOf a)
+read-left Done g h = absurd (clash false g refl)
+read-left (Value v) g h = absurd (miss (0 ∷ 2 ∷ 3 ∷ 4 ∷ 5 ∷ 6 ∷ []) 1 tt h)
+read-left Sealed g h = absurd (clash false g refl)
+read-left Moved g h = absurd (clash false g refl)
+read-left Waiting g h = absurd (clash false g refl)
+read-left Committed g h = absurd (clash false g refl)
+read-left (Refused k) g h = (refl, refl)
+
+pub seal-left : (a : Answer) → ofSeal a ≡ true → Tagged (0 ∷ 1 ∷ 2 ∷ 3 ∷ 4 ∷ 5 ∷ []) a → Tagged (0 ∷ 1 ∷ 2 ∷ 3 ∷ 4 ∷ 6 ∷ []) a → a ≡ Sealed
+seal-left Done g h i = absurd (clash false g refl)
+seal-left (Value v) g h i = absurd (clash false g refl)
+seal-left Sealed g h i = refl
+seal-left Moved g h i = absurd (clash false g refl)
+seal-left Waiting g h i = absurd (clash false g refl)
+seal-left Committed g h i = absurd (miss (0 ∷ 1 ∷ 2 ∷ 3 ∷ 4 ∷ 6 ∷ []) 5 tt i)
+seal-left (Refused k) g h i = absurd (miss (0 ∷ 1 ∷ 2 ∷ 3 ∷ 4 ∷ 5 ∷ []) 6 tt h)
+
+-- an answer's numbers, beside the record
+pub numbers : (r : SessionReply) (a : Answer) → r .answer ≡ a → (n v : ℕ) → n ≡ number a → v ≡ valueOf a
+    → _≡_ {A = NumberReply} (record { number = n; value = v; session = r .session }) (numbersOf r)
+numbers r a e n v p q = λ i. record { number = (p ∙ ap number (sym e)) i; value = (q ∙ ap valueOf (sym e)) i; session = r .session }
