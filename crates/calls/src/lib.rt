@@ -123,6 +123,24 @@ pub fn admit(
     0
 }
 
+// Whether it is 0.
+pub fn admits(
+    n: usize,
+    classes: usize,
+    readers: usize,
+    claimants: usize,
+    exclusives: usize,
+    logs: usize,
+    session: u8,
+) -> bool
+    ensures { λ r. ⌜ r ≡ eqb (admission (lengthsMatch n classes readers claimants exclusives logs) session) 0 ⌝ }
+{
+    if !lengths_fit(n, classes, readers, claimants, exclusives, logs) {
+        return false;
+    }
+    session < 16
+}
+
 // Phase at most 4; in phases 1 to 4 at most 32 entries, each of a cell below n.
 fn entries_fit(log: &[u32], n: usize, x: Session) -> bool
     requires { ⌜ (length (now log) ≡ 128) × (n ≤ 1024) ⌝ }

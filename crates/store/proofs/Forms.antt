@@ -1,7 +1,7 @@
 -- What the calls on three slices cite: which part of a change each call's turn can hand back, and that what a read or a write decides with the lock looked up for it
 -- is its plan.
 use mathlib.Core.Path.{_≡_, refl, sym, ap, _∙_}
-use mathlib.Core.Bool.{Bool, cond, not, _&&_, _||_}
+use mathlib.Core.Bool.{Bool, false, cond, not, _&&_, _||_}
 use mathlib.Core.Option.{Option, none, some}
 use mathlib.Core.List.{List}
 use Prim.Native.Nat.{ℕ, _+_, _*_, _%_, _<_, _≤_}
@@ -38,7 +38,7 @@ use Rattle.calls.proofs.Choices.{Choice, refuses, knows, enters, read-choice, w
 use Rattle.turns.specs.AnyCall.{cellFor, planWith}
 use Rattle.turns.specs.InLogs.{inLogs}
 use Rattle.turns.proofs.AnyCall.{one-lock}
-use Rattle.turns.proofs.Lengths.{Admitted, refused}
+use Rattle.turns.proofs.Lengths.{Admitted, refused-by}
 use Rattle.turns.proofs.InLogs.{kept-in}
 use Rattle.turns.proofs.Whole.{planIn, can-change, takes}
 
@@ -195,12 +195,13 @@ module _ (k : Call) (B : Buffers) (x : Session) (s : ℕ) (i : s ≡ sessionOf k
       → TakesRecord k B x (r .answer) (record { values = vs; classes = B .classes; locks = N; logs = B .logs }) (r .session)
   kept-replies = replies k B x s i z q decided t vs (B .logs) in-logs W w
 
--- the call is refused by 7 or 1
-pub turned-down : (B : Buffers) (s n : ℕ)
-    → n ≡ admission (lengthsMatch (length (B .values)) (length (B .classes)) (length (B .locks .readers)) (length (B .locks .claimants)) (length (B .locks .exclusives)) (length (B .logs))) s
-    → (k : Call) → s ≡ sessionOf k → (n ≡ 0 → ⊥) → (x : Session) (r : SessionReply) → r ≡ record { answer = say.Refused n; session = x }
-    → TakesRecord k B x (r .answer) B (r .session)
-turned-down B s n e k i h x r f = rw f (refused B s n e k i h x)
+-- the call is refused by 7 or 1: the test answered no, and n is the number
+module _ (B : Buffers) (s : ℕ) (b : Bool)
+    (e : b ≡ eqb (admission (lengthsMatch (length (B .values)) (length (B .classes)) (length (B .locks .readers)) (length (B .locks .claimants)) (length (B .locks .exclusives)) (length (B .logs))) s) 0) where
+  pub turned-down : b ≡ false → (n : ℕ)
+      → n ≡ admission (lengthsMatch (length (B .values)) (length (B .classes)) (length (B .locks .readers)) (length (B .locks .claimants)) (length (B .locks .exclusives)) (length (B .logs))) s
+      → (k : Call) → s ≡ sessionOf k → (x : Session) (r : SessionReply) → r ≡ record { answer = say.Refused n; session = x } → TakesRecord k B x (r .answer) B (r .session)
+  turned-down h n o k i x r f = rw f (refused-by B s b e h n o k i x)
 
 -- of all sixteen, where the code takes the record out and puts the one handed back in its place
 pub of-sixteen : (k : Call) (B C : Buffers) (ss : Sessions) (s : ℕ) → s ≡ sessionOf k → (a : Answer) (y : Session) → TakesRecord k B (getD (ss .records) (s % 16) idle) a C y

@@ -116,17 +116,13 @@ pub fn begin(
     ensures { λ r. ⌜ TakesOne (Begin session) values classes readers claimants exclusives logs x r ⌝ }
 {
     let n = values.len();
-    let refusal = calls::admit(
-        n,
-        classes.len(),
-        readers.len(),
-        claimants.len(),
-        exclusives.len(),
-        logs.len(),
-        session,
-    );
-    if refusal != 0 {
-        return refused(refusal, x);
+    let k = classes.len();
+    let r = readers.len();
+    let c = claimants.len();
+    let m = exclusives.len();
+    let w = logs.len();
+    if !calls::admits(n, k, r, c, m, w, session) {
+        return refused(calls::admit(n, k, r, c, m, w, session), x);
     }
     let log = log::of_session(logs, session);
     replied(calls::take_begin(log, n, x))
@@ -147,17 +143,13 @@ pub fn read(
     ensures { λ r. ⌜ TakesOne (Read session cell) values classes readers claimants exclusives logs x r ⌝ }
 {
     let n = values.len();
-    let refusal = calls::admit(
-        n,
-        classes.len(),
-        readers.len(),
-        claimants.len(),
-        exclusives.len(),
-        logs.len(),
-        session,
-    );
-    if refusal != 0 {
-        return refused(refusal, x);
+    let k = classes.len();
+    let r = readers.len();
+    let c = claimants.len();
+    let m = exclusives.len();
+    let w = logs.len();
+    if !calls::admits(n, k, r, c, m, w, session) {
+        return refused(calls::admit(n, k, r, c, m, w, session), x);
     }
     let p = calls::read_plan(log::of_session(&logs[..], session), n, x, cell);
     let l = locks::lock_for(&readers[..], &claimants[..], &exclusives[..], p);
@@ -192,17 +184,13 @@ pub fn write(
     ensures { λ r. ⌜ TakesOne (Write session cell value) values classes readers claimants exclusives logs x r ⌝ }
 {
     let n = values.len();
-    let refusal = calls::admit(
-        n,
-        classes.len(),
-        readers.len(),
-        claimants.len(),
-        exclusives.len(),
-        logs.len(),
-        session,
-    );
-    if refusal != 0 {
-        return refused(refusal, x);
+    let k = classes.len();
+    let r = readers.len();
+    let c = claimants.len();
+    let m = exclusives.len();
+    let w = logs.len();
+    if !calls::admits(n, k, r, c, m, w, session) {
+        return refused(calls::admit(n, k, r, c, m, w, session), x);
     }
     let p = calls::write_plan(log::of_session(&logs[..], session), classes, x, cell, value);
     let l = locks::lock_for(&readers[..], &claimants[..], &exclusives[..], p);
@@ -235,17 +223,13 @@ pub fn seal(
     ensures { λ r. ⌜ TakesOne (Seal session) values classes readers claimants exclusives logs x r ⌝ }
 {
     let n = values.len();
-    let refusal = calls::admit(
-        n,
-        classes.len(),
-        readers.len(),
-        claimants.len(),
-        exclusives.len(),
-        logs.len(),
-        session,
-    );
-    if refusal != 0 {
-        return refused(refusal, x);
+    let k = classes.len();
+    let r = readers.len();
+    let c = claimants.len();
+    let m = exclusives.len();
+    let w = logs.len();
+    if !calls::admits(n, k, r, c, m, w, session) {
+        return refused(calls::admit(n, k, r, c, m, w, session), x);
     }
     let log = log::of_session(logs, session);
     let t = calls::take_seal(log, n, x);
@@ -269,17 +253,13 @@ pub fn advance(
     ensures { λ r. ⌜ TakesOne (Advance session) values classes readers claimants exclusives logs x r ⌝ }
 {
     let n = values.len();
-    let refusal = calls::admit(
-        n,
-        classes.len(),
-        readers.len(),
-        claimants.len(),
-        exclusives.len(),
-        logs.len(),
-        session,
-    );
-    if refusal != 0 {
-        return refused(refusal, x);
+    let k = classes.len();
+    let r = readers.len();
+    let c = claimants.len();
+    let m = exclusives.len();
+    let w = logs.len();
+    if !calls::admits(n, k, r, c, m, w, session) {
+        return refused(calls::admit(n, k, r, c, m, w, session), x);
     }
     let log = log::of_session(logs, session);
     let due = calls::due_slot(log, n, x);
@@ -306,17 +286,13 @@ pub fn abandon(
     ensures { λ r. ⌜ TakesOne (Abandon session) values classes readers claimants exclusives logs x r ⌝ }
 {
     let n = values.len();
-    let refusal = calls::admit(
-        n,
-        classes.len(),
-        readers.len(),
-        claimants.len(),
-        exclusives.len(),
-        logs.len(),
-        session,
-    );
-    if refusal != 0 {
-        return refused(refusal, x);
+    let k = classes.len();
+    let r = readers.len();
+    let c = claimants.len();
+    let m = exclusives.len();
+    let w = logs.len();
+    if !calls::admits(n, k, r, c, m, w, session) {
+        return refused(calls::admit(n, k, r, c, m, w, session), x);
     }
     let log = log::of_session(logs, session);
     let t = calls::take_abandon(log, n, x);
@@ -343,17 +319,13 @@ pub fn peek_plan(
     ensures { λ r. ⌜ PeekPlans session cell values classes readers claimants exclusives logs x r ⌝ }
 {
     let n = values.len();
-    let refusal = calls::admit(
-        n,
-        classes.len(),
-        readers.len(),
-        claimants.len(),
-        exclusives.len(),
-        logs.len(),
-        session,
-    );
-    if refusal != 0 {
-        return Plan::Refuse(refusal);
+    let k = classes.len();
+    let r = readers.len();
+    let c = claimants.len();
+    let m = exclusives.len();
+    let w = logs.len();
+    if !calls::admits(n, k, r, c, m, w, session) {
+        return Plan::Refuse(calls::admit(n, k, r, c, m, w, session));
     }
     calls::peek_plan(log::of_session(logs, session), n, x, cell)
 }
@@ -450,17 +422,13 @@ fn step_one(
 {
     let session = call.session();
     let n = values.len();
-    let refusal = calls::admit(
-        n,
-        classes.len(),
-        readers.len(),
-        claimants.len(),
-        exclusives.len(),
-        logs.len(),
-        session,
-    );
-    if refusal != 0 {
-        return refused(refusal, x);
+    let k = classes.len();
+    let r = readers.len();
+    let c = claimants.len();
+    let m = exclusives.len();
+    let w = logs.len();
+    if !calls::admits(n, k, r, c, m, w, session) {
+        return refused(calls::admit(n, k, r, c, m, w, session), x);
     }
     let cell = turns::cell_for(call, log::of_session(&logs[..], session), n, x);
     let l = locks::at(&readers[..], &claimants[..], &exclusives[..], cell);

@@ -90,3 +90,17 @@ module _ (B : Buffers) (s r : ℕ)
   pub refused : (k : Call) → s ≡ sessionOf k → (r ≡ 0 → ⊥) → (x : Session) → TakesRecord k B x (Refused r) B x
   refused k i n x ss o =
       rw (← o, same-record ss (sessionOf k % 16)) (refuses k (record { lent = B; sessions = ss }) r (plan-refused k i n (record { lent = B; sessions = ss }) refl))
+
+-- the same where the code has the test's answer t first, and asks for the number only where it did not pass
+module _ (B : Buffers) (s : ℕ) (t : Bool)
+    (e : t ≡ eqb (admission (lengthsMatch (length (B .values)) (length (B .classes)) (length (B .locks .readers)) (length (B .locks .claimants)) (length (B .locks .exclusives)) (length (B .logs))) s) 0) where
+  pub admitted-by : t ≡ true → Admitted B s
+  admitted-by z = admitted B s _ refl (eqb-true _ 0 (sym e ∙ z))
+
+  module _ (z : t ≡ false) (r : ℕ)
+      (o : r ≡ admission (lengthsMatch (length (B .values)) (length (B .classes)) (length (B .locks .readers)) (length (B .locks .claimants)) (length (B .locks .exclusives)) (length (B .logs))) s) (k : Call) (i : s ≡ sessionOf k) where
+    pub plan-refused-by : (σ : Store) → σ .lent ≡ B → Refuse r ≡ planOf k σ
+    plan-refused-by = plan-refused B s r o k i (λ w. eqb-false _ 0 (sym e ∙ z) (sym o ∙ w))
+
+    pub refused-by : (x : Session) → TakesRecord k B x (Refused r) B x
+    refused-by = refused B s r o k i (λ w. eqb-false _ 0 (sym e ∙ z) (sym o ∙ w))

@@ -1,9 +1,10 @@
 -- What a peek decides is its plan, of every sixteen records of which this one is the session's.
 use mathlib.Core.Path.{refl, _∙_}
+use borrow.Author.Tests.{not-true, not-false}
 use Rattle.model.specs.Buffers.{Buffers}
 use Rattle.model.specs.Plans.{plan}
 use Rattle.model.specs.declared.Call.the-variants.{Peek}
-use Rattle.turns.proofs.Lengths.{Admitted, admitted, plan-refused}
+use Rattle.turns.proofs.Lengths.{Admitted, admitted-by, plan-refused-by}
 use Rattle.turns.proofs.Whole.{is-plan}
 use Rattle.store.specs.Lent.{buffersOf}
 use Rattle.store.proofs.Forms.{log-fits}
@@ -16,10 +17,10 @@ abbrev lent : tie.Start → Buffers
 lent c = buffersOf (c .args .values .now) (c .args .classes .now) (c .args .readers .now) (c .args .claimants .now) (c .args .exclusives .now) (c .args .logs .now)
 
 fits : (c : tie.Else1) → Admitted (lent (c .before .before .before .before .before .before .before .before)) (c .before .before .before .before .before .before .before .before .args .session)
-fits c = admitted (lent (c .before .before .before .before .before .before .before .before)) _ _ (c .before .admit .ensures) (c .if1 .left)
+fits c = admitted-by (lent (c .before .before .before .before .before .before .before .before)) _ _ (c .before .admits .ensures) (not-false _ (c .if1 .left))
 
 returns : tie.Need-returns
-returns c = λ ss o. plan-refused (lent (c .before .before .before .before .before .before .before .before)) _ _ (c .before .admit .ensures) (Peek _ _) refl (c .if1 .taken) (record { lent = lent (c .before .before .before .before .before .before .before .before); sessions = ss }) refl
+returns c = λ ss o. plan-refused-by (lent (c .before .before .before .before .before .before .before .before .before)) _ _ (c .before .before .admits .ensures) (not-true _ (c .before .if1 .taken)) _ (c .admit .ensures) (Peek _ _) refl (record { lent = lent (c .before .before .before .before .before .before .before .before .before); sessions = ss }) refl
 
 of-session-requires : tie.Need-of-session-requires
 of-session-requires c κs = (fits (c) .low, fits (c) .lengths .logs)
@@ -34,4 +35,4 @@ returns-2 c = λ ss o. (rw (c .before .of-session .ensures) at (c .peek-plan .en
 pub peek-plan-spec : {M : Type 1} → statement M
 peek-plan-spec =
     tie.close
-    (tie.spec (λ c κs. search needs) returns of-session-requires peek-plan-requires returns-2)
+    (tie.spec (λ c κs. search needs) (λ c κs. search needs) returns of-session-requires peek-plan-requires returns-2)

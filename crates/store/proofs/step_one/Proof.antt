@@ -1,7 +1,8 @@
 -- Any call meets its contract: 7 and 1 are the model's; past them its turn is, with the lock of the cell that it may need, and the change of the locks.
 use mathlib.Core.Path.{refl, sym, _∙_}
+use borrow.Author.Tests.{not-true, not-false}
 use Rattle.model.specs.Buffers.{Buffers}
-use Rattle.turns.proofs.Lengths.{Admitted, admitted}
+use Rattle.turns.proofs.Lengths.{Admitted, admitted-by}
 use Rattle.store.specs.Lent.{buffersOf}
 use Rattle.store.proofs.Forms.{even, log-fits, any-planned, can-carry, replies, turned-down}
 use borrow.Author.Needs.{needs}
@@ -13,10 +14,10 @@ abbrev lent : tie.Start → Buffers
 lent c = buffersOf (c .args .values .now) (c .args .classes .now) (c .args .readers .now) (c .args .claimants .now) (c .args .exclusives .now) (c .args .logs .now)
 
 fits : (c : tie.Else1) → Admitted (lent (c .before .before .before .before .before .before .before .before .before)) (c .before .before .session .result)
-fits c = admitted (lent (c .before .before .before .before .before .before .before .before .before)) _ _ (c .before .admit .ensures) (c .if1 .left)
+fits c = admitted-by (lent (c .before .before .before .before .before .before .before .before .before)) _ _ (c .before .admits .ensures) (not-false _ (c .if1 .left))
 
 returns : tie.Need-returns
-returns c = turned-down (lent (c .before .before .before .before .before .before .before .before .before .before)) _ _ (c .before .before .admit .ensures) (c .before .before .before .before .before .before .before .before .before .before .args .call) (c .before .before .before .session .ensures) (c .before .if1 .taken) _ _ (c .refused .ensures)
+returns c = turned-down (lent (c .before .before .before .before .before .before .before .before .before .before .before)) _ _ (c .before .before .before .admits .ensures) (not-true _ (c .before .before .if1 .taken)) _ (c .before .admit .ensures) (c .before .before .before .before .before .before .before .before .before .before .before .args .call) (c .before .before .before .before .session .ensures) _ _ (c .refused .ensures)
 
 of-session-requires : tie.Need-of-session-requires
 of-session-requires c κs = (fits (c .before) .low, fits (c .before) .lengths .logs)
@@ -60,4 +61,4 @@ returns-2 c = let e = even _ _ (fits (c .before .before .before .before .before 
 pub step-one-spec : {M : Type 1} → statement M
 step-one-spec =
     tie.close
-    (tie.spec (λ c κs. search needs) (λ c κs. search needs) (λ c κs. search needs) returns of-session-requires cell-for-requires at-requires any-requires (λ c. search needs) of-session-requires-2 carry-out-requires change-drop-requires (λ c κs. search needs) same-length same-length-2 same-length-3 same-length-4 same-length-5 returns-2)
+    (tie.spec (λ c κs. search needs) (λ c κs. search needs) (λ c κs. search needs) (λ c κs. search needs) returns of-session-requires cell-for-requires at-requires any-requires (λ c. search needs) of-session-requires-2 carry-out-requires change-drop-requires (λ c κs. search needs) same-length same-length-2 same-length-3 same-length-4 same-length-5 returns-2)
