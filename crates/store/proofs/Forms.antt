@@ -20,6 +20,7 @@ use Rattle.model.specs.declared.Call.the-variants.{Advance}
 use Rattle.model.specs.declared.Answer.{Answer}
 use Rattle.model.specs.declared.Answer.the-variants as say
 use Rattle.model.specs.declared.SessionReply.{SessionReply}
+use Rattle.model.specs.declared.Reply.{Reply}
 use Rattle.model.specs.declared.Turn.{Turn}
 use Rattle.model.specs.declared.Plan.{Plan}
 use Rattle.model.specs.declared.Plan.the-variants.{Refuse, Start, Tell, Enter, Update, EnterUpdate, Cancel}
@@ -203,8 +204,10 @@ module _ (B : Buffers) (s : ℕ) (b : Bool)
       → (k : Call) → s ≡ sessionOf k → (x : Session) (r : SessionReply) → r ≡ record { answer = say.Refused n; session = x } → TakesRecord k B x (r .answer) B (r .session)
   turned-down h n o k i x r f = rw f (refused-by B s b e h n o k i x)
 
--- of all sixteen, where the code takes the record out and puts the one handed back in its place
-pub of-sixteen : (k : Call) (B C : Buffers) (ss : Sessions) (s : ℕ) → s ≡ sessionOf k → (a : Answer) (y : Session) → TakesRecord k B (getD (ss .records) (s % 16) idle) a C y
-    → outcome a (record { lent = C; sessions = record { records = set (ss .records) (s % 16) y } }) ≡ effect k (record { lent = B; sessions = ss })
-unfolding sessionAt withSession
-of-sixteen k B C ss s i a y t = rw i ((rw i at t) ss refl)
+-- ---- of all sixteen records
+
+-- x is the session's, and the reply has the record handed back in its place
+pub of-sixteen : (k : Call) (B C : Buffers) (ss : Sessions) (s : ℕ) → s ≡ sessionOf k → (x : Session) → x ≡ sessionAt ss (s % 16) → (t : Turn) → TakesRecord k B x (t .answer) C (t .session)
+    → (r : Reply) → r ≡ record { answer = t .answer; sessions = withSession ss (s % 16) (t .session) }
+    → outcome (r .answer) (record { lent = C; sessions = r .sessions }) ≡ effect k (record { lent = B; sessions = ss })
+of-sixteen k B C ss s i x o t h r f = rw (f, i) (h ss (sym (rw i at o)))

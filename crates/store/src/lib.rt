@@ -407,44 +407,10 @@ pub fn peek_number(
 
 // ---- any call
 
-// Any call, on the record of its session.
-fn step_one(
-    call: Call,
-    x: Session,
-    values: &mut [u32],
-    classes: &[u8],
-    readers: &mut [u16],
-    claimants: &mut [u8],
-    exclusives: &mut [u8],
-    logs: &mut [u32],
-) -> SessionReply
-    ensures { λ r. ⌜ TakesOne call values classes readers claimants exclusives logs x r ⌝ }
-{
-    let session = call.session();
-    let n = values.len();
-    let k = classes.len();
-    let r = readers.len();
-    let c = claimants.len();
-    let m = exclusives.len();
-    let w = logs.len();
-    if !calls::admits(n, k, r, c, m, w, session) {
-        return refused(calls::admit(n, k, r, c, m, w, session), x);
-    }
-    let cell = turns::cell_for(call, log::of_session(&logs[..], session), n, x);
-    let l = locks::at(&readers[..], &claimants[..], &exclusives[..], cell);
-    let t = turns::any(call, values, classes, logs, x, l, session);
-    let change = t.change;
-    let count = x.count as usize;
-    let log = log::of_session(&logs[..], session);
-    locks::carry_out(change, log, count, readers, claimants, exclusives, session);
-    locks::change_drop(change, log, count, readers, session);
-    replied(t)
-}
-
 // One call of a list: the record of its session is taken out of the sixteen, and the one handed back put in its place.
 pub fn step(
     call: Call,
-    mut sessions: Sessions,
+    sessions: Sessions,
     values: &mut [u32],
     classes: &[u8],
     readers: &mut [u16],
@@ -454,20 +420,27 @@ pub fn step(
 ) -> Reply
     ensures { λ r. ⌜ Takes call values classes readers claimants exclusives logs sessions r ⌝ }
 {
-    let i = (call.session() % 16) as usize;
-    let x = sessions.records[i];
-    let r = step_one(
-        call,
-        x,
-        values,
-        classes,
-        readers,
-        claimants,
-        exclusives,
-        logs,
-    );
-    let answer = r.answer;
-    let y = r.session;
-    sessions.records[i] = y;
-    Reply { answer, sessions }
+    let session = call.session();
+    let n = values.len();
+    let k = classes.len();
+    let r = readers.len();
+    let c = claimants.len();
+    let m = exclusives.len();
+    let w = logs.len();
+    if !calls::admits(n, k, r, c, m, w, session) {
+        return Reply {
+            answer: Answer::Refused(calls::admit(n, k, r, c, m, w, session)),
+            sessions,
+        };
+    }
+    let x = turns::record_of(sessions, session);
+    let cell = turns::cell_for(call, log::of_session(&logs[..], session), n, x);
+    let l = locks::at(&readers[..], &claimants[..], &exclusives[..], cell);
+    let t = turns::any(call, values, classes, logs, x, l, session);
+    let change = t.change;
+    let count = x.count as usize;
+    let log = log::of_session(&logs[..], session);
+    locks::carry_out(change, log, count, readers, claimants, exclusives, session);
+    locks::change_drop(change, log, count, readers, session);
+    turns::put_back(t, sessions, session)
 }

@@ -1,9 +1,10 @@
-// What every form of the locks shares above the calls: a turn on the logs of all sessions, of which the session's is lent on, and any call's turn.
+// What every form of the locks shares above the calls: a turn on the logs of all sessions, of which the session's is lent on, the records of all sixteen, and
+// any call's turn.
 // The laws by which a form meets its contracts stand in proofs/ (Lengths, Logs, Fitting, Whole, Peeks, SetUp).
 ghost use mathlib.Core.Path.{_≡_};
-ghost use Prim.Native.Nat.{_<_, _≤_};
+ghost use Prim.Native.Nat.{_<_, _≤_, _%_};
 ghost use lib.ListN.{length};
-ghost use Rattle.model.specs.Buffers.{free, logIn};
+ghost use Rattle.model.specs.Buffers.{free, sessionAt, withSession, logIn};
 ghost use Rattle.model.specs.Plans.{readPlan, writePlan, peekPlan};
 ghost use Rattle.model.specs.Step.{sessionOf};
 ghost use Rattle.model.specs.Turns.{TakesTurn, TurnsLog};
@@ -14,7 +15,9 @@ use model::Call;
 use model::Change;
 use model::Lock;
 use model::Plan;
+use model::Reply;
 use model::Session;
+use model::Sessions;
 use model::Turn;
 
 // ---- a turn that changes the session's log
@@ -55,6 +58,25 @@ pub fn write(
     let a = 128 * (session as usize);
     let e = a + 128;
     calls::take_write(values, classes, &mut logs[a..e], x, l, cell, written, p)
+}
+
+// ---- the records of all sixteen
+
+// The record of a session, which is taken modulo 16.
+pub fn record_of(sessions: Sessions, session: u8) -> Session
+    ensures { λ r. ⌜ r ≡ sessionAt sessions (session % 16) ⌝ }
+{
+    sessions.records[(session % 16) as usize]
+}
+
+// A turn's answer, with its record put back in its place.
+pub fn put_back(t: Turn, mut sessions: Sessions, session: u8) -> Reply
+    ensures { λ r. ⌜ r ≡ record { answer = t .answer; sessions = withSession sessions (session % 16) (t .session) } ⌝ }
+{
+    let answer = t.answer;
+    let x = t.session;
+    sessions.records[(session % 16) as usize] = x;
+    Reply { answer, sessions }
 }
 
 // ---- any call
