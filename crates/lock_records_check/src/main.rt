@@ -185,7 +185,7 @@ fn call_both(
     let x = a.sessions;
     let y = b.reply.sessions;
     let run = b.locks;
-    let slices = store::step(
+    let slices = lists::step(
         call,
         x,
         values,

@@ -20,7 +20,6 @@ use Rattle.model.specs.declared.Call.the-variants.{Advance}
 use Rattle.model.specs.declared.Answer.{Answer}
 use Rattle.model.specs.declared.Answer.the-variants as say
 use Rattle.model.specs.declared.SessionReply.{SessionReply}
-use Rattle.model.specs.declared.Reply.{Reply}
 use Rattle.model.specs.declared.Turn.{Turn}
 use Rattle.model.specs.declared.Plan.{Plan}
 use Rattle.model.specs.declared.Plan.the-variants.{Refuse, Start, Tell, Enter, Update, EnterUpdate, Cancel}
@@ -36,9 +35,7 @@ use Rattle.calls.specs.declared.Due.{Due}
 use Rattle.calls.specs.declared.Due.the-variants.{Refused, Slot}
 use Rattle.calls.proofs.Agree.{advance-agree}
 use Rattle.calls.proofs.Choices.{Choice, refuses, knows, enters, read-choice, write-choice, when-told}
-use Rattle.turns.specs.AnyCall.{cellFor, planWith}
 use Rattle.turns.specs.InLogs.{inLogs}
-use Rattle.turns.proofs.AnyCall.{one-lock}
 use Rattle.turns.proofs.Lengths.{Admitted, refused-by}
 use Rattle.turns.proofs.InLogs.{kept-in}
 use Rattle.turns.proofs.Whole.{planIn, can-change, takes}
@@ -141,11 +138,6 @@ pub advance-planned : (n s : ℕ) (ks log : List ℕ) (x : Session) (L : Locks) 
     → duePlan s log x l d ≡ plan (Advance s) n ks log x (lockAt L)
 advance-planned n s ks log x L l d c e f g = rw (g, f, e) (advance-agree n s ks log x (lockAt L))
 
--- and what any call decides with the lock of the cell that it may need
-pub any-planned : (k : Call) (n : ℕ) (ks log W : List ℕ) (x : Session) (L : Locks) (l : Lock) (c : ℕ) → W ≡ log → c ≡ cellFor k n W x → l ≡ lockAt L c
-    → planWith k n ks log x l ≡ plan k n ks log x (lockAt L)
-any-planned k n ks log W x L l c w f g = rw (g, f, w) (one-lock k n ks log x (lockAt L))
-
 -- ---- what the functions below ask, past 7 and 1
 
 -- of as many cells as there are reader sets
@@ -203,11 +195,3 @@ module _ (B : Buffers) (s : ℕ) (b : Bool)
       → n ≡ admission (lengthsMatch (length (B .values)) (length (B .classes)) (length (B .locks .readers)) (length (B .locks .claimants)) (length (B .locks .exclusives)) (length (B .logs))) s
       → (k : Call) → s ≡ sessionOf k → (x : Session) (r : SessionReply) → r ≡ record { answer = say.Refused n; session = x } → TakesRecord k B x (r .answer) B (r .session)
   turned-down h n o k i x r f = rw f (refused-by B s b e h n o k i x)
-
--- ---- of all sixteen records
-
--- x is the session's, and the reply has the record handed back in its place
-pub of-sixteen : (k : Call) (B C : Buffers) (ss : Sessions) (s : ℕ) → s ≡ sessionOf k → (x : Session) → x ≡ sessionAt ss (s % 16) → (t : Turn) → TakesRecord k B x (t .answer) C (t .session)
-    → (r : Reply) → r ≡ record { answer = t .answer; sessions = withSession ss (s % 16) (t .session) }
-    → outcome (r .answer) (record { lent = C; sessions = r .sessions }) ≡ effect k (record { lent = B; sessions = ss })
-of-sixteen k B C ss s i x o t h r f = rw (f, i) (h ss (sym (rw i at o)))

@@ -1,13 +1,12 @@
 // The store: set-up and the calls, on number slices that the caller lends (document 01, "The steps").
 // A call takes the record of its session and hands it back with its answer. It is admitted (7 and 1), looks up the lock that it needs, takes its turn
-// (crates calls and turns) and carries out what becomes of the locks. `step` is any call on the records of all sixteen.
+// (crates calls and turns) and carries out what becomes of the locks.
 ghost use mathlib.Core.Path.{_≡_};
 ghost use lib.ListN.{length, replicate};
 ghost use Rattle.model.specs.declared.Answer.the-variants.{Refused};
 ghost use Rattle.model.specs.declared.Call.the-variants.{Begin, Read, Write, Seal, Advance, Abandon, Peek};
-ghost use Rattle.store.specs.Lent.{Takes, TakesOne, SetsUp, PeekPlans, HandsBack};
+ghost use Rattle.store.specs.Lent.{TakesOne, SetsUp, PeekPlans, HandsBack};
 use model::Answer;
-use model::Call;
 use model::Plan;
 use model::Reply;
 use model::Session;
@@ -403,44 +402,4 @@ pub fn peek_number(
         answer: Answer::Done,
         session: x,
     }
-}
-
-// ---- any call
-
-// One call of a list: the record of its session is taken out of the sixteen, and the one handed back put in its place.
-pub fn step(
-    call: Call,
-    sessions: Sessions,
-    values: &mut [u32],
-    classes: &[u8],
-    readers: &mut [u16],
-    claimants: &mut [u8],
-    exclusives: &mut [u8],
-    logs: &mut [u32],
-) -> Reply
-    ensures { λ r. ⌜ Takes call values classes readers claimants exclusives logs sessions r ⌝ }
-{
-    let session = call.session();
-    let n = values.len();
-    let k = classes.len();
-    let r = readers.len();
-    let c = claimants.len();
-    let m = exclusives.len();
-    let w = logs.len();
-    if !calls::admits(n, k, r, c, m, w, session) {
-        return Reply {
-            answer: Answer::Refused(calls::admit(n, k, r, c, m, w, session)),
-            sessions,
-        };
-    }
-    let x = turns::record_of(sessions, session);
-    let cell = turns::cell_for(call, log::of_session(&logs[..], session), n, x);
-    let l = locks::at(&readers[..], &claimants[..], &exclusives[..], cell);
-    let t = turns::any(call, values, classes, logs, x, l, session);
-    let change = t.change;
-    let count = x.count as usize;
-    let log = log::of_session(&logs[..], session);
-    locks::carry_out(change, log, count, readers, claimants, exclusives, session);
-    locks::change_drop(change, log, count, readers, session);
-    turns::put_back(t, sessions, session)
 }

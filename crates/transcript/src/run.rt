@@ -36,7 +36,7 @@ fn run_calls(
         let Next::Call { call, length } = next else {
             return lines::put_end(output, at, place, next, &values[..]);
         };
-        let reply = store::step(
+        let reply = lists::step(
             call,
             sessions,
             values,

@@ -1,13 +1,14 @@
--- `store::step` meets its contract: 7 and 1 are the model's; past them the turn of any call is, with the lock of the cell that it may need, the change of the locks, and the record put back.
+-- `lists::step` meets its contract: 7 and 1 are the model's; past them the turn of any call is, with the lock of the cell that it may need, the change of the locks, and the record put back.
 use mathlib.Core.Path.{refl, sym, _∙_}
 use borrow.Author.Tests.{not-true, not-false}
 use Rattle.model.specs.Buffers.{Buffers}
 use Rattle.turns.proofs.Lengths.{Admitted, admitted-by, plan-refused-by, refuses}
 use Rattle.store.specs.Lent.{buffersOf}
-use Rattle.store.proofs.Forms.{even, log-fits, any-planned, can-carry, replies, of-sixteen}
+use Rattle.store.proofs.Forms.{even, log-fits, can-carry, replies}
+use Rattle.lists.proofs.Laws.{any-planned, of-sixteen}
 use borrow.Author.Needs.{needs}
-use Rattle.store.proofs.step.Statement.{statement}
-use Rattle.store.proofs.step.Tie as tie
+use Rattle.lists.proofs.step.Statement.{statement}
+use Rattle.lists.proofs.step.Tie as tie
 
 -- the buffers at the entry, and what is known past 7 and 1
 abbrev lent : tie.Start → Buffers

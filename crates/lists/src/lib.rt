@@ -1,0 +1,46 @@
+// Any call of a list, on the records of all sixteen sessions and the locks as number slices: for the replay, and for code that has a `Call` in hand.
+// It is built from the same functions as the calls on one record (crate store); only which of them it is, is found by the call.
+ghost use mathlib.Core.Path.{_≡_};
+ghost use Rattle.store.specs.Lent.{Takes};
+use model::Answer;
+use model::Call;
+use model::Reply;
+use model::Sessions;
+
+// One call of a list: the record of its session is taken out of the sixteen, and the one handed back put in its place.
+pub fn step(
+    call: Call,
+    sessions: Sessions,
+    values: &mut [u32],
+    classes: &[u8],
+    readers: &mut [u16],
+    claimants: &mut [u8],
+    exclusives: &mut [u8],
+    logs: &mut [u32],
+) -> Reply
+    ensures { λ r. ⌜ Takes call values classes readers claimants exclusives logs sessions r ⌝ }
+{
+    let session = call.session();
+    let n = values.len();
+    let k = classes.len();
+    let r = readers.len();
+    let c = claimants.len();
+    let m = exclusives.len();
+    let w = logs.len();
+    if !calls::admits(n, k, r, c, m, w, session) {
+        return Reply {
+            answer: Answer::Refused(calls::admit(n, k, r, c, m, w, session)),
+            sessions,
+        };
+    }
+    let x = turns::record_of(sessions, session);
+    let cell = turns::cell_for(call, log::of_session(&logs[..], session), n, x);
+    let l = locks::at(&readers[..], &claimants[..], &exclusives[..], cell);
+    let t = turns::any(call, values, classes, logs, x, l, session);
+    let change = t.change;
+    let count = x.count as usize;
+    let log = log::of_session(&logs[..], session);
+    locks::carry_out(change, log, count, readers, claimants, exclusives, session);
+    locks::change_drop(change, log, count, readers, session);
+    turns::put_back(t, sessions, session)
+}
