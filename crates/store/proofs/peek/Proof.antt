@@ -1,4 +1,4 @@
--- `store::peek` meets its contract: the part handed back is the word that the plan names, by its pointer; Peeks.antt of crate calls has the three ways.
+-- `store::peek` meets its contract: the part handed back is the word that the plan names, by its pointer; Peeks.antt of crate turns has the three ways.
 use mathlib.Core.Path.{refl}
 use Rattle.model.specs.Buffers.{Buffers}
 use Rattle.turns.proofs.Peeks.{plan-alone, peek-inside, peek-logged, hands-store, hands-log, hands-nothing}
