@@ -40,27 +40,28 @@ module _ (vs log : List ℕ) (x : Session) (p : Plan) where
     unfolding turnOf
     turn-updated k v W h i f = rw (h, f, i)
 
+    pub turn-rolled-back : p ≡ RollBack → t ≡ record { answer = say.Refused 6; session = idle; change = to.Withdraw }
+        → leaves (t .answer) vs log (t .session) (t .change) ≡ turnOf p vs log x
+    unfolding turnOf
+    turn-rolled-back h f = rw (h, f)
+
+    pub turn-entered : (c v : ℕ) (W : List ℕ) → p ≡ Enter c → v ≡ getD vs c 0 → W ≡ appended log (x .count) c v
+        → t ≡ record { answer = say.Value v; session = withEntry x; change = to.Join c } → leaves (t .answer) vs W (t .session) (t .change) ≡ turnOf p vs log x
+    unfolding turnOf
+    turn-entered c v W h i j f = rw (h, f, j, i)
+
+    pub turn-enter-updated : (c v u : ℕ) (U W : List ℕ) → p ≡ EnterUpdate c v → u ≡ getD vs c 0 → U ≡ appended log (x .count) c u → W ≡ updated U (x .count) v
+        → t ≡ record { answer = say.Done; session = withEntry x; change = to.Join c } → leaves (t .answer) vs W (t .session) (t .change) ≡ turnOf p vs log x
+    unfolding turnOf
+    turn-enter-updated c v u U W h i j k f = rw (h, f, k, j, i)
+
     pub turn-published : (c v : ℕ) (more : Bool) (d : Handled) → p ≡ Publish c v → more ≡ isLeft log c x → d ≡ handledBy more x c
         → t ≡ record { answer = say.Moved; session = d .session; change = to.Keep }
         → leaves (t .answer) (set vs c v) log (t .session) (t .change) ≡ turnOf p vs log x
     unfolding turnOf
     turn-published c v more d h m i f = rw (h, f, i, handled-is log x c more m)
 
-  pub turn-entered : (c v : ℕ) (W : List ℕ) (y : Session) → p ≡ Enter c → v ≡ getD vs c 0 → W ≡ appended log (x .count) c v → y ≡ withEntry x
-      → leaves (say.Value v) vs W y (to.Join c) ≡ turnOf p vs log x
-  unfolding turnOf
-  turn-entered c v W y h i j k = rw (h, j, k, i)
-
-  pub turn-enter-updated : (c v u : ℕ) (U W : List ℕ) (y : Session) → p ≡ EnterUpdate c v → u ≡ getD vs c 0 → U ≡ appended log (x .count) c u
-      → W ≡ updated U (x .count) v → y ≡ withEntry x → leaves say.Done vs W y (to.Join c) ≡ turnOf p vs log x
-  unfolding turnOf
-  turn-enter-updated c v u U W y h i j k l = rw (h, k, j, l, i)
-
   module _ (y : Session) where
-    pub turn-rolled-back : p ≡ RollBack → y ≡ idle → leaves (say.Refused 6) vs log y to.Withdraw ≡ turnOf p vs log x
-    unfolding turnOf
-    turn-rolled-back h k = rw (h, k)
-
     pub turn-cancelled : p ≡ Cancel → y ≡ idle → leaves say.Done vs log y to.Withdraw ≡ turnOf p vs log x
     unfolding turnOf
     turn-cancelled h k = rw (h, k)

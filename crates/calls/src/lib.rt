@@ -5,11 +5,12 @@ ghost use mathlib.Core.Bool.{true, false, not, _&&_, _||_};
 ghost use Prim.Native.Nat.{_+_, _*_, _<_, _≤_};
 ghost use lib.Dec.{eqb};
 ghost use lib.ListN.{length};
-ghost use Rattle.model.specs.Buffers.{free, cap, allFit, lengthsMatch};
+ghost use Rattle.model.specs.Buffers.{free, idle, withEntry, cap, allFit, lengthsMatch};
 ghost use Rattle.model.specs.Plans.{claimed, newCell, entriesFit, recordFits, guard, readPlan, writeCapped, writePlan, sealPlan, peekPlan};
 ghost use Rattle.model.specs.Turns.{TakesTurn, TurnsLog};
+ghost use Rattle.model.specs.declared.Answer.the-variants.{Refused};
 ghost use Rattle.model.specs.declared.Plan.the-variants.{Start, Cancel};
-ghost use Rattle.model.specs.declared.Change.the-variants.{Keep};
+ghost use Rattle.model.specs.declared.Change.the-variants.{Keep, Join, Withdraw};
 ghost use Rattle.calls.specs.Pieces.{admission, tested, dueOn, dueCell, DueFits, advanceOn, duePlan, handledBy};
 ghost use Rattle.calls.specs.declared.Due.the-variants.{Slot};
 use model::Answer;
@@ -218,6 +219,31 @@ fn keeps(answer: Answer, session: Session) -> Turn
     }
 }
 
+// A claim in the way: the session is rolled back, 6.
+fn rolled_back(x: Session) -> Turn
+    ensures { λ r. ⌜ r ≡ record { answer = Refused 6; session = idle; change = Withdraw } ⌝ }
+{
+    let y = x.idled();
+    Turn {
+        answer: Answer::Refused(6),
+        session: y,
+        change: Change::Withdraw,
+    }
+}
+
+// An answer with one entry more, of a cell whose readers the session joins.
+fn enters(answer: Answer, x: Session, cell: u32) -> Turn
+    requires { ⌜ x .count < 32 ⌝ }
+    ensures { λ r. ⌜ r ≡ record { answer = answer; session = withEntry x; change = Join cell } ⌝ }
+{
+    let y = x.with_entry();
+    Turn {
+        answer,
+        session: y,
+        change: Change::Join(cell),
+    }
+}
+
 // ---- begin and abandon
 
 // Begin: idle only. The session runs with no entry. 100.
@@ -304,22 +330,12 @@ pub fn take_read(values: &[u32], log: &mut [u32], x: Session, l: Lock, cell: u32
         return keeps(Answer::Refused(number), x);
     }
     if is_claimed(l) {
-        let y = x.idled();
-        return Turn {
-            answer: Answer::Refused(6),
-            session: y,
-            change: Change::Withdraw,
-        };
+        return rolled_back(x);
     }
     let count = x.count as usize;
     let value = values[cell as usize];
     log::append(log, count, cell, value);
-    let y = x.with_entry();
-    Turn {
-        answer: Answer::Value(value),
-        session: y,
-        change: Change::Join(cell),
-    }
+    enters(Answer::Value(value), x, cell)
 }
 
 // A value above the cap is 4; an entry is to be updated, a new cell entered as by read and then updated.
@@ -381,23 +397,13 @@ pub fn take_write(
         return keeps(Answer::Refused(number), x);
     }
     if is_claimed(l) {
-        let y = x.idled();
-        return Turn {
-            answer: Answer::Refused(6),
-            session: y,
-            change: Change::Withdraw,
-        };
+        return rolled_back(x);
     }
     let count = x.count as usize;
     let value = values[cell as usize];
     log::append(log, count, cell, value);
     log::update(log, count, written);
-    let y = x.with_entry();
-    Turn {
-        answer: Answer::Done,
-        session: y,
-        change: Change::Join(cell),
-    }
+    enters(Answer::Done, x, cell)
 }
 
 // ---- seal
@@ -533,12 +539,7 @@ fn take_entry(
     let cell = log::cell_at(log, k as usize);
     if phase == 2 {
         if loses(l, session) {
-            let y = x.idled();
-            return Turn {
-                answer: Answer::Refused(6),
-                session: y,
-                change: Change::Withdraw,
-            };
+            return rolled_back(x);
         }
         let readers = l.readers;
         if !locks::alone(readers, session) {

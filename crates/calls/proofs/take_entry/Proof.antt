@@ -13,7 +13,7 @@ cell-at-requires : tie.Need-cell-at-requires
 cell-at-requires c κs = let a = known _ _ _ _ _ (c .before .before .pre .3) in omega (arith, a .slot, a .entries .count, c .before .before .pre .0)
 
 returns : tie.Need-returns
-returns c = turn-rolled-back _ _ _ _ _ (sym (advance-promotes _ _ _ _ _ _ (c .before .before .before .before .cell-at .ensures) (c .before .before .before .if1 .taken) _ (promote-loses _ _ _ _ (c .before .before .loses .ensures) (c .before .if2 .taken)))) (c .idled .ensures)
+returns c = turn-rolled-back _ _ _ _ _ (sym (advance-promotes _ _ _ _ _ _ (c .before .before .before .before .cell-at .ensures) (c .before .before .before .if1 .taken) _ (promote-loses _ _ _ _ (c .before .before .loses .ensures) (c .before .if2 .taken)))) (c .rolled-back .ensures)
 
 returns-2 : tie.Need-returns-2
 returns-2 c = turn-waiting _ _ _ _ _ (sym (advance-promotes _ _ _ _ _ _ (c .before .before .before .before .before .cell-at .ensures) (c .before .before .before .before .if1 .taken) _ (promote-waits _ _ _ _ (c .before .before .before .loses .ensures) (c .before .before .if2 .left) _ (c .before .alone .ensures) (not-true _ (c .if3 .taken)))))

@@ -22,7 +22,7 @@ returns-2 : tie.Need-returns-2
 returns-2 c = turn-refused _ _ _ _ _ _ (when-told (chosen (c .before .before .before .before .before .before .before)) _ tt (c .before .before .p2 .given .1)) (c .keeps2 .ensures)
 
 returns-3 : tie.Need-returns-3
-returns-3 c = let w = when-new (chosen (c .before .before .before .before .before .before .before)) 2 (λ j. tt) (c .before .before .before .before .match .keys2) (c .before .before .before .match2 .keys2) in turn-rolled-back _ _ _ _ _ (rw (sym (c .before .before .is-claimed .ensures) ∙ c .before .if1 .taken) at (w .3)) (c .idled .ensures)
+returns-3 c = let w = when-new (chosen (c .before .before .before .before .before .before .before)) 2 (λ j. tt) (c .before .before .before .before .match .keys2) (c .before .before .before .match2 .keys2) in turn-rolled-back _ _ _ _ _ (rw (sym (c .before .before .is-claimed .ensures) ∙ c .before .if1 .taken) at (w .3)) (c .rolled-back .ensures)
 
 shared-slice-read-value : tie.Need-shared-slice-read-value
 shared-slice-read-value c = when-new (chosen (c .before .before .before .before .before .before .before .before)) 2 (λ j. tt) (c .before .before .before .before .before .match .keys2) (c .before .before .before .before .match2 .keys2) .0
@@ -30,13 +30,13 @@ shared-slice-read-value c = when-new (chosen (c .before .before .before .before 
 append-requires : tie.Need-append-requires
 append-requires c κs = let w = when-new (chosen (c .before .before .before .before .before .before .before .before .before)) 2 (λ j. tt) (c .before .before .before .before .before .before .match .keys2) (c .before .before .before .before .before .match2 .keys2) in omega (arith, w .1, c .before .before .before .before .before .before .before .before .before .pre .0)
 
-with-entry-requires : tie.Need-with-entry-requires
-with-entry-requires c κs = when-new (chosen (c .before .before .before .before .before .before .before .before .before .before .before .before)) 2 (λ j. tt) (c .before .before .before .before .before .before .before .before .before .match .keys2) (c .before .before .before .before .before .before .before .before .match2 .keys2) .1
+enters-requires : tie.Need-enters-requires
+enters-requires c κs = when-new (chosen (c .before .before .before .before .before .before .before .before .before .before .before .before)) 2 (λ j. tt) (c .before .before .before .before .before .before .before .before .before .match .keys2) (c .before .before .before .before .before .before .before .before .match2 .keys2) .1
 
 returns-4 : tie.Need-returns-4
-returns-4 c = let w = when-new (chosen (c .before .before .before .before .before .before .before .before .before .before .before .before .before)) 2 (λ j. tt) (c .before .before .before .before .before .before .before .before .before .before .match .keys2) (c .before .before .before .before .before .before .before .before .before .match2 .keys2) in turn-entered _ _ _ _ _ _ _ _ (rw (sym (c .before .before .before .before .before .before .before .before .is-claimed .ensures) ∙ c .before .before .before .before .before .before .before .if1 .left) at (w .3)) refl (c .before .before .before .append .ensures) (c .with-entry .ensures)
+returns-4 c = let w = when-new (chosen (c .before .before .before .before .before .before .before .before .before .before .before .before .before)) 2 (λ j. tt) (c .before .before .before .before .before .before .before .before .before .before .match .keys2) (c .before .before .before .before .before .before .before .before .before .match2 .keys2) in turn-entered _ _ _ _ _ _ _ _ (rw (sym (c .before .before .before .before .before .before .before .before .is-claimed .ensures) ∙ c .before .before .before .before .before .before .before .if1 .left) at (w .3)) refl (c .before .before .before .append .ensures) (c .enters .ensures)
 
 pub take-read-spec : {M : Type 1} → statement M
 take-read-spec =
     tie.close
-    (tie.spec (λ c. search needs) (λ c κs. search needs) returns (λ c. search needs) (λ c κs. search needs) returns-2 (λ c κs. search needs) (λ c κs. search needs) returns-3 (λ c. search needs) (λ c. search needs) shared-slice-read-value append-requires with-entry-requires (λ c. search needs) returns-4)
+    (tie.spec (λ c. search needs) (λ c κs. search needs) returns (λ c. search needs) (λ c κs. search needs) returns-2 (λ c κs. search needs) (λ c κs. search needs) returns-3 (λ c. search needs) (λ c. search needs) shared-slice-read-value append-requires enters-requires (λ c. search needs) returns-4)
