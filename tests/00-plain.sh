@@ -9,21 +9,7 @@ seed=${SEED:-1}
 work=${BUILT:-$PWD/target}/plain-tests
 . tests/check.sh
 
-if ! command -v cargo >/dev/null; then
-    apt-get update && apt-get install -y --no-install-recommends cargo rustc
-fi
-
-build() {
-    set -e
-    source tests/fuzz/build.sh
-}
-if ! (build) >"$work/log" 2>&1; then
-    tail -n 40 "$work/log"
-    echo "0 passed, 1 failed"
-    exit 1
-fi
-build
-set +e
+build_plain
 
 echo "-- unit tests"
 cargo test --quiet --offline --release --features plain --manifest-path reference/Cargo.toml >"$work/unit" 2>&1

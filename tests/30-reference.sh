@@ -62,21 +62,7 @@ foreign_output() {
     tools/timeline "$work/listing.bin" "$work/foreign"
 }
 
-if ! command -v cargo >/dev/null; then
-    apt-get update && apt-get install -y --no-install-recommends cargo rustc
-fi
-
-build() {
-    set -e
-    source tests/fuzz/build.sh
-}
-if ! (build) >"$work/log" 2>&1; then
-    tail -n 40 "$work/log"
-    echo "0 passed, 1 failed"
-    exit 1
-fi
-build
-set +e
+build_plain
 
 echo "-- examples"
 for name in listing skew mixed; do

@@ -4,6 +4,21 @@ passed=0
 failed=0
 exec 3>&1
 
+# build_plain: builds the second program and the plain C programs and names them (tests/fuzz/build.sh); a test whose build fails has failed.
+build_plain() {
+    if ! command -v cargo >/dev/null; then
+        apt-get update && apt-get install -y --no-install-recommends cargo rustc
+    fi
+    if ! bash -e tests/fuzz/build.sh >"$work/log" 2>&1; then
+        tail -n 40 "$work/log"
+        echo "0 passed, 1 failed"
+        exit 1
+    fi
+    set -e
+    . tests/fuzz/build.sh
+    set +e
+}
+
 # check NAME COMMAND...: one test, which passes where the command does; the output of a failed one is shown.
 check() {
     local name=$1

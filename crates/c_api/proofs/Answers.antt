@@ -26,7 +26,8 @@ use Rattle.model.proofs.Answer as answers
 use Rattle.model.proofs.Laws.{session-same}
 use Rattle.model.proofs.Tools.{split, which, clash}
 use Rattle.c_api.specs.declared.NumberReply.{NumberReply}
-use Rattle.c_api.specs.InNumbers.{numbersOf, refusalOf, ofBegin, ofRead, ofSeal}
+use Rattle.c_api.specs.InNumbers.{numbersOf}
+use Rattle.c_api.specs.Answers.{refusalOf, ofBegin, ofRead, ofSeal}
 
 -- what holds of every refusal holds of a plan behind tests
 module _ (Q : Plan → Type 0) (no : (k : ℕ) → Q (Refuse k)) where

@@ -1,7 +1,6 @@
 -- What a call tells a caller in C: document 01's number and value, the record of its session, and the buffers that it leaves.
 use Prim.Native.Nat.{ℕ, _%_}
 use mathlib.Core.Path.{_≡_}
-use mathlib.Core.Bool.{Bool, true, false}
 use mathlib.Core.List.{List, [], _∷_, map}
 use denote.Ref.{now}
 use Rattle.model.specs.Buffers.{Store, sessionAt, withSession}
@@ -11,8 +10,6 @@ use Rattle.model.specs.Isolation.{Demand3OfCode}
 use Rattle.model.specs.Effects.{number, valueOf, Part, storeWord, logWord, noWord}
 use Rattle.model.specs.Step.{Outcome, effect, setUpEffect, peekShows, sessionOf}
 use Rattle.model.specs.declared.Call.{Call}
-use Rattle.model.specs.declared.Answer.{Answer}
-use Rattle.model.specs.declared.Answer.the-variants.{Done, Value, Sealed, Moved, Waiting, Committed, Refused}
 use Rattle.model.specs.declared.Session.{Session}
 use Rattle.model.specs.declared.Sessions.{Sessions}
 use Rattle.model.specs.declared.SessionReply.{SessionReply}
@@ -23,44 +20,6 @@ use Rattle.c_api.specs.declared.SetUpReply.{SetUpReply}
 -- a reply in numbers
 abbrev pub numbersOf : SessionReply → NumberReply
 numbersOf r = record { number = number (r .answer); value = valueOf (r .answer); session = r .session }
-
--- the number of a refusal, 0 of any other answer
-abbrev pub refusalOf : Answer → ℕ
-refusalOf Done = 0
-refusalOf (Value v) = 0
-refusalOf Sealed = 0
-refusalOf Moved = 0
-refusalOf Waiting = 0
-refusalOf Committed = 0
-refusalOf (Refused k) = k
-
--- the answers that a begin, a read and a seal give
-abbrev pub ofBegin : Answer → Bool
-ofBegin Done = true
-ofBegin (Value v) = false
-ofBegin Sealed = false
-ofBegin Moved = false
-ofBegin Waiting = false
-ofBegin Committed = false
-ofBegin (Refused k) = true
-
-abbrev pub ofRead : Answer → Bool
-ofRead Done = false
-ofRead (Value v) = true
-ofRead Sealed = false
-ofRead Moved = false
-ofRead Waiting = false
-ofRead Committed = false
-ofRead (Refused k) = true
-
-abbrev pub ofSeal : Answer → Bool
-ofSeal Done = false
-ofSeal (Value v) = false
-ofSeal Sealed = true
-ofSeal Moved = false
-ofSeal Waiting = false
-ofSeal Committed = true
-ofSeal (Refused k) = true
 
 -- a call's number, value, and all that it leaves
 pub record NumberOutcome : Type 0 where

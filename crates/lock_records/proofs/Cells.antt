@@ -8,10 +8,10 @@ use native.Mathlib.Omega.{arith}
 use lib.Dec.{ltb}
 use lib.ListN.{length}
 use Rattle.model.proofs.Tools.{test}
-use Rattle.model.proofs.Laws.{log-length}
 use Rattle.model.specs.Buffers.{logIn, cellAt, entryAt, publishes, slotIn, lookIn, entryOf, publishesIn}
 use Rattle.log.specs.Slots.{found}
 use Rattle.log.proofs.Targets.{slot-some, slot-none}
+use Rattle.turns.proofs.Logs.{log-long}
 use Rattle.lock_records.specs.declared.Change.{Change}
 use Rattle.lock_records.specs.declared.Change.the-variants.{Withdraw, Leave}
 use Rattle.lock_records.specs.Run.{ChangeFits, countOf, cellOf}
@@ -24,10 +24,6 @@ withdraw-fits W d s m i e f l = let g = rw e at f in let h = rw e at l in let k 
 pub leave-fits : (W : List ℕ) (d : Change) (s m i : ℕ) → d ≡ Leave s m → ChangeFits W d → i < countOf d → (s < 16) × (m ≤ 32) × (i < m) × (length W ≡ 2048)
 unfolding countOf
 leave-fits W d s m i e f l = let g = rw e at f in let h = rw e at l in (g .0, g .1, h, g .2)
-
--- the session's log, as the code has it
-pub log-long : (W : List ℕ) (s : ℕ) → length W ≡ 2048 → s < 16 → (log : List ℕ) → log ≡ logIn W s → length log ≡ 128
-log-long W s long low log w = rw w (log-length W s low long)
 
 -- entry i of session s, of m: its cell c as the code reads it, and the place k of the cell's first entry there
 module _ (W : List ℕ) (s m i : ℕ) (long : length W ≡ 2048) (low : s < 16) (few : m ≤ 32) (mine : i < m) (log : List ℕ) (w : log ≡ logIn W s) (c : ℕ) (cell : c ≡ cellAt log i) (k : ℕ) (first : found m k ≡ slotIn log m c) where

@@ -17,7 +17,6 @@ use Rattle.model.specs.declared.Answer.the-variants.{Refused}
 use Rattle.model.specs.declared.Plan.the-variants.{Refuse}
 use Rattle.model.specs.declared.Call.{Call}
 use Rattle.model.specs.declared.Call.the-variants.{Begin, Read, Write, Seal, Advance, Abandon, Peek}
-use Rattle.model.proofs.Laws.{log-length}
 use Rattle.locks.specs.Changes.{ChangeFits as Fits}
 use Rattle.calls.specs.Pieces.{admission}
 use Rattle.turns.specs.AnyCall.{cellFor, planWith}
@@ -25,6 +24,7 @@ use Rattle.turns.specs.InLogs.{inLogs}
 use Rattle.turns.proofs.Fitting.{call-fits}
 use Rattle.turns.proofs.Lengths
 use Rattle.turns.proofs.Lengths.{Admitted, plan-refused}
+use Rattle.turns.proofs.Logs.{log-long}
 use Rattle.turns.proofs.InLogs.{left, still}
 use Rattle.turns.proofs.AnyCall.{one-lock}
 use Rattle.turns.proofs.Whole.{planIn, takes}
@@ -70,8 +70,8 @@ module _ (n k m : ℕ) (W : List ℕ) (s r : ℕ) (e : r ≡ admission (lengthsM
         let v = each-length (λ l. l .readers) (replicate m free) in omega arith
 
     -- of the session's log, as the code has it
-    pub log-long : (log : List ℕ) → log ≡ logIn W s → (length log ≡ 128) × (n ≤ 1024)
-    log-long log w = (rw w (log-length W s low words), few)
+    pub log-fits : (log : List ℕ) → log ≡ logIn W s → (length log ≡ 128) × (n ≤ 1024)
+    log-fits log w = (log-long W s words low log w, few)
 
 -- a session's record, as the model names its place
 module _ (ss : Sessions) (s t : ℕ) (small : s < 16) (i : s ≡ t) where
@@ -124,7 +124,7 @@ module _ (k : Call) (vs cs W : List ℕ) (ss : Sessions) (m : ℕ) (l : Lock) (s
         (h : leaves (t .answer) vs′ Ws (t .session) (t .change) ≡ inLogs s W (turnOf (planWith k (length vs) cs (logIn W s) x l) vs (logIn W s) x)) where
       can-change : Fits (t .change) s (logIn Ws s) (x .count) (length vs)
       can-change =
-          let d = log-long (length vs) (length cs) m W s r e z (logIn W s) refl in
+          let d = log-fits (length vs) (length cs) m W s r e z (logIn W s) refl in
           rw (left s W own long _ _ _ _ _ _ _ _ h, ap (λ (f : TurnEffect). f .change) h) (call-fits (length vs) (logIn W s) x s vs own (d .0) (d .1) cs (λ c. l) k _ refl)
 
       kept : length Ws ≡ 2048
@@ -140,7 +140,7 @@ module _ (k : Call) (vs cs W : List ℕ) (ss : Sessions) (m : ℕ) (l : Lock) (s
       unfolding withSession
       taken d f =
           rw f (
-            change-fits (t .change) Ws (logIn Ws s) s (x .count) (length vs) own (log-length Ws s own kept) kept can-change,
+            change-fits (t .change) Ws (logIn Ws s) s (x .count) (length vs) own (log-long Ws s kept own (logIn Ws s) refl) kept can-change,
             λ L q g.
                 rw (mine ss s (sessionOf k) own i) at
                 (takes k (lentOn vs cs L W) x s i (admits (length vs) (length cs) m W s r e vs cs L refl refl q z) _ (with-lock L g) (t .answer) vs′ Ws (t .session) (t .change) h (logIn Ws s) refl

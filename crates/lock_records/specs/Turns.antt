@@ -6,17 +6,16 @@ use lib.Dec.{eqb}
 use lib.ListN.{length}
 use denote.Ref.{RefT, now}
 use Rattle.model.specs.Buffers.{sessionAt, logIn, lengthsMatch}
-use Rattle.model.specs.Plans.{require, plan}
+use Rattle.model.specs.Plans.{require}
 use Rattle.model.specs.Slices.{Slice, IsPart}
 use Rattle.model.specs.Step.{outcome, effect, setUpEffect, planOf, sessionOf, peekShows}
-use Rattle.model.specs.declared.Session.{Session}
 use Rattle.model.specs.declared.Sessions.{Sessions}
 use Rattle.model.specs.declared.Lock.{Lock}
 use Rattle.model.specs.declared.Reply.{Reply}
 use Rattle.model.specs.declared.Answer.{Answer}
 use Rattle.model.specs.declared.Plan.{Plan}
 use Rattle.model.specs.declared.Call.{Call}
-use Rattle.model.specs.declared.Call.the-variants.{Begin, Read, Write, Seal, Advance, Abandon, Peek}
+use Rattle.model.specs.declared.Call.the-variants.{Peek}
 use Rattle.calls.specs.Pieces.{admission}
 use Rattle.turns.specs.AnyCall.{cellFor}
 use Rattle.lock_records.specs.declared.Change.the-variants.{Keep}

@@ -26,7 +26,6 @@ use Rattle.model.specs.declared.Plan.the-variants.{Refuse, Start, Tell, Enter, 
 use Rattle.model.specs.declared.Change.{Change}
 use Rattle.model.specs.declared.Change.the-variants.{Keep}
 use Rattle.model.proofs.Tools.{split}
-use Rattle.model.proofs.Laws.{log-length}
 use Rattle.locks.specs.Changes.{LockFor, oneOf, withdrawOf, dropOf, ChangeFits}
 use Rattle.locks.proofs.Changes.{in-three}
 use Rattle.locks.proofs.Tags.{tag}
@@ -38,6 +37,7 @@ use Rattle.calls.proofs.Choices.{Choice, refuses, knows, enters, read-choice, w
 use Rattle.turns.specs.InLogs.{inLogs}
 use Rattle.turns.proofs.Lengths.{Admitted, refused-by}
 use Rattle.turns.proofs.InLogs.{kept-in}
+use Rattle.turns.proofs.Logs.{log-long}
 use Rattle.turns.proofs.Whole.{planIn, can-change, takes}
 
 -- ---- the part of a change that a call's turn can be
@@ -146,7 +146,7 @@ even B s z = (z .lengths .claimants ∙ sym (z .lengths .readers), z .lengths .e
 
 -- of the session's log W, and of n cells
 pub log-fits : (B : Buffers) (s : ℕ) → Admitted B s → (W : List ℕ) → W ≡ logIn (B .logs) s → (length W ≡ 128) × (length (B .values) ≤ 1024)
-log-fits B s z W w = (rw w (log-length (B .logs) s (z .low) (z .lengths .logs)), z .lengths .few)
+log-fits B s z W w = (log-long (B .logs) s (z .lengths .logs) (z .low) W w, z .lengths .few)
 
 -- ---- the call k: q is what it decided, t its turn, which left the values vs and the logs Ws
 

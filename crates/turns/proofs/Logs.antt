@@ -1,4 +1,4 @@
--- A session's log, as the code lends it on as a part of the logs and puts it back.
+-- A session's log, as the code has it: handed back to be read, or lent on as a part of the logs and put back.
 use mathlib.Core.Path.{_≡_}
 use mathlib.Core.List.{List, _++_}
 use Prim.Native.Nat.{ℕ, _+_, _*_, _-_, _<_, _≤_}
@@ -25,8 +25,12 @@ pub puts-is : (logs : List ℕ) (s : ℕ) (p : List ℕ) → puts logs s p ≡ o
 unfolding onLog
 puts-is logs s p = rw (width s)
 
+-- a session's log has 128 words, as a function hands it back and as a part
+pub log-long : (logs : List ℕ) (s : ℕ) → length logs ≡ 2048 → s < 16 → (W : List ℕ) → W ≡ logIn logs s → length W ≡ 128
+log-long logs s long low W w = rw w (log-length logs s low long)
+
 pub cut-long : (logs : List ℕ) (s : ℕ) → length logs ≡ 2048 → s < 16 → length (cut logs s) ≡ 128
-cut-long logs s long low = rw cut-is (log-length logs s low long)
+cut-long logs s long low = log-long logs s long low (cut logs s) (cut-is logs s)
 
 -- the part lies in the logs
 pub log-fits : (s : ℕ) → s < 16 → (logs : List ℕ) → length logs ≡ 2048 → 128 * s + 128 ≤ length logs

@@ -1,6 +1,6 @@
 // What every form of the locks shares above the calls: a turn on the logs of all sessions, of which the session's is lent on, the records of all sixteen, and
 // any call's turn.
-// The laws by which a form meets its contracts stand in proofs/ (Lengths, Logs, Fitting, Whole, Peeks, SetUp).
+// The laws by which a form meets its contracts stand in proofs/.
 ghost use mathlib.Core.Path.{_≡_};
 ghost use Prim.Native.Nat.{_<_, _≤_, _%_};
 ghost use lib.ListN.{length};

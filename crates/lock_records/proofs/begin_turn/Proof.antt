@@ -1,5 +1,5 @@
 -- Refused by 7 or 1, or the turn of `calls::take_begin`, which keeps the locks.
-use Rattle.lock_records.proofs.OnRun.{low, words, log-long}
+use Rattle.lock_records.proofs.OnRun.{low, words, log-fits}
 use Rattle.lock_records.proofs.Replies.{begin-refuses, begins}
 use borrow.Author.Needs.{needs}
 use Rattle.lock_records.proofs.begin_turn.Statement.{statement}
@@ -15,7 +15,7 @@ of-session-requires : tie.Need-of-session-requires
 of-session-requires c κs = let a = c .before .before .before .before .args in (low (a .n) (a .classes) (a .locks) (a .logs .now) (a .session) _ (c .before .before .admit .ensures) (c .before .if1 .left), words (a .n) (a .classes) (a .locks) (a .logs .now) (a .session) _ (c .before .before .admit .ensures) (c .before .if1 .left))
 
 take-begin-requires : tie.Need-take-begin-requires
-take-begin-requires c κs = let a = c .before .before .before .before .before .args in log-long (a .n) (a .classes) (a .locks) (a .logs .now) (a .session) _ (c .before .before .before .admit .ensures) (c .before .before .if1 .left) _ (c .of-session .ensures)
+take-begin-requires c κs = let a = c .before .before .before .before .before .args in log-fits (a .n) (a .classes) (a .locks) (a .logs .now) (a .session) _ (c .before .before .before .admit .ensures) (c .before .before .if1 .left) _ (c .of-session .ensures)
 
 element-set-from-y : tie.Need-element-set-from-y
 element-set-from-y c = let a = c .before .before .before .before .before .before .before .args in low (a .n) (a .classes) (a .locks) (a .logs .now) (a .session) _ (c .before .before .before .before .before .admit .ensures) (c .before .before .before .before .if1 .left)

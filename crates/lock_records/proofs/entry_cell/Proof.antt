@@ -1,7 +1,7 @@
 -- `lock_records::entry_cell` meets its contract: the slice that it lends is the session's log.
 use mathlib.Core.Path.{_∙_}
 use native.Mathlib.Omega.{arith}
-use Rattle.lock_records.proofs.Cells.{log-long}
+use Rattle.turns.proofs.Logs.{log-long}
 use borrow.Author.Needs.{needs}
 use Rattle.lock_records.proofs.entry_cell.Statement.{statement}
 use Rattle.lock_records.proofs.entry_cell.Tie as tie

@@ -1,6 +1,6 @@
 -- The cell of a call that is admitted.
 use mathlib.Core.Path.{_∙_}
-use Rattle.lock_records.proofs.OnRun.{low, words, log-long, looks-nowhere, looks}
+use Rattle.lock_records.proofs.OnRun.{low, words, log-fits, looks-nowhere, looks}
 use borrow.Author.Needs.{needs}
 use Rattle.lock_records.proofs.look_up.Statement.{statement}
 use Rattle.lock_records.proofs.look_up.Tie as tie
@@ -15,7 +15,7 @@ of-session-requires : tie.Need-of-session-requires
 of-session-requires c κs = let a = c .before .before .before .before .before .args in (low (a .n) (a .classes) (a .locks) (a .logs .now) (c .before .before .before .session .result) _ (c .before .before .admit .ensures) (c .before .if1 .left), words (a .n) (a .classes) (a .locks) (a .logs .now) (c .before .before .before .session .result) _ (c .before .before .admit .ensures) (c .before .if1 .left))
 
 cell-for-requires : tie.Need-cell-for-requires
-cell-for-requires c κs = let a = c .before .before .before .before .before .before .args in log-long (a .n) (a .classes) (a .locks) (a .logs .now) (c .before .before .before .before .session .result) _ (c .before .before .before .admit .ensures) (c .before .before .if1 .left) _ (c .of-session .ensures)
+cell-for-requires c κs = let a = c .before .before .before .before .before .before .args in log-fits (a .n) (a .classes) (a .locks) (a .logs .now) (c .before .before .before .before .session .result) _ (c .before .before .before .admit .ensures) (c .before .before .if1 .left) _ (c .of-session .ensures)
 
 returns-2 : tie.Need-returns-2
 returns-2 c = let a = c .before .before .before .before .before .before .before .args in looks (a .call) (a .t2) (a .n) (a .classes) (a .locks) (a .logs .now) (c .before .before .before .before .before .session .result) (c .before .before .before .before .before .session .ensures) _ (c .before .before .before .before .admit .ensures) (c .before .before .before .if1 .left) _ (c .cell-for .ensures ∙ rw (c .before .of-session .ensures))

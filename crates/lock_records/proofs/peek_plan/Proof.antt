@@ -1,5 +1,5 @@
 -- Refused by 7 or 1, or what `calls::peek_plan` decides.
-use Rattle.lock_records.proofs.OnRun.{low, words, log-long}
+use Rattle.lock_records.proofs.OnRun.{low, words, log-fits}
 use Rattle.lock_records.proofs.Replies.{peek-refuses, peek-decides}
 use borrow.Author.Needs.{needs}
 use Rattle.lock_records.proofs.peek_plan.Statement.{statement}
@@ -15,7 +15,7 @@ of-session-requires : tie.Need-of-session-requires
 of-session-requires c κs = let a = c .before .before .before .before .args in (low (a .n) (a .classes) (a .locks) (a .logs .now) (a .session) _ (c .before .before .admit .ensures) (c .before .if1 .left), words (a .n) (a .classes) (a .locks) (a .logs .now) (a .session) _ (c .before .before .admit .ensures) (c .before .if1 .left))
 
 peek-plan-requires : tie.Need-peek-plan-requires
-peek-plan-requires c κs = let a = c .before .before .before .before .before .args in log-long (a .n) (a .classes) (a .locks) (a .logs .now) (a .session) _ (c .before .before .before .admit .ensures) (c .before .before .if1 .left) _ (c .of-session .ensures)
+peek-plan-requires c κs = let a = c .before .before .before .before .before .args in log-fits (a .n) (a .classes) (a .locks) (a .logs .now) (a .session) _ (c .before .before .before .admit .ensures) (c .before .before .if1 .left) _ (c .of-session .ensures)
 
 returns-2 : tie.Need-returns-2
 returns-2 c = let a = c .before .before .before .before .before .before .args in peek-decides (a .n) (a .classes) (a .locks) (a .logs .now) (a .t1) (a .session) _ (c .before .before .before .before .admit .ensures) (c .before .before .before .if1 .left) _ (c .before .of-session .ensures) (a .cell) _ (c .peek-plan .ensures)

@@ -1,6 +1,7 @@
 -- `lock_records::unwritten_cell` meets its contract: the cell's first entry in the session's log says whether the cell is written.
 use native.Mathlib.Omega.{arith}
-use Rattle.lock_records.proofs.Cells.{log-long, written-cell, unwritten, first-there}
+use Rattle.turns.proofs.Logs.{log-long}
+use Rattle.lock_records.proofs.Cells.{written-cell, unwritten, first-there}
 use borrow.Author.Needs.{needs}
 use Rattle.lock_records.proofs.unwritten_cell.Statement.{statement}
 use Rattle.lock_records.proofs.unwritten_cell.Tie as tie

@@ -1,0 +1,43 @@
+-- Which answers a begin, a read and a seal give, for the inner functions that turn these into numbers. Nothing here is part of what a call promises.
+use Prim.Native.Nat.{ℕ}
+use mathlib.Core.Bool.{Bool, true, false}
+use Rattle.model.specs.declared.Answer.{Answer}
+use Rattle.model.specs.declared.Answer.the-variants.{Done, Value, Sealed, Moved, Waiting, Committed, Refused}
+
+-- the number of a refusal, 0 of any other answer
+abbrev pub refusalOf : Answer → ℕ
+refusalOf Done = 0
+refusalOf (Value v) = 0
+refusalOf Sealed = 0
+refusalOf Moved = 0
+refusalOf Waiting = 0
+refusalOf Committed = 0
+refusalOf (Refused k) = k
+
+-- the answers that a begin, a read and a seal give
+abbrev pub ofBegin : Answer → Bool
+ofBegin Done = true
+ofBegin (Value v) = false
+ofBegin Sealed = false
+ofBegin Moved = false
+ofBegin Waiting = false
+ofBegin Committed = false
+ofBegin (Refused k) = true
+
+abbrev pub ofRead : Answer → Bool
+ofRead Done = false
+ofRead (Value v) = true
+ofRead Sealed = false
+ofRead Moved = false
+ofRead Waiting = false
+ofRead Committed = false
+ofRead (Refused k) = true
+
+abbrev pub ofSeal : Answer → Bool
+ofSeal Done = false
+ofSeal (Value v) = false
+ofSeal Sealed = true
+ofSeal Moved = false
+ofSeal Waiting = false
+ofSeal Committed = true
+ofSeal (Refused k) = true
