@@ -25,27 +25,20 @@ use Rattle.model.specs.declared.SessionReply.{SessionReply}
 use Rattle.model.proofs.Answer as answers
 use Rattle.model.proofs.Laws.{session-same}
 use Rattle.model.proofs.Tools.{split, which, clash}
+use Rattle.turns.proofs.Guards.{required, guarded}
 use Rattle.c_api.specs.declared.NumberReply.{NumberReply}
 use Rattle.c_api.specs.InNumbers.{numbersOf}
 use Rattle.c_api.specs.Answers.{refusalOf, ofBegin, ofRead, ofSeal}
 
--- what holds of every refusal holds of a plan behind tests
-module _ (Q : Plan → Type 0) (no : (k : ℕ) → Q (Refuse k)) where
-  required : (b : Bool) (k : ℕ) (p : Plan) → Q p → Q (require b (Refuse k) p)
-  required b k p q = split Q b (λ _. q) (λ _. no k)
-
-  admitted : (B : Buffers) (s : ℕ) (p : Plan) → Q p → Q (admit B s p)
-  admitted B s p q = required (lengthsFit B) 7 (require (ltb s 16) (Refuse 1) p) (required (ltb s 16) 1 p q)
-
-  guarded : (n : ℕ) (log : List ℕ) (x : Session) (fit : Bool) (p : Plan) → Q p → Q (guard n log x fit p)
-  unfolding guard
-  guarded n log x fit p q = required (recordFits n log x) 9 (require fit (Refuse 2) p) (required fit 2 p q)
+-- what holds of every refusal holds of a plan behind the tests of 7 and 1
+admitted : (Q : Plan → Type 0) → ((k : ℕ) → Q (Refuse k)) → (B : Buffers) (s : ℕ) (p : Plan) → Q p → Q (admit B s p)
+admitted Q f B s p q = required Q f (lengthsFit B) 7 (require (ltb s 16) (Refuse 1) p) (λ t. required Q f (ltb s 16) 1 p (λ u. q))
 
 begin-answers : (s : ℕ) (σ : Store) → ofBegin (answerOf (Begin s) σ) ≡ true
 unfolding answerOf planOf plan answer planEffect
 begin-answers s σ =
     let Q : Plan → Type 0 = λ p. ofBegin (answer s p σ) ≡ true in
-    admitted Q (λ k. refl) (σ .lent) s _ (guarded Q (λ k. refl) (size (σ .lent)) (logOf σ s) (recordOf σ s) (eqb (recordOf σ s .phase) 0) _ refl)
+    admitted Q (λ k. refl) (σ .lent) s _ (guarded Q (λ k. refl) (size (σ .lent)) (logOf σ s) (recordOf σ s) (eqb (recordOf σ s .phase) 0) _ (λ t u. refl))
 
 read-answers : (s c : ℕ) (σ : Store) → ofRead (answerOf (Read s c) σ) ≡ true
 unfolding answerOf planOf plan readPlan readSlot known newCell answer planEffect
@@ -55,9 +48,9 @@ read-answers s c σ =
     let l = lockAt (σ .lent .locks) c in
     let entry : Q (readSlot (logOf σ s) x l c (slotIn (logOf σ s) (x .count) c)) =
     which (slotIn (logOf σ s) (x .count) c)
-    (λ e. rw e (required Q (λ k. refl) (ltb (x .count) 32) 5 _ (split Q (claimed l) (λ _. refl) (λ _. refl)))) (λ k e. rw e) in
+    (λ e. rw e (required Q (λ k. refl) (ltb (x .count) 32) 5 _ (λ t. split Q (claimed l) (λ u. refl) (λ u. refl)))) (λ k e. rw e) in
     admitted Q (λ k. refl) (σ .lent) s _
-    (guarded Q (λ k. refl) (size (σ .lent)) (logOf σ s) x (eqb (x .phase) 1) _ (required Q (λ k. refl) (ltb c (size (σ .lent))) 3 _ entry))
+    (guarded Q (λ k. refl) (size (σ .lent)) (logOf σ s) x (eqb (x .phase) 1) _ (λ t u. required Q (λ k. refl) (ltb c (size (σ .lent))) 3 _ (λ w. entry)))
 
 seal-answers : (s : ℕ) (σ : Store) → ofSeal (answerOf (Seal s) σ) ≡ true
 unfolding answerOf planOf plan sealPlan sealTarget answer planEffect
@@ -65,7 +58,7 @@ seal-answers s σ =
     let Q : Plan → Type 0 = λ p. ofSeal (answer s p σ) ≡ true in
     let x = recordOf σ s in
     let target : Q (sealTarget (targetIn (logOf σ s) (x .count) 0)) = which (targetIn (logOf σ s) (x .count) 0) (λ e. rw e) (λ c e. rw e) in
-    admitted Q (λ k. refl) (σ .lent) s _ (guarded Q (λ k. refl) (size (σ .lent)) (logOf σ s) x (eqb (x .phase) 1) _ target)
+    admitted Q (λ k. refl) (σ .lent) s _ (guarded Q (λ k. refl) (size (σ .lent)) (logOf σ s) x (eqb (x .phase) 1) _ (λ t u. target))
 
 -- ---- of the code: some sixteen records have the one handed in
 

@@ -11,7 +11,7 @@ use denote.Ref.{RefT}
 use lib.Dec.{ltb, eqb}
 use lib.ListN.{length, getD, set, replicate, length-replicate}
 use Rattle.model.specs.Buffers.{Store, size, free, idle, sessionAt, withSession, logIn, lengthsMatch}
-use Rattle.model.specs.Plans.{recordFits, guard, peekPlan, plan}
+use Rattle.model.specs.Plans.{guard, peekPlan, plan}
 use Rattle.model.specs.Step.{planOf}
 use Rattle.model.specs.Turns.{TurnEffect, leaves, turnOf, changed}
 use Rattle.model.specs.declared.Session.{Session}
@@ -27,22 +27,13 @@ use Rattle.model.proofs.Tools.{split}
 use Rattle.locks.proofs.Tags.{Passed, passed}
 use Rattle.calls.specs.Pieces.{admission}
 use Rattle.turns.proofs.Lengths
+use Rattle.turns.proofs.Guards.{begin-keeps}
 use Rattle.turns.proofs.InLogs.{kept-in}
 use Rattle.turns.proofs.Whole.{planned, takes}
 use Rattle.turns.proofs.Peeks.{peek-inside, peek-logged, peek-refused, peek-done, hands-store, hands-log, hands-nothing}
 use Rattle.lock_records.specs.Run.{unzipped, lentOn, storeOn}
 use Rattle.lock_records.specs.Turns.{IsReply, IsPeekPlan, IsPeekPart}
 use Rattle.lock_records.proofs.OnRun.{refuses, admits, low, mine, is-mine}
-
--- ---- turns
-
-module _ (vs log : List ℕ) (x : Session) where
-  -- begin keeps the locks
-  begin-keeps : (n : ℕ) (b : Bool) → turnOf (guard n log x b Start) vs log x .change ≡ Keep
-  unfolding guard turnOf
-  begin-keeps n b =
-      let P : Plan → Type 0 = λ p. turnOf p vs log x .change ≡ Keep in
-      split P (recordFits n log x) (λ t. split P b (λ u. refl) (λ u. refl)) (λ t. refl)
 
 -- ---- replies and plans, by the number r of refusals 7 and 1: n values, k classes, m locks
 
@@ -63,7 +54,7 @@ module _ (n k m : ℕ) (W : List ℕ) (ss : Sessions) (s r : ℕ) (e : r ≡ adm
           → IsReply (Begin s) n k m W ss (record { answer = t .answer; sessions = record { records = set (ss .records) s (t .session) } })
       unfolding withSession plan changed
       begins t h vs cs L i j q =
-          let d : t .change ≡ Keep = ap (λ (f : TurnEffect). f .change) (h vs) ∙ begin-keeps vs log x n (eqb (x .phase) 0) in
+          let d : t .change ≡ Keep = ap (λ (f : TurnEffect). f .change) (h vs) ∙ begin-keeps n log x vs (eqb (x .phase) 0) in
           let own = low n k m W s r e z in
           rw (mine ss s s own refl) at
           (takes (Begin s) (lentOn vs cs L W) x s refl (admits n k m W s r e vs cs L i j q z) (guard n log x (eqb (x .phase) 0) Start) (rw (i, w)) (t .answer) vs W (t .session) (t .change)

@@ -9,7 +9,7 @@ use lib.Dec.{T, eqb}
 use lib.ListN.{length, getD, set}
 use Rattle.model.specs.Buffers.{Locks, Buffers, free, idle, sessionAt, withSession, logIn, entryAt, targetIn, lockAt, lengthsMatch}
 use Rattle.model.specs.Readers.{otherReaders}
-use Rattle.model.specs.Plans.{recordFits, guard, claimed, promotePlan, sealTarget, sealPlan, readPlan, writePlan, plan}
+use Rattle.model.specs.Plans.{guard, claimed, promotePlan, sealTarget, sealPlan, readPlan, writePlan, plan}
 use Rattle.model.specs.Step.{outcome, effect, sessionOf, TakesRecord}
 use Rattle.model.specs.Turns.{TurnEffect, leaves, turnOf, changed}
 use Rattle.model.specs.declared.Session.{Session}
@@ -22,7 +22,7 @@ use Rattle.model.specs.declared.Answer.the-variants as say
 use Rattle.model.specs.declared.SessionReply.{SessionReply}
 use Rattle.model.specs.declared.Turn.{Turn}
 use Rattle.model.specs.declared.Plan.{Plan}
-use Rattle.model.specs.declared.Plan.the-variants.{Refuse, Start, Tell, Enter, Update, EnterUpdate, Cancel}
+use Rattle.model.specs.declared.Plan.the-variants.{Refuse, Tell, Enter, Update, EnterUpdate, Cancel}
 use Rattle.model.specs.declared.Change.{Change}
 use Rattle.model.specs.declared.Change.the-variants.{Keep}
 use Rattle.model.proofs.Tools.{split}
@@ -36,6 +36,7 @@ use Rattle.calls.proofs.Agree.{advance-agree}
 use Rattle.calls.proofs.Choices.{Choice, refuses, knows, enters, read-choice, write-choice, when-told}
 use Rattle.turns.specs.InLogs.{inLogs}
 use Rattle.turns.proofs.Lengths.{Admitted, refused-by}
+use Rattle.turns.proofs.Guards.{guarded}
 use Rattle.turns.proofs.InLogs.{kept-in}
 use Rattle.turns.proofs.Logs.{log-long}
 use Rattle.turns.proofs.Whole.{planIn, can-change, takes}
@@ -46,17 +47,13 @@ module _ (n : ℕ) (log : List ℕ) (x : Session) (vs : List ℕ) where
   abbrev changeOf : Plan → Change
   changeOf p = turnOf p vs log x .change
 
-  guarded : (P : Change → Type 0) → P Keep → (b : Bool) (p : Plan) → P (changeOf p) → P (changeOf (guard n log x b p))
-  unfolding guard turnOf
-  guarded P k b p f = split (λ q. P (changeOf q)) (recordFits n log x) (λ t. split (λ q. P (changeOf q)) b (λ u. f) (λ u. k)) (λ t. k)
-
-  pub begin-keeps : (b : Bool) → changeOf (guard n log x b Start) ≡ Keep
+  behind : (P : Change → Type 0) → P Keep → (b : Bool) (p : Plan) → P (changeOf p) → P (changeOf (guard n log x b p))
   unfolding turnOf
-  begin-keeps b = guarded (λ d. d ≡ Keep) refl b Start refl
+  behind P k b p f = guarded (λ q. P (changeOf q)) (λ r. k) n log x b p (λ t u. f)
 
   pub abandon-drops-none : (b : Bool) → dropOf (changeOf (guard n log x b Cancel)) ≡ Keep
   unfolding turnOf dropOf
-  abandon-drops-none b = guarded (λ d. dropOf d ≡ Keep) refl b Cancel refl
+  abandon-drops-none b = behind (λ d. dropOf d ≡ Keep) refl b Cancel refl
 
   sealed : (o : Option ℕ) → (oneOf (changeOf (sealTarget o)) ≡ Keep) × (withdrawOf (changeOf (sealTarget o)) ≡ Keep)
   unfolding turnOf oneOf withdrawOf sealTarget
@@ -66,7 +63,7 @@ module _ (n : ℕ) (log : List ℕ) (x : Session) (vs : List ℕ) where
   pub seal-drops : (oneOf (changeOf (sealPlan n log x)) ≡ Keep) × (withdrawOf (changeOf (sealPlan n log x)) ≡ Keep)
   unfolding sealPlan
   seal-drops =
-      guarded (λ d. (oneOf d ≡ Keep) × (withdrawOf d ≡ Keep)) (unfold oneOf withdrawOf in (refl, refl)) (eqb (x .phase) 1) (sealTarget (targetIn log (x .count) 0)) (sealed (targetIn log (x .count) 0))
+      behind (λ d. (oneOf d ≡ Keep) × (withdrawOf d ≡ Keep)) (unfold oneOf withdrawOf in (refl, refl)) (eqb (x .phase) 1) (sealTarget (targetIn log (x .count) 0)) (sealed (targetIn log (x .count) 0))
 
   -- read, write and advance drop no reads
   chosen : (l : Lock) (c : ℕ) (known : ℕ → Plan) (new p q : Plan) → ((k : ℕ) → dropOf (changeOf (known k)) ≡ Keep) → dropOf (changeOf new) ≡ Keep

@@ -25,6 +25,7 @@ use Rattle.calls.specs.Pieces.{dueOn, dueCell, advanceOn, duePlan}
 use Rattle.calls.specs.declared.Due.{Due}
 use Rattle.calls.specs.declared.Due.the-variants.{Refused, Slot}
 use Rattle.calls.proofs.Ways.{Entries, record-entries}
+use Rattle.turns.proofs.Guards.{guarded}
 use Rattle.calls.proofs.Agree.{Advancing, due-known, advance-agree}
 use Rattle.calls.proofs.Choices.{Choice, refuses, knows, enters, read-choice, write-choice}
 
@@ -73,9 +74,8 @@ module _ (n : ℕ) (log : List ℕ) (x : Session) where
 
   -- ---- every call
 
-  guarded : (b : Bool) (p : Plan) → (recordFits n log x ≡ true → b ≡ true → PlanFits n log x p) → PlanFits n log x (guard n log x b p)
-  unfolding guard PlanFits
-  guarded b p f = split (PlanFits n log x) (recordFits n log x) (λ t. split (PlanFits n log x) b (λ u. f t u) (λ u. tt)) (λ t. tt)
+  tested : (b : Bool) (p : Plan) → (recordFits n log x ≡ true → b ≡ true → PlanFits n log x p) → PlanFits n log x (guard n log x b p)
+  tested = guarded (PlanFits n log x) (λ k. unfold PlanFits in tt) n log x
 
   entered : recordFits n log x ≡ true → (k : ℕ) → eqb (x .phase) k ≡ true → 0 < k → Entries n log x
   entered t k u i = let e = eqb-true (x .phase) k u in record-entries n log x t (omega arith)
@@ -91,7 +91,7 @@ module _ (n : ℕ) (log : List ℕ) (x : Session) where
   peeked c (some k) = split (PlanFits n log x) (ltb c n) (λ t. split (PlanFits n log x) (entryAt log k .dirty) (λ u. tt) (λ u. tt)) (λ t. tt)
 
   plan-fits : (ks : List ℕ) (lock : ℕ → Lock) (k : Call) → PlanFits n log x (plan k n ks log x lock)
-  plan-fits ks lock (call.Begin s) = unfold plan in guarded (eqb (x .phase) 0) Start (λ t u. unfold PlanFits in tt)
+  plan-fits ks lock (call.Begin s) = unfold plan in tested (eqb (x .phase) 0) Start (λ t u. unfold PlanFits in tt)
   plan-fits ks lock (call.Read s c) =
       unfold plan PlanFits in
       choice-fits (lock c) c (λ k. Tell (entryAt log k .current)) (Enter c) _ _ (λ k. tt) (λ i. i) (read-choice n log x (lock c) c)
@@ -100,14 +100,14 @@ module _ (n : ℕ) (log : List ℕ) (x : Session) where
       choice-fits (lock c) c (λ k. Update k v) (EnterUpdate c v) _ _ (λ k. tt) (λ i. i) (write-choice n log x (lock c) c ks v)
   plan-fits ks lock (call.Seal s) =
       unfold plan sealPlan in
-      guarded (eqb (x .phase) 1) (sealTarget (targetIn log (x .count) 0)) (λ t u. sealed (targetIn log (x .count) 0) (entered t 1 u (omega arith)))
+      tested (eqb (x .phase) 1) (sealTarget (targetIn log (x .count) 0)) (λ t u. sealed (targetIn log (x .count) 0) (entered t 1 u (omega arith)))
   plan-fits ks lock (call.Advance s) =
       rw (← advance-agree n s ks log x lock) (due-plan-fits (lock (dueCell log (dueOn n log x))) s (dueOn n log x) refl)
   plan-fits ks lock (call.Abandon s) =
       unfold plan in
-      guarded (eqb (x .phase) 1 || eqb (x .phase) 2) Cancel
+      tested (eqb (x .phase) 1 || eqb (x .phase) 2) Cancel
       (λ t u. unfold PlanFits in test (eqb (x .phase) 1) (λ i. entered t 1 i (omega arith)) (λ i. entered t 2 (rw i at u) (omega arith)))
-  plan-fits ks lock (call.Peek s c) = unfold plan peekPlan in guarded (eqb (x .phase) 1) _ (λ t u. peeked c (slotIn log (x .count) c))
+  plan-fits ks lock (call.Peek s c) = unfold plan peekPlan in tested (eqb (x .phase) 1) _ (λ t u. peeked c (slotIn log (x .count) c))
 
   -- ---- the change of the locks
 

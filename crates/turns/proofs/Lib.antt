@@ -1,6 +1,7 @@
 pub mod Lengths
 pub mod Logs
 pub mod InLogs
+pub mod Guards
 pub mod Fitting
 pub mod Whole
 pub mod Peeks
