@@ -1,6 +1,8 @@
 /* The same list of calls on the proved store and on the plain C store, in one process: answers compared, then nanoseconds a call.
    Under callgrind the counts of each call's function are read off the profile (benches/instructions).
-   usage: store_bench WORKLOAD ENTRIES CELLS SESSIONS CYCLES */
+   usage: store_bench WORKLOAD ENTRIES CELLS SESSIONS CYCLES
+   The workloads `many` and `singles` read a session's ENTRIES cells as new ones, by one call for many reads and by a loop of single reads, which counts
+   as one call here; `many-known` and `singles-known` read them when they are in the log. */
 #include "plain_store.h"
 #include "rukkanei.h"
 
@@ -9,7 +11,7 @@
 #include <string.h>
 #include <time.h>
 
-enum { BEGIN = 1, READ, WRITE, SEAL, ADVANCE, ABANDON, PEEK };
+enum { BEGIN = 1, READ, WRITE, SEAL, ADVANCE, ABANDON, PEEK, MANY, SINGLES };
 enum { MAX_CALLS = 1 << 20 };
 
 static uint32_t calls[4 * MAX_CALLS];
@@ -23,6 +25,10 @@ static uint8_t claimants[2][PLAIN_MAX_CELLS];
 static uint8_t exclusives[2][PLAIN_MAX_CELLS];
 static uint32_t logs[2][PLAIN_LOG_WORDS];
 
+/* The list and the targets of each session's many reads. */
+static uint32_t lists[PLAIN_SESSIONS][PLAIN_MAX_LIST];
+static uint32_t targets[2][PLAIN_SESSIONS][PLAIN_MAX_LIST];
+
 static void add(uint32_t kind, uint32_t session, uint32_t cell, uint32_t value)
 {
     if (count == MAX_CALLS) {
@@ -33,6 +39,25 @@ static void add(uint32_t kind, uint32_t session, uint32_t cell, uint32_t value)
     c[1] = session;
     c[2] = cell;
     c[3] = value;
+}
+
+/* A session's list by many reads, and by single reads up to the first that is not answered 101. The answer's value is the count. */
+__attribute__((noinline)) static plain_answer plain_many(const plain_lent *lent, plain_session *sessions, uint8_t s, uint32_t entries)
+{
+    plain_many_answer a = plain_read_many(lent, sessions, s, lists[s], entries, targets[1][s], entries);
+    return (plain_answer){a.number, a.count};
+}
+
+__attribute__((noinline)) static plain_answer plain_singles(const plain_lent *lent, plain_session *sessions, uint8_t s, uint32_t entries)
+{
+    for (uint32_t got = 0; got < entries; got++) {
+        plain_answer a = plain_read(lent, sessions, s, lists[s][got]);
+        if (a.number != 101) {
+            return (plain_answer){a.number, got};
+        }
+        targets[1][s][got] = a.value;
+    }
+    return (plain_answer){101, entries};
 }
 
 /* The plain store's run of the list, in the shape of proved_run. */
@@ -64,6 +89,12 @@ __attribute__((noinline)) static uint32_t plain_run(size_t n)
         case ABANDON:
             a = plain_abandon(&lent, sessions, (uint8_t)c[1]);
             break;
+        case MANY:
+            a = plain_many(&lent, sessions, (uint8_t)c[1], c[2]);
+            break;
+        case SINGLES:
+            a = plain_singles(&lent, sessions, (uint8_t)c[1], c[2]);
+            break;
         default:
             a = plain_peek_number(&lent, sessions, (uint8_t)c[1], c[2]);
         }
@@ -74,6 +105,26 @@ __attribute__((noinline)) static uint32_t plain_run(size_t n)
 }
 
 #define LENT values[0], n, classes, n, readers[0], n, claimants[0], n, exclusives[0], n, logs[0], PLAIN_LOG_WORDS
+
+/* The same by the proved store. */
+__attribute__((noinline)) static rukkanei_reply proved_many(size_t n, rukkanei_session record, uint8_t s, uint32_t entries)
+{
+    rukkanei_read_many_reply r = rukkanei_read_many(record, LENT, s, lists[s], entries, targets[0][s], entries);
+    return (rukkanei_reply){r.number, r.count, r.session};
+}
+
+__attribute__((noinline)) static rukkanei_reply proved_singles(size_t n, rukkanei_session record, uint8_t s, uint32_t entries)
+{
+    for (uint32_t got = 0; got < entries; got++) {
+        rukkanei_reply r = rukkanei_read(record, LENT, s, lists[s][got]);
+        record = r.session;
+        if (r.number != RUKKANEI_VALUE) {
+            return (rukkanei_reply){r.number, got, record};
+        }
+        targets[0][s][got] = r.value;
+    }
+    return (rukkanei_reply){RUKKANEI_VALUE, entries, record};
+}
 
 /* The proved store's run of the same list, by its calls for C: the record of the session that calls goes in, and what comes back takes its place. */
 __attribute__((noinline)) static uint32_t proved_run(size_t n)
@@ -106,6 +157,12 @@ __attribute__((noinline)) static uint32_t proved_run(size_t n)
         case ABANDON:
             r = rukkanei_abandon(*own, LENT, s);
             break;
+        case MANY:
+            r = proved_many(n, *own, s, c[2]);
+            break;
+        case SINGLES:
+            r = proved_singles(n, *own, s, c[2]);
+            break;
         default:
             r = rukkanei_peek_number(*own, LENT, s, c[2]);
         }
@@ -124,8 +181,34 @@ static uint32_t cell_of(uint32_t s, uint32_t i, uint32_t n, uint32_t sessions, u
     return s * share + (share >= entries ? j * (share / entries) : j % share);
 }
 
+/* Each session's list of cells, read in one call of this kind: new, or in the log by writes before and read four times. */
+static void list_workload(uint32_t kind, int known, uint32_t entries, uint32_t n, uint32_t sessions, uint32_t cycles)
+{
+    for (uint32_t s = 0; s < sessions; s++) {
+        for (uint32_t i = 0; i < entries; i++) {
+            lists[s][i] = cell_of(s, i, n, sessions, entries);
+        }
+    }
+    for (uint32_t k = 0; k < cycles; k++) {
+        for (uint32_t s = 0; s < sessions; s++) {
+            add(BEGIN, s, 0, 0);
+            for (uint32_t i = 0; known && i < entries; i++) {
+                add(WRITE, s, lists[s][entries - 1 - i], k & 0xff);
+            }
+            for (uint32_t i = 0; i < (known ? 4 : 1); i++) {
+                add(kind, s, entries, 0);
+            }
+            add(ABANDON, s, 0, 0);
+        }
+    }
+}
+
 static void workload(const char *name, uint32_t entries, uint32_t n, uint32_t sessions, uint32_t cycles)
 {
+    if (!strncmp(name, "many", 4) || !strncmp(name, "singles", 7)) {
+        list_workload(name[0] == 'm' ? MANY : SINGLES, strstr(name, "-known") != NULL, entries, n, sessions, cycles);
+        return;
+    }
     for (uint32_t k = 0; k < cycles; k++) {
         for (uint32_t s = 0; s < sessions; s++) {
             add(BEGIN, s, 0, 0);
@@ -190,7 +273,8 @@ int main(int argc, char **argv)
         double c = now();
         if (p != q || memcmp(answers[0], answers[1], count * 8) || memcmp(values[0], values[1], sizeof values[0]) ||
             memcmp(readers[0], readers[1], sizeof readers[0]) || memcmp(claimants[0], claimants[1], sizeof claimants[0]) ||
-            memcmp(exclusives[0], exclusives[1], sizeof exclusives[0]) || memcmp(logs[0], logs[1], sizeof logs[0])) {
+            memcmp(exclusives[0], exclusives[1], sizeof exclusives[0]) || memcmp(logs[0], logs[1], sizeof logs[0]) ||
+            memcmp(targets[0], targets[1], sizeof targets[0])) {
             printf("DIFFER\n");
             return 1;
         }
@@ -201,7 +285,7 @@ int main(int argc, char **argv)
     for (size_t i = 0; i < count; i++) {
         kinds[answers[0][2 * i] & 255]++;
     }
-    printf("%-7s entries %2s cells %4s sessions %2s calls %7zu ns %6.1f C %6.1f ratio %.2f  [100:%u 101:%u 102:%u 103:%u 104:%u 105:%u 6:%u]\n", argv[1], argv[2], argv[3],
+    printf("%-13s entries %2s cells %4s sessions %2s calls %7zu ns %6.1f C %6.1f ratio %.2f  [100:%u 101:%u 102:%u 103:%u 104:%u 105:%u 6:%u]\n", argv[1], argv[2], argv[3],
            argv[4], count, best[0] / (double)count, best[1] / (double)count, best[0] / best[1], kinds[100], kinds[101], kinds[102], kinds[103],
            kinds[104], kinds[105], kinds[6]);
     return 0;

@@ -1,5 +1,5 @@
-/* Rukkanei for C99 and C++: the call fields and the store of document 01. One archive has every function of this file: link librukkanei.a, which
- * scripts/install puts beside this header. It needs memcpy and memset of the C library at most.
+/* Rukkanei for C99 and C++: the call fields and the store of document 01, and the many reads of document 02. One archive has every function of
+ * this file: link librukkanei.a, which scripts/install puts beside this header. It needs memcpy and memset of the C library at most.
  *
  * Every function answers for every number and every content of what it is lent. None keeps a pointer, allocates, or calls anything of yours.
  * A function asks this of its caller, and nothing else:
@@ -30,7 +30,9 @@ extern "C" {
 #define RUKKANEI_COMMITTED 105     /* the transaction is over, and the session idle */
 #define RUKKANEI_END_OF_FIELDS 106 /* no bytes are left at the place */
 
-/* Refusals of the calls, in the order in which they are tested. */
+/* Refusals of the calls, in the order in which they are tested; the first two are of many reads alone. */
+#define RUKKANEI_WRONG_LIST 15     /* list of cells empty or longer than 32 */
+#define RUKKANEI_SHORT_TARGET 13   /* target shorter than the list of cells; of a field: shorter than the field */
 #define RUKKANEI_WRONG_LENGTHS 7   /* n outside 1 to 1,024, classes or locks not n long, logs not 2,048 words */
 #define RUKKANEI_NO_SUCH_SESSION 1 /* session above 15 */
 #define RUKKANEI_DAMAGED_RECORD 9  /* phase above 4; in phases 1 to 4 a count above 32 or an entered cell not below n;
@@ -43,11 +45,10 @@ extern "C" {
 #define RUKKANEI_LOG_FULL 5        /* new cell with 32 entries in the log */
 #define RUKKANEI_CONFLICT 6        /* lock claimed: the session has been rolled back */
 
-/* Refusals of the field functions. */
+/* Refusals of the field functions, beside RUKKANEI_SHORT_TARGET. */
 #define RUKKANEI_CUT_SHORT 10    /* fewer bytes are left than the field has */
 #define RUKKANEI_UNKNOWN_TAG 11  /* no field has this tag */
 #define RUKKANEI_WRONG_LENGTH 12 /* the field's length is not the tag's own */
-#define RUKKANEI_SHORT_TARGET 13 /* the target is shorter than the field */
 
 /* ---- Call fields: how a call travels ----
  *
@@ -102,7 +103,7 @@ uint8_t rukkanei_field_read(const uint8_t *bytes, size_t bytes_len, size_t place
 uint8_t rukkanei_field_write(uint8_t *target, size_t target_len, uint8_t tag, uint8_t session, uint8_t cell_class, uint16_t cell,
                              uint32_t value, size_t *length);
 
-/* ---- The store: one function for each call of document 01 ----
+/* ---- The store: one function for each call of document 01, and one for many reads ----
  *
  * The caller lends every buffer and keeps it between calls. With n cells, n from 1 to 1,024:
  *
@@ -118,11 +119,12 @@ uint8_t rukkanei_field_write(uint8_t *target, size_t target_len, uint8_t tag, ui
  * a list in which each session is passed the record that set-up or its own last call handed back.
  *
  * In a reply `number` is one of the answers above, and `value` is 0 except with 101. A refusal other than 6 leaves everything as before and hands the
- * record back as it came; 6 has rolled the session back. A session above 15 has no record, so do not look one up: pass any, and it comes back as it
- * came, with 1 (or with 7, which is tested first). */
+ * record back as it came; 6 has rolled the session back. Of many reads this holds of the read that was refused: what the reads before it left stays.
+ * A session above 15 has no record, so do not look one up: pass any, and it comes back as it came, with 1 (or with what is tested first). */
 #define RUKKANEI_SESSIONS 16
 #define RUKKANEI_CELLS_MAX 1024
 #define RUKKANEI_LOG_WORDS 2048
+#define RUKKANEI_READ_MANY_MAX 32
 
 /* A session's record: phase (0 idle, 1 running, 2 promoting, 3 publishing, 4 releasing), entry count, next cell. */
 typedef struct {
@@ -148,6 +150,13 @@ typedef struct {
     rukkanei_sessions sessions;
 } rukkanei_set_up_reply;
 
+/* The last answer of many reads, how many values they got, and the record. */
+typedef struct {
+    uint32_t number;
+    uint32_t count;
+    rukkanei_session session;
+} rukkanei_read_many_reply;
+
 /* Makes all sessions idle, all locks empty and all log words 0. 100; 7 or 8, and all is as before. */
 rukkanei_set_up_reply rukkanei_set_up(rukkanei_sessions sessions, const uint32_t *values, size_t values_len, const uint8_t *classes,
                                       size_t classes_len, uint16_t *readers, size_t readers_len, uint8_t *claimants, size_t claimants_len,
@@ -162,6 +171,25 @@ rukkanei_reply rukkanei_begin(rukkanei_session record, const uint32_t *values, s
 rukkanei_reply rukkanei_read(rukkanei_session record, const uint32_t *values, size_t values_len, const uint8_t *classes, size_t classes_len,
                              uint16_t *readers, size_t readers_len, uint8_t *claimants, size_t claimants_len, uint8_t *exclusives,
                              size_t exclusives_len, uint32_t *logs, size_t logs_len, uint8_t session, uint32_t cell);
+
+/* A running session reads the cells of a list, 1 to 32 of them: what rukkanei_read would answer for each in turn, up to the first answer other than
+ * 101. A cell that comes again is not entered again: its value is the log's.
+ *
+ * Answers, in the order of the tests:
+ *    15  the list is empty or longer than 32
+ *    13  the target is shorter than the list
+ *     7, 1, 9, 2  as of a single read
+ *     3, 5, 6     as of a single read, of the first cell that is refused
+ *   101  every cell was read
+ *
+ * `count` is how many values were got: with 101 the list's length, with 3, 5 and 6 the index of the refused cell in the list, else 0. That many words
+ * at the front of the target are the values, in the list's order; the words after them are as before. Record and buffers are what the single reads
+ * leave: with 3 and 5 the cells before stay locked and entered, with 6 the session has been rolled back and the values stay in the target. With the
+ * other refusals everything is as before. There is no call field of this call. */
+rukkanei_read_many_reply rukkanei_read_many(rukkanei_session record, const uint32_t *values, size_t values_len, const uint8_t *classes, size_t classes_len,
+                                            uint16_t *readers, size_t readers_len, uint8_t *claimants, size_t claimants_len, uint8_t *exclusives,
+                                            size_t exclusives_len, uint32_t *logs, size_t logs_len, uint8_t session, const uint32_t *cells,
+                                            size_t cells_len, uint32_t *target, size_t target_len);
 
 /* A running session writes a cell, into its log. 100; a new cell is locked and entered as by read. */
 rukkanei_reply rukkanei_write(rukkanei_session record, const uint32_t *values, size_t values_len, const uint8_t *classes, size_t classes_len,

@@ -28,6 +28,7 @@ check "replays, in batch" shown "$compare" replays --program "$plain_replay" --m
 check "replays, each in a process" shown "$compare" replays --program "$plain_replay" --against "$replay_reference" --mode spawn \
     --seed "$((seed + 1))" --count 1500
 check "calls on arbitrary buffers" beside "plain C store" "$compare" calls --seed "$seed" --count 1000000
+check "runs" beside "plain C store" "$compare" runs --seed "$seed" --count 20000
 check "fields" beside "plain C fields" "$compare" fields --seed "$seed" --count 1000000
 
 echo "-- wrong stores"

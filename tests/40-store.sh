@@ -1,5 +1,5 @@
 #!/usr/bin/env bash
-# The proved store and the proved replay against the second program, by running: 1,000,000 single calls on arbitrary buffers through the calls
+# The proved store and the proved replay against the second program, by running: 1,000,000 calls on arbitrary buffers and 20,000 runs through the calls
 # for C, and random files through the replay. The proofs come first (rt ci). SEED changes the cases, REPLAYS the number of files.
 set -uo pipefail
 cd "$(dirname "$0")/.."
@@ -41,6 +41,11 @@ benchmark() {
             target/bench/store_bench $list $entries 1024 16 20 || return 1
         done
     done
+    for list in many singles many-known singles-known; do
+        for entries in 2 8 32; do
+            target/bench/store_bench $list $entries 1024 16 20 || return 1
+        done
+    done
 }
 
 check "the second program is built" bash -c '. tests/fuzz/build.sh'
@@ -55,6 +60,7 @@ for name in listing skew mixed; do
 done
 check "the calls for C are built" calls_for_c
 check "the proved calls on arbitrary buffers" beside "proved calls for C" env LD_LIBRARY_PATH="$PWD/target/c/proved-store" "$compare" calls --seed "$seed" --count 1000000
+check "the proved calls in runs" beside "proved calls for C" env LD_LIBRARY_PATH="$PWD/target/c/proved-store" "$compare" runs --seed "$seed" --count 20000
 check "the proved calls and plain C on the benchmark's lists" benchmark
 
 finish

@@ -1,4 +1,4 @@
-/* A plain C store with the steps of document 01. Every call judges its lent buffers and its session's record anew. */
+/* A plain C store with the steps of document 01 and the many reads of document 02. Every call judges its lent buffers and its session's record anew. */
 #include "plain_store.h"
 
 #include <string.h>
@@ -164,10 +164,9 @@ static void roll_back(const plain_lent *lent, plain_session *record, uint8_t ses
     go_idle(record);
 }
 
-/* Makes `entry` the cell's entry. A new cell is locked and entered, or refused with 5 or 6; 0 if it is entered. */
-static inline uint32_t enter(const plain_lent *lent, plain_session *record, uint8_t session, uint32_t cell, uint32_t **entry)
+/* Makes `entry` the cell's entry i, the count where it has none. A new cell is locked and entered, or refused with 5 or 6; 0 if it is entered. */
+static inline uint32_t enter_at(const plain_lent *lent, plain_session *record, uint8_t session, uint32_t cell, uint32_t i, uint32_t **entry)
 {
-    uint32_t i = find(entry_at(lent, session, 0), record->count, cell);
     *entry = entry_at(lent, session, i);
     if (i < record->count) {
         return 0;
@@ -187,6 +186,11 @@ static inline uint32_t enter(const plain_lent *lent, plain_session *record, uint
     (*entry)[DIRTY] = 0;
     record->count++;
     return 0;
+}
+
+static inline uint32_t enter(const plain_lent *lent, plain_session *record, uint8_t session, uint32_t cell, uint32_t **entry)
+{
+    return enter_at(lent, record, session, cell, find(entry_at(lent, session, 0), record->count, cell), entry);
 }
 
 plain_answer plain_set_up(const plain_lent *lent, plain_session *sessions)
@@ -237,6 +241,51 @@ plain_answer plain_read(const plain_lent *lent, plain_session *sessions, uint8_t
     }
     plain_answer found = {101, entry[CURRENT_VALUE]};
     return found;
+}
+
+static inline plain_many_answer many_answer(uint32_t number, uint32_t count)
+{
+    plain_many_answer a = {number, count};
+    return a;
+}
+
+/* The session and its log are judged once: an entry that a read appends is of a cell below n, and there is room for it. */
+plain_many_answer plain_read_many(const plain_lent *lent, plain_session *sessions, uint8_t session, const uint32_t *cells, size_t cells_len,
+                                  uint32_t *target, size_t target_len)
+{
+    if (cells_len == 0 || cells_len > PLAIN_MAX_LIST) {
+        return many_answer(15, 0);
+    }
+    if (target_len < cells_len) {
+        return many_answer(13, 0);
+    }
+    uint32_t refused = admit(lent, sessions, session, RUNNING);
+    if (refused) {
+        return many_answer(refused, 0);
+    }
+    plain_session *record = &sessions[session];
+    const uint32_t *log = entry_at(lent, session, 0);
+    uint64_t seen[PLAIN_MAX_CELLS / 64] = {0};
+    for (uint32_t i = 0; i < record->count; i++) {
+        uint32_t cell = log[PLAIN_ENTRY_WORDS * i + CELL];
+        seen[cell / 64] |= UINT64_C(1) << (cell % 64);
+    }
+    for (uint32_t got = 0; got < cells_len; got++) {
+        uint32_t cell = cells[got];
+        if (cell >= lent->values_len) {
+            return many_answer(3, got);
+        }
+        uint64_t bit = UINT64_C(1) << (cell % 64);
+        uint32_t i = seen[cell / 64] & bit ? find(log, record->count, cell) : record->count;
+        seen[cell / 64] |= bit;
+        uint32_t *entry;
+        refused = enter_at(lent, record, session, cell, i, &entry);
+        if (refused) {
+            return many_answer(refused, got);
+        }
+        target[got] = entry[CURRENT_VALUE];
+    }
+    return many_answer(101, (uint32_t)cells_len);
 }
 
 plain_answer plain_write(const plain_lent *lent, plain_session *sessions, uint8_t session, uint32_t cell, uint32_t value)

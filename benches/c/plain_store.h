@@ -1,4 +1,4 @@
-/* A plain C store with the steps of document 01, on lent buffers: the baseline of the proved store's speed. */
+/* A plain C store with the steps of document 01 and the many reads of document 02, on lent buffers: the baseline of the proved store's speed. */
 #ifndef PLAIN_STORE_H
 #define PLAIN_STORE_H
 
@@ -12,6 +12,7 @@ enum {
     PLAIN_ENTRY_WORDS = 4,
     PLAIN_SESSION_WORDS = 128,
     PLAIN_LOG_WORDS = 2048,
+    PLAIN_MAX_LIST = 32,
     PLAIN_NOBODY = 16,
     PLAIN_MAX_CLASS = 15
 };
@@ -28,6 +29,12 @@ typedef struct {
     uint32_t number;
     uint32_t value;
 } plain_answer;
+
+/* The last answer's number of many reads, and how many values they got. */
+typedef struct {
+    uint32_t number;
+    uint32_t count;
+} plain_many_answer;
 
 /* A peek's part: one word of the values or of the logs, or none. */
 typedef struct {
@@ -58,6 +65,8 @@ const char *store_name(void);
 plain_answer plain_set_up(const plain_lent *lent, plain_session *sessions);
 plain_answer plain_begin(const plain_lent *lent, plain_session *sessions, uint8_t session);
 plain_answer plain_read(const plain_lent *lent, plain_session *sessions, uint8_t session, uint32_t cell);
+plain_many_answer plain_read_many(const plain_lent *lent, plain_session *sessions, uint8_t session, const uint32_t *cells, size_t cells_len,
+                                  uint32_t *target, size_t target_len);
 plain_answer plain_write(const plain_lent *lent, plain_session *sessions, uint8_t session, uint32_t cell, uint32_t value);
 plain_answer plain_seal(const plain_lent *lent, plain_session *sessions, uint8_t session);
 plain_answer plain_advance(const plain_lent *lent, plain_session *sessions, uint8_t session);

@@ -1,5 +1,6 @@
 /* A start for a maker's firmware. First the fields: it writes a begin, two reads, a write and a seal into one buffer, reads them back and prints
- * them, and shows what each refusal looks like. Then the store: it carries out one transaction, call for call as fields bring them. Build it with
+ * them, and shows what each refusal looks like. Then the store: it carries out one transaction, call for call as fields bring them. Last a tablet's
+ * round: many cells read in one call. Build it with
  *
  *   bash scripts/install PREFIX
  *   export PKG_CONFIG_PATH=PREFIX/lib/pkgconfig
@@ -190,6 +191,33 @@ static int transact(void) {
     return wrong;
 }
 
+/* Reads a list of cells in one call, keeps the record, and prints the answer with the values that were got. */
+static int read_round(uint8_t session, const uint32_t *cells, size_t len, uint32_t wanted) {
+    uint32_t target[RUKKANEI_READ_MANY_MAX];
+    rukkanei_read_many_reply reply =
+        rukkanei_read_many(sessions.records[session], LENT, session, cells, len, target, RUKKANEI_READ_MANY_MAX);
+    sessions.records[session] = reply.session;
+    printf("answer %" PRIu32 " count %" PRIu32 ":", reply.number, reply.count);
+    for (uint32_t i = 0; i < reply.count; i++)
+        printf(" cell %" PRIu32 " value %" PRIu32, cells[i], target[i]);
+    printf("\n");
+    return expect(reply.number, wanted);
+}
+
+/* A tablet draws its round with session 3. The round passes cell 1 twice. A list with a cell that the store does not have stops there, with what was
+ * read before it; an empty one is refused. The session has written nothing, so its seal commits: all values are of one snapshot. */
+static int draw_round(void) {
+    static const uint32_t cells[] = {2, 1, 3, 1};
+    static const uint32_t astray[] = {0, 300, 3};
+    int wrong = carried((struct call){RUKKANEI_TAG_BEGIN, 3, 0, 0, 0}, RUKKANEI_DONE);
+
+    wrong += read_round(3, cells, 4, RUKKANEI_VALUE);
+    wrong += read_round(3, astray, 3, RUKKANEI_NO_SUCH_CELL);
+    wrong += read_round(3, cells, 0, RUKKANEI_WRONG_LIST);
+    wrong += carried((struct call){RUKKANEI_TAG_SEAL, 3, 0, 0, 0}, RUKKANEI_COMMITTED);
+    return wrong;
+}
+
 int main(void) {
     static const struct call calls[] = {
         {RUKKANEI_TAG_BEGIN, 2, 0, 0, 0}, {RUKKANEI_TAG_READ, 2, 0, 5, 0},  {RUKKANEI_TAG_READ, 2, 0, 300, 0},
@@ -229,5 +257,6 @@ int main(void) {
     }
 
     wrong += transact();
+    wrong += draw_round();
     return wrong != 0;
 }

@@ -1,16 +1,20 @@
 //! Lent buffers with arbitrary contents, single calls on them, and arbitrary fields: what no replay can reach.
 
 use crate::field::Field;
+use crate::many_reads::{MANY, MANY_AFTER_A_VALUE, MANY_AND_A_CELL_AGAIN};
 use crate::random::Random;
 use crate::store::{Buffers, Call, Session, CAPS, LOG_WORDS, MAX_ENTRIES, NOBODY, SESSIONS};
 use std::collections::BTreeMap;
 use std::fmt;
 
 /// The numbers that each call must be seen to answer over a run on arbitrary buffers.
-pub const REQUIRED: [(&str, &[u32]); 8] = [
+pub const REQUIRED: [(&str, &[u32]); 11] = [
     ("set-up", &[7, 8, 100]),
     ("begin", &[1, 2, 7, 9, 100]),
     ("read", &[1, 2, 3, 5, 6, 7, 9, 101]),
+    (MANY, &[1, 2, 3, 5, 6, 7, 9, 13, 15, 101]),
+    (MANY_AFTER_A_VALUE, &[3, 5, 6]),
+    (MANY_AND_A_CELL_AGAIN, &[3, 5, 6, 101]),
     ("write", &[1, 2, 3, 4, 5, 6, 7, 8, 9, 100]),
     ("seal", &[1, 2, 7, 9, 102, 105]),
     ("advance", &[1, 2, 6, 7, 9, 103, 104, 105]),
@@ -145,11 +149,7 @@ fn log(random: &Random, n: usize, logs: &mut Vec<u32>) {
     let stray = if random.percent(12) { Some(random.below(MAX_ENTRIES)) } else { None };
     let clean = random.percent(15);
     for index in 0..MAX_ENTRIES {
-        let cell = if stray == Some(index) {
-            random.pick(&[n as u32, n as u32 + 1, u32::MAX, 1 << 16, random.word()])
-        } else {
-            (first + random.below(pool)) as u32
-        };
+        let cell = if stray == Some(index) { stray_cell(random, n) } else { (first + random.below(pool)) as u32 };
         let dirty = random.pick(&[0, 1, random.word(), 2, 3, u32::MAX]);
         logs.extend_from_slice(&[cell, random.word(), random.word(), if clean { dirty & !1 } else { dirty }]);
     }
@@ -177,12 +177,25 @@ fn misfit(random: &Random, buffers: &mut Buffers) {
     }
 }
 
+/// A cell that a store of `n` cells hardly has.
+pub fn stray_cell(random: &Random, n: usize) -> u32 {
+    random.pick(&[n as u32, n as u32 + 1, u32::MAX, 1 << 16, random.word()])
+}
+
+/// A session, mostly this one.
+pub fn session(random: &Random, own: u8) -> u8 {
+    if random.percent(4) {
+        return random.pick(&[16, 17, 255, random.byte()]);
+    }
+    own
+}
+
 /// Any call, mostly of one session and on cells of the store.
 pub fn call(random: &Random, buffers: &Buffers, own: u8) -> Call {
-    let session = if random.percent(4) { random.pick(&[16, 17, 255, random.byte()]) } else { own };
+    let session = session(random, own);
     let n = buffers.values.len();
     let cell = if random.percent(5) || n == 0 {
-        random.pick(&[n as u32, n as u32 + 1, u32::MAX, 1 << 16, random.word()])
+        stray_cell(random, n)
     } else if random.percent(40) {
         buffers.logs.get(128 * own as usize).copied().unwrap_or(0)
     } else {

@@ -2,7 +2,7 @@
 
 use crate::field::{self, Field, Reading};
 use crate::replay;
-use crate::store::{Answer, Buffers, Call, Part};
+use crate::store::{Answer, Buffers, Call, ManyAnswer, ManyReads, Part};
 use std::io::{self, Read, Write};
 use std::process::{Child, Command, Stdio};
 use std::thread;
@@ -13,10 +13,11 @@ pub trait Replayer {
     fn replay(&mut self, input: &[u8]) -> io::Result<Vec<u8>>;
 }
 
-/// A store: one call on lent buffers, which it changes in place. `Part` is a peek's part, and `Empty` for other calls.
+/// A store: one call, or many reads in one, on lent buffers, which it changes in place. `Part` is a peek's part, and `Empty` for other calls.
 pub trait Store {
     fn name(&self) -> String;
     fn call(&mut self, buffers: &mut Buffers, call: Call) -> (Answer, Part);
+    fn read_many(&mut self, buffers: &mut Buffers, many: &mut ManyReads) -> ManyAnswer;
 }
 
 /// A field reader and writer.
@@ -51,6 +52,11 @@ impl Store for Reference {
             _ => Part::Empty,
         };
         (answer, part)
+    }
+
+    fn read_many(&mut self, buffers: &mut Buffers, many: &mut ManyReads) -> ManyAnswer {
+        let cells = many.cells.clone();
+        buffers.read_many(many.session, &cells, many.target())
     }
 }
 

@@ -6,12 +6,12 @@ use crate::random::Random;
 use crate::replay::{call_of, MAX_INPUT};
 use crate::store::{Buffers, CAPS, IDLE, RUNNING};
 
-/// How one file's calls are chosen.
-struct Shape {
-    sessions: usize,
-    hot: usize,
+/// How the calls of one file or run are chosen.
+pub struct Shape {
+    pub sessions: usize,
+    pub hot: usize,
     /// Read new cells one after the other, so that logs fill up.
-    sweeping: bool,
+    pub sweeping: bool,
 }
 
 /// The input of one case.
@@ -43,20 +43,7 @@ fn whole(random: &Random) -> Vec<u8> {
 
 /// Appends starting cells and then good calls, as long as more are wanted for this many calls and bytes.
 fn fill(random: &Random, bytes: &mut Vec<u8>, more: impl Fn(usize, usize) -> bool) {
-    let n = match random.weighted(&[45, 22, 28, 4, 1]) {
-        0 => random.range(1, 4),
-        1 => random.range(5, 12),
-        2 => random.range(33, 48),
-        3 => random.range(1, 1024),
-        _ => 1024,
-    };
-    let mut buffers = starting_cells(random, n, bytes);
-    let sweeping = n > 32 && random.percent(70);
-    let shape = Shape {
-        sessions: if sweeping { random.range(1, 3) } else { random.pick(&[1, 2, 2, 2, 3, 3, 4, 6, 16]) },
-        hot: random.range(1, n.min(4)),
-        sweeping,
-    };
+    let (shape, mut buffers) = set_up(random, bytes);
     let mut made = 0;
     while more(made, bytes.len()) {
         let field = next_call(random, &shape, &buffers);
@@ -66,6 +53,25 @@ fn fill(random: &Random, bytes: &mut Vec<u8>, more: impl Fn(usize, usize) -> boo
         append(bytes, &field);
         made += 1;
     }
+}
+
+/// Appends starting cells; gives the store that they set up, and how calls on it are chosen.
+pub fn set_up(random: &Random, bytes: &mut Vec<u8>) -> (Shape, Buffers) {
+    let n = match random.weighted(&[45, 22, 28, 4, 1]) {
+        0 => random.range(1, 4),
+        1 => random.range(5, 12),
+        2 => random.range(33, 48),
+        3 => random.range(1, 1024),
+        _ => 1024,
+    };
+    let buffers = starting_cells(random, n, bytes);
+    let sweeping = n > 32 && random.percent(70);
+    let shape = Shape {
+        sessions: if sweeping { random.range(1, 3) } else { random.pick(&[1, 2, 2, 2, 3, 3, 4, 6, 16]) },
+        hot: random.range(1, n.min(4)),
+        sweeping,
+    };
+    (shape, buffers)
 }
 
 /// Good leading 08 fields, and the store they set up.
@@ -94,7 +100,7 @@ fn value_within(random: &Random, class: u8) -> u32 {
 }
 
 /// The next field after the calls so far.
-fn next_call(random: &Random, shape: &Shape, buffers: &Buffers) -> Field {
+pub fn next_call(random: &Random, shape: &Shape, buffers: &Buffers) -> Field {
     if random.percent(1) {
         return any_call(random, buffers);
     }
@@ -123,7 +129,7 @@ fn carried(tag: u8, session: u8, cell: u16, value: u32) -> Field {
     }
 }
 
-fn choose_cell(random: &Random, shape: &Shape, buffers: &Buffers, session: u8) -> u16 {
+pub fn choose_cell(random: &Random, shape: &Shape, buffers: &Buffers, session: u8) -> u16 {
     let n = buffers.values.len();
     if random.percent(2) {
         return random.pick(&[n as u16, n as u16 + 1, 1024, 65_535, random.word() as u16]);

@@ -1,4 +1,5 @@
-//! What the caller lends, the session records, the calls and their answers: document 01, 'What the caller lends' and the numbers.
+//! What the caller lends, the session records, the calls and their answers: document 01, 'What the caller lends' and the numbers, and
+//! document 02, Paper 1.
 
 /// The number of sessions.
 pub const SESSIONS: usize = 16;
@@ -12,6 +13,8 @@ pub const ENTRY_WORDS: usize = 4;
 pub const SESSION_WORDS: usize = 128;
 /// Words of all logs.
 pub const LOG_WORDS: usize = 2048;
+/// The most cells in the list of many reads.
+pub const MAX_LIST: usize = 32;
 /// The claimant byte that is nobody.
 pub const NOBODY: u8 = 16;
 /// The highest class.
@@ -35,7 +38,9 @@ pub const CLAIMED: u32 = 6;
 pub const WRONG_LENGTH: u32 = 7;
 pub const BAD_CELL: u32 = 8;
 pub const DAMAGED: u32 = 9;
+pub const SHORT_TARGET: u32 = 13;
 pub const NOT_IN_LOG: u32 = 14;
+pub const WRONG_LIST: u32 = 15;
 
 pub const DONE: u32 = 100;
 pub const VALUE: u32 = 101;
@@ -59,6 +64,13 @@ pub struct Answer {
     pub value: u32,
 }
 
+/// What many reads return: the last answer's number, and how many values they got.
+#[derive(Clone, Copy, Debug, PartialEq, Eq)]
+pub struct ManyAnswer {
+    pub number: u32,
+    pub count: u32,
+}
+
 /// The part that a peek hands back, as the index of its word in the values or in all the logs.
 #[derive(Clone, Copy, Debug, PartialEq, Eq)]
 pub enum Part {
@@ -78,6 +90,21 @@ pub enum Call {
     Advance { session: u8 },
     Abandon { session: u8 },
     Peek { session: u8, cell: u32 },
+}
+
+/// Many reads in one call. Its target is the first `lent` of the words: what comes after them is not lent, and must stay.
+#[derive(Clone, Debug, PartialEq, Eq)]
+pub struct ManyReads {
+    pub session: u8,
+    pub cells: Vec<u32>,
+    pub words: Vec<u32>,
+    pub lent: usize,
+}
+
+impl ManyReads {
+    pub fn target(&mut self) -> &mut [u32] {
+        &mut self.words[..self.lent]
+    }
 }
 
 /// What the caller lends, and the sixteen records. Lock records lie in three runs, each with a length of its own.

@@ -1,14 +1,16 @@
-//! Document 01 read a second time, from the paper alone: the store, the call fields and the replay, and the random
-//! lists that compare them with other programs. Nothing here is shared with the proved crates.
+//! Document 01 and Paper 1 of document 02 read a second time, from the papers alone: the store, the call fields and the replay, and the
+//! random lists that compare them with other programs. Nothing here is shared with the proved crates.
 
 pub mod arbitrary;
 pub mod boundary;
 pub mod field;
 pub mod generate;
 pub mod lent;
+pub mod many_reads;
 pub mod options;
 pub mod random;
 pub mod replay;
+pub mod runs;
 pub mod store;
 pub mod tally;
 

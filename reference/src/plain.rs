@@ -5,7 +5,7 @@ use std::ffi::{c_char, CStr};
 
 use crate::boundary::{located, Fields, Store};
 use crate::field::{Field, Reading};
-use crate::store::{Answer, Buffers, Call, Part, Session};
+use crate::store::{Answer, Buffers, Call, ManyAnswer, ManyReads, Part, Session, SESSIONS};
 
 /// The layout of `plain_lent`: each run with its length.
 #[repr(C)]
@@ -36,6 +36,12 @@ struct Record {
 struct CAnswer {
     number: u32,
     value: u32,
+}
+
+#[repr(C)]
+struct CManyAnswer {
+    number: u32,
+    count: u32,
 }
 
 #[repr(C)]
@@ -73,6 +79,15 @@ extern "C" {
     fn plain_set_up(lent: *const Lent, sessions: *mut Record) -> CAnswer;
     fn plain_begin(lent: *const Lent, sessions: *mut Record, session: u8) -> CAnswer;
     fn plain_read(lent: *const Lent, sessions: *mut Record, session: u8, cell: u32) -> CAnswer;
+    fn plain_read_many(
+        lent: *const Lent,
+        sessions: *mut Record,
+        session: u8,
+        cells: *const u32,
+        cells_len: usize,
+        target: *mut u32,
+        target_len: usize,
+    ) -> CManyAnswer;
     fn plain_write(lent: *const Lent, sessions: *mut Record, session: u8, cell: u32, value: u32) -> CAnswer;
     fn plain_seal(lent: *const Lent, sessions: *mut Record, session: u8) -> CAnswer;
     fn plain_advance(lent: *const Lent, sessions: *mut Record, session: u8) -> CAnswer;
@@ -89,6 +104,32 @@ fn text(pointer: *const c_char) -> String {
     unsafe { CStr::from_ptr(pointer) }.to_string_lossy().into_owned()
 }
 
+/// The buffers as C takes them, as long as the vectors live and stay as long as they are.
+fn lent(buffers: &mut Buffers) -> Lent {
+    Lent {
+        values: buffers.values.as_mut_ptr(),
+        values_len: buffers.values.len(),
+        classes: buffers.classes.as_ptr(),
+        classes_len: buffers.classes.len(),
+        readers: buffers.readers.as_mut_ptr(),
+        readers_len: buffers.readers.len(),
+        claimants: buffers.claimants.as_mut_ptr(),
+        claimants_len: buffers.claimants.len(),
+        exclusives: buffers.exclusives.as_mut_ptr(),
+        exclusives_len: buffers.exclusives.len(),
+        logs: buffers.logs.as_mut_ptr(),
+        logs_len: buffers.logs.len(),
+    }
+}
+
+fn records(buffers: &Buffers) -> [Record; SESSIONS] {
+    buffers.sessions.map(|Session { phase, count, next }| Record { phase, count, next })
+}
+
+fn sessions(records: [Record; SESSIONS]) -> [Session; SESSIONS] {
+    records.map(|Record { phase, count, next }| Session { phase, count, next })
+}
+
 pub struct Plain;
 
 impl Store for Plain {
@@ -98,44 +139,43 @@ impl Store for Plain {
     }
 
     fn call(&mut self, buffers: &mut Buffers, call: Call) -> (Answer, Part) {
-        let mut records = buffers.sessions.map(|Session { phase, count, next }| Record { phase, count, next });
-        let lent = Lent {
-            values: buffers.values.as_mut_ptr(),
-            values_len: buffers.values.len(),
-            classes: buffers.classes.as_ptr(),
-            classes_len: buffers.classes.len(),
-            readers: buffers.readers.as_mut_ptr(),
-            readers_len: buffers.readers.len(),
-            claimants: buffers.claimants.as_mut_ptr(),
-            claimants_len: buffers.claimants.len(),
-            exclusives: buffers.exclusives.as_mut_ptr(),
-            exclusives_len: buffers.exclusives.len(),
-            logs: buffers.logs.as_mut_ptr(),
-            logs_len: buffers.logs.len(),
-        };
-        let sessions = records.as_mut_ptr();
+        let mut records = records(buffers);
+        let lent = lent(buffers);
+        let all = records.as_mut_ptr();
         let mut part = Part::Empty;
-        // SAFETY: the pointers and lengths are those of live vectors, and the sixteen records are behind `sessions`.
+        // SAFETY: the pointers and lengths are those of live vectors, and the sixteen records are behind `all`.
         let answer = unsafe {
             match call {
-                Call::SetUp => plain_set_up(&lent, sessions),
-                Call::Begin { session } => plain_begin(&lent, sessions, session),
-                Call::Read { session, cell } => plain_read(&lent, sessions, session, cell),
-                Call::Write { session, cell, value } => plain_write(&lent, sessions, session, cell, value),
-                Call::Seal { session } => plain_seal(&lent, sessions, session),
-                Call::Advance { session } => plain_advance(&lent, sessions, session),
-                Call::Abandon { session } => plain_abandon(&lent, sessions, session),
+                Call::SetUp => plain_set_up(&lent, all),
+                Call::Begin { session } => plain_begin(&lent, all, session),
+                Call::Read { session, cell } => plain_read(&lent, all, session, cell),
+                Call::Write { session, cell, value } => plain_write(&lent, all, session, cell, value),
+                Call::Seal { session } => plain_seal(&lent, all, session),
+                Call::Advance { session } => plain_advance(&lent, all, session),
+                Call::Abandon { session } => plain_abandon(&lent, all, session),
                 Call::Peek { session, cell } => {
-                    let handed = plain_peek(&lent, sessions, session, cell);
+                    let handed = plain_peek(&lent, all, session, cell);
                     if handed.len > 0 {
                         part = located(buffers, std::slice::from_raw_parts(handed.words, handed.len));
                     }
-                    plain_peek_number(&lent, sessions, session, cell)
+                    plain_peek_number(&lent, all, session, cell)
                 }
             }
         };
-        buffers.sessions = records.map(|Record { phase, count, next }| Session { phase, count, next });
+        buffers.sessions = sessions(records);
         (Answer { number: answer.number, value: answer.value }, part)
+    }
+
+    fn read_many(&mut self, buffers: &mut Buffers, many: &mut ManyReads) -> ManyAnswer {
+        let mut records = records(buffers);
+        let lent = lent(buffers);
+        let (cells, words) = (&many.cells, &mut many.words);
+        // SAFETY: the pointers and lengths are those of live vectors; the target is a part of the words.
+        let answer = unsafe {
+            plain_read_many(&lent, records.as_mut_ptr(), many.session, cells.as_ptr(), cells.len(), words.as_mut_ptr(), many.lent)
+        };
+        buffers.sessions = sessions(records);
+        ManyAnswer { number: answer.number, count: answer.count }
     }
 }
 

@@ -1,4 +1,4 @@
-//! The store's calls: document 01, 'The steps' and 'When a call is turned down'.
+//! The store's calls: document 01, 'The steps' and 'When a call is turned down', and document 02, Paper 1.
 //! Every call is total: it says what happens for any contents and any lengths of the lent buffers.
 
 pub use crate::lent::*;
@@ -92,6 +92,27 @@ impl Buffers {
             Ok(at) => Answer { number: VALUE, value: self.logs[at + 2] },
             Err(number) => refuse(number),
         }
+    }
+
+    /// Many reads: what single reads in the list's order give, up to the first answer that is not 101.
+    pub fn read_many(&mut self, session: u8, cells: &[u32], target: &mut [u32]) -> ManyAnswer {
+        if cells.is_empty() || cells.len() > MAX_LIST {
+            return ManyAnswer { number: WRONG_LIST, count: 0 };
+        }
+        if target.len() < cells.len() {
+            return ManyAnswer { number: SHORT_TARGET, count: 0 };
+        }
+        let mut last = ManyAnswer { number: VALUE, count: 0 };
+        for (cell, word) in cells.iter().zip(target) {
+            let answer = self.read(session, *cell);
+            last.number = answer.number;
+            if answer.number != VALUE {
+                break;
+            }
+            *word = answer.value;
+            last.count += 1;
+        }
+        last
     }
 
     pub fn write(&mut self, session: u8, cell: u32, value: u32) -> Answer {

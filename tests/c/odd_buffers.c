@@ -1,6 +1,6 @@
-/* Calls on buffers that no run leaves, through the calls for C: numbers 9 and 14, duplicate entries, any fourth word, any claimant byte, any record.
-   Two cells of class 2, values 3 and 5; the session is passed the record; session 0's log begins with the words. Prints a line for each row, with the
-   record that came back. */
+/* Calls on buffers that no run leaves, through the calls for C: numbers 9 and 14, duplicate entries, any fourth word, any claimant byte, any record;
+   and many reads, numbers 15 and 13 among them. Two cells of class 2, values 3 and 5; the session is passed the record; session 0's log begins with the
+   words. Prints a line for each row, with the record that came back. */
 #include "rukkanei.h"
 
 #include <stdio.h>
@@ -51,35 +51,111 @@ static const row rows[] = {
     {"a record of another session's number", 2, 1, 0, {0, 3, 4, 1}, {3, 0}, {16, 16}, 'a', 1, 0, 0},
 };
 
+/* Many reads: the list, and how long the target is. */
+typedef struct {
+    row lent;
+    size_t cells_len;
+    uint32_t cells[RUKKANEI_READ_MANY_MAX + 1];
+    size_t target_len;
+} many_row;
+
+static const many_row many_rows[] = {
+    {{"new cells", 1, 0, 0, {0}, {2, 0}, {16, 16}, 'm', 0, 0, 0}, 2, {1, 0}, 2},
+    {{"a cell again", 1, 0, 0, {0}, {0, 0}, {16, 16}, 'm', 0, 0, 0}, 4, {1, 1, 0, 1}, 6},
+    {{"32 cells", 1, 0, 9, {0}, {0, 0}, {16, 16}, 'm', 15, 0, 0}, 32, {1}, 32},
+    {{"the first entry counts each time", 1, 2, 0, {0, 3, 4, 6, 0, 3, 5, 7}, {1, 0}, {3, 16}, 'm', 0, 0, 0}, 3, {0, 1, 0}, 3},
+    {{"a claim after one value", 1, 1, 0, {0, 3, 4, 1}, {3, 0}, {0, 200}, 'm', 0, 0, 0}, 3, {0, 1, 0}, 3},
+    {{"a claim at once", 1, 1, 0, {0, 3, 4, 1}, {1, 0}, {16, 0}, 'm', 0, 0, 0}, 2, {1, 0}, 2},
+    {{"a full log and a claimed cell after two values", 1, 32, 0, {0, 3, 4, 1}, {1, 0}, {16, 3}, 'm', 0, 0, 0}, 4, {0, 0, 1, 0}, 4},
+    {{"a cell not below n after one value", 1, 0, 0, {0}, {0, 0}, {16, 16}, 'm', 0, 0, 0}, 3, {1, 65536, 0}, 3},
+    {{"a cell not below n at once", 1, 0, 0, {0}, {0, 0}, {16, 16}, 'm', 0, 0, 0}, 2, {2, 0}, 2},
+    {{"a sealed session", 2, 1, 0, {0, 3, 4, 1}, {1, 0}, {16, 16}, 'm', 0, 0, 0}, 2, {0, 2}, 2},
+    {{"an entered cell not below n, then others", 1, 2, 0, {0, 3, 4, 1, 2, 3, 4, 1}, {1, 0}, {16, 16}, 'm', 0, 0, 0}, 2, {0, 2}, 2},
+    {{"phase 9 and many reads", 9, 1, 2, {0, 3, 4, 1}, {1, 0}, {16, 16}, 'm', 0, 0, 0}, 1, {0}, 1},
+    {{"session 16 and many reads", 9, 1, 2, {0, 3, 4, 1}, {1, 0}, {16, 16}, 'm', 16, 0, 0}, 1, {0}, 1},
+    {{"a target one word short", 1, 0, 0, {0}, {0, 0}, {16, 16}, 'm', 0, 0, 0}, 3, {0, 1, 0}, 2},
+    {{"an empty target for session 16", 9, 1, 2, {0, 3, 4, 1}, {1, 0}, {16, 16}, 'm', 16, 0, 0}, 1, {0}, 0},
+    {{"an empty list", 1, 0, 0, {0}, {0, 0}, {16, 16}, 'm', 0, 0, 0}, 0, {0}, 3},
+    {{"33 cells", 1, 0, 0, {0}, {0, 0}, {16, 16}, 'm', 0, 0, 0}, 33, {0}, 33},
+    {{"33 cells and a short target for phase 9", 9, 255, 65535, {0}, {0, 0}, {16, 16}, 'm', 0, 0, 0}, 33, {0}, 1},
+};
+
+/* What a row lends. */
+static uint32_t values[2], logs[2048];
+static const uint8_t classes[2] = {2, 2};
+static uint16_t readers[2];
+static uint8_t claimants[2], exclusives[2];
+#define LENT values, 2, classes, 2, readers, 2, claimants, 2, exclusives, 2, logs, 2048
+
+static rukkanei_session lend(const row *r)
+{
+    values[0] = 3;
+    values[1] = 5;
+    memset(logs, 0, sizeof logs);
+    memcpy(logs, r->words, sizeof r->words);
+    memcpy(readers, r->readers, sizeof readers);
+    memcpy(claimants, r->claimants, sizeof claimants);
+    memset(exclusives, 0, sizeof exclusives);
+    return (rukkanei_session){r->phase, r->count, r->next};
+}
+
+/* One number for all of these words. */
+static uint32_t sum_of(const uint32_t *words, size_t len)
+{
+    uint32_t sum = 0;
+    for (size_t k = 0; k < len; k++) {
+        sum = sum * 31 + words[k];
+    }
+    return sum;
+}
+
+static void print_after(rukkanei_session record)
+{
+    printf(", record %u %u %u, readers %u %u, claimants %u %u, marks %u %u, values %u %u, logs %u\n", record.phase, record.count, record.next, readers[0],
+           readers[1], claimants[0], claimants[1], exclusives[0], exclusives[1], values[0], values[1], sum_of(logs, 2048));
+}
+
+static void try(const row *r)
+{
+    rukkanei_session record = lend(r);
+    rukkanei_reply reply;
+    size_t index = 99;
+    switch (r->call) {
+    case 'b': reply = rukkanei_begin(record, LENT, r->session); break;
+    case 'r': reply = rukkanei_read(record, LENT, r->session, r->cell); break;
+    case 'w': reply = rukkanei_write(record, LENT, r->session, r->cell, r->written); break;
+    case 's': reply = rukkanei_seal(record, LENT, r->session); break;
+    case 'a': reply = rukkanei_advance(record, LENT, r->session); break;
+    case 'n': reply = rukkanei_abandon(record, LENT, r->session); break;
+    default:
+        reply = rukkanei_peek_number(record, LENT, r->session, r->cell);
+        reply.value = rukkanei_peek_place(record, LENT, r->session, r->cell, &index) * 100 + (uint32_t)index;
+    }
+    printf("%s: %u %u", r->name, reply.number, reply.value);
+    print_after(reply.session);
+}
+
+/* The target is at the front of 34 words, each 77: prints the first four of them, and the sum of all. */
+static void try_many(const many_row *m)
+{
+    rukkanei_session record = lend(&m->lent);
+    uint32_t target[34];
+    for (size_t k = 0; k < 34; k++) {
+        target[k] = 77;
+    }
+    rukkanei_read_many_reply reply = rukkanei_read_many(record, LENT, m->lent.session, m->cells, m->cells_len, target, m->target_len);
+    printf("%s: %u %u, target %u %u %u %u, all %u", m->lent.name, reply.number, reply.count, target[0], target[1], target[2], target[3],
+           sum_of(target, 34));
+    print_after(reply.session);
+}
+
 int main(void)
 {
     for (size_t i = 0; i < sizeof rows / sizeof rows[0]; i++) {
-        row r = rows[i];
-        uint32_t values[2] = {3, 5}, logs[2048], sum = 0;
-        uint8_t classes[2] = {2, 2}, exclusives[2] = {0, 0};
-        rukkanei_session record = {r.phase, r.count, r.next};
-        rukkanei_reply reply;
-        size_t index = 99;
-        memset(logs, 0, sizeof logs);
-        memcpy(logs, r.words, sizeof r.words);
-#define LENT values, 2, classes, 2, r.readers, 2, r.claimants, 2, exclusives, 2, logs, 2048
-        switch (r.call) {
-        case 'b': reply = rukkanei_begin(record, LENT, r.session); break;
-        case 'r': reply = rukkanei_read(record, LENT, r.session, r.cell); break;
-        case 'w': reply = rukkanei_write(record, LENT, r.session, r.cell, r.written); break;
-        case 's': reply = rukkanei_seal(record, LENT, r.session); break;
-        case 'a': reply = rukkanei_advance(record, LENT, r.session); break;
-        case 'n': reply = rukkanei_abandon(record, LENT, r.session); break;
-        default:
-            reply = rukkanei_peek_number(record, LENT, r.session, r.cell);
-            reply.value = rukkanei_peek_place(record, LENT, r.session, r.cell, &index) * 100 + (uint32_t)index;
-        }
-        for (size_t k = 0; k < 2048; k++) {
-            sum = sum * 31 + logs[k];
-        }
-        printf("%s: %u %u, record %u %u %u, readers %u %u, claimants %u %u, marks %u %u, values %u %u, logs %u\n", r.name, reply.number, reply.value,
-               reply.session.phase, reply.session.count, reply.session.next, r.readers[0], r.readers[1], r.claimants[0], r.claimants[1], exclusives[0],
-               exclusives[1], values[0], values[1], sum);
+        try(&rows[i]);
+    }
+    for (size_t i = 0; i < sizeof many_rows / sizeof many_rows[0]; i++) {
+        try_many(&many_rows[i]);
     }
     return 0;
 }

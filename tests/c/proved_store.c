@@ -22,24 +22,25 @@ static rukkanei_session record_of(const plain_session *sessions, uint8_t session
     return record;
 }
 
-/* The answer 0, which no call gives, tells of a record that should have come back as it came and did not. */
-static plain_answer unchanged(rukkanei_session passed, rukkanei_reply reply)
+/* The number; or 0, which no call gives, of a record that should have come back as it came and did not. */
+static uint32_t unchanged(rukkanei_session passed, rukkanei_session came, uint32_t number)
 {
-    plain_answer a = {reply.number, reply.value};
-    if (memcmp(&passed, &reply.session, sizeof passed) != 0) {
-        a.number = 0;
-    }
-    return a;
+    return memcmp(&passed, &came, sizeof passed) != 0 ? 0 : number;
 }
 
 /* Puts the record handed back in its place; that of a session above 15 must be the one passed. */
-static plain_answer put_back(plain_session *sessions, uint8_t session, rukkanei_reply reply)
+static uint32_t put_back(plain_session *sessions, uint8_t session, rukkanei_session came, uint32_t number)
 {
     if (session >= PLAIN_SESSIONS) {
-        return unchanged(record_of(sessions, session), reply);
+        return unchanged(record_of(sessions, session), came, number);
     }
-    memcpy(&sessions[session], &reply.session, sizeof reply.session);
-    return (plain_answer){reply.number, reply.value};
+    memcpy(&sessions[session], &came, sizeof came);
+    return number;
+}
+
+static plain_answer answered(plain_session *sessions, uint8_t session, rukkanei_reply reply)
+{
+    return (plain_answer){put_back(sessions, session, reply.session, reply.number), reply.value};
 }
 
 plain_answer plain_set_up(const plain_lent *lent, plain_session *sessions)
@@ -53,38 +54,46 @@ plain_answer plain_set_up(const plain_lent *lent, plain_session *sessions)
 
 plain_answer plain_begin(const plain_lent *lent, plain_session *sessions, uint8_t session)
 {
-    return put_back(sessions, session, rukkanei_begin(record_of(sessions, session), LENT, session));
+    return answered(sessions, session, rukkanei_begin(record_of(sessions, session), LENT, session));
 }
 
 plain_answer plain_read(const plain_lent *lent, plain_session *sessions, uint8_t session, uint32_t cell)
 {
-    return put_back(sessions, session, rukkanei_read(record_of(sessions, session), LENT, session, cell));
+    return answered(sessions, session, rukkanei_read(record_of(sessions, session), LENT, session, cell));
+}
+
+plain_many_answer plain_read_many(const plain_lent *lent, plain_session *sessions, uint8_t session, const uint32_t *cells, size_t cells_len,
+                                  uint32_t *target, size_t target_len)
+{
+    rukkanei_read_many_reply reply = rukkanei_read_many(record_of(sessions, session), LENT, session, cells, cells_len, target, target_len);
+    return (plain_many_answer){put_back(sessions, session, reply.session, reply.number), reply.count};
 }
 
 plain_answer plain_write(const plain_lent *lent, plain_session *sessions, uint8_t session, uint32_t cell, uint32_t value)
 {
-    return put_back(sessions, session, rukkanei_write(record_of(sessions, session), LENT, session, cell, value));
+    return answered(sessions, session, rukkanei_write(record_of(sessions, session), LENT, session, cell, value));
 }
 
 plain_answer plain_seal(const plain_lent *lent, plain_session *sessions, uint8_t session)
 {
-    return put_back(sessions, session, rukkanei_seal(record_of(sessions, session), LENT, session));
+    return answered(sessions, session, rukkanei_seal(record_of(sessions, session), LENT, session));
 }
 
 plain_answer plain_advance(const plain_lent *lent, plain_session *sessions, uint8_t session)
 {
-    return put_back(sessions, session, rukkanei_advance(record_of(sessions, session), LENT, session));
+    return answered(sessions, session, rukkanei_advance(record_of(sessions, session), LENT, session));
 }
 
 plain_answer plain_abandon(const plain_lent *lent, plain_session *sessions, uint8_t session)
 {
-    return put_back(sessions, session, rukkanei_abandon(record_of(sessions, session), LENT, session));
+    return answered(sessions, session, rukkanei_abandon(record_of(sessions, session), LENT, session));
 }
 
 plain_answer plain_peek_number(const plain_lent *lent, const plain_session *sessions, uint8_t session, uint32_t cell)
 {
     rukkanei_session record = record_of(sessions, session);
-    return unchanged(record, rukkanei_peek_number(record, LENT, session, cell));
+    rukkanei_reply reply = rukkanei_peek_number(record, LENT, session, cell);
+    return (plain_answer){unchanged(record, reply.session, reply.number), reply.value};
 }
 
 plain_part plain_peek(const plain_lent *lent, const plain_session *sessions, uint8_t session, uint32_t cell)

@@ -11,9 +11,9 @@ ROOT = os.path.dirname(os.path.dirname(os.path.dirname(os.path.abspath(__file__)
 STORE = os.path.join(ROOT, "benches/c/plain_store.c")
 FLAGS = ["-O1", "-std=c99", "-fPIC", "-I" + os.path.join(ROOT, "benches/c"), "-I" + os.path.join(ROOT, "tools/src")]
 
-REPLAY, BUFFERS = "on replays", "on arbitrary buffers"
+REPLAY, RUN, BUFFERS = "on replays", "in runs", "on arbitrary buffers"
 
-# Each wrong store: its name, where it must show, and the edit. Those that show on replays must show on arbitrary buffers too.
+# Each wrong store: its name, where it must show, and the edit. Those that show on replays or in runs must show on arbitrary buffers too.
 EDITS = [
     ("reader locks dropped after each read", REPLAY,
      "    lent->readers[cell] |= (uint16_t)(1u << session);\n", ""),
@@ -99,6 +99,103 @@ EDITS = [
      "    memset(lent->logs, 0, PLAIN_LOG_WORDS * sizeof lent->logs[0]);\n", ""),
     ("lengths of the marks not judged", BUFFERS,
      " && lent->exclusives_len == n", ""),
+    ("many reads: one more after a refusal", RUN,
+     "            return many_answer(3, got);\n",
+     "            if (got + 1 < cells_len) {\n"
+     "                plain_read(lent, sessions, session, cells[got + 1]);\n"
+     "            }\n"
+     "            return many_answer(3, got);\n"),
+    ("many reads: reading on past a cell that is not there", RUN,
+     "        if (cell >= lent->values_len) {\n            return many_answer(3, got);\n        }\n",
+     "        if (cell >= lent->values_len) {\n            continue;\n        }\n"),
+    ("many reads: reading on after the roll-back", RUN,
+     "        if (refused) {\n            return many_answer(refused, got);\n        }\n",
+     "        if (refused == 6) {\n            continue;\n        }\n"
+     "        if (refused) {\n            return many_answer(refused, got);\n        }\n"),
+    ("many reads: a claim told without rolling back what the list read", RUN,
+     "    for (uint32_t got = 0; got < cells_len; got++) {\n        uint32_t cell = cells[got];\n",
+     "    for (uint32_t got = 0; got < cells_len; got++) {\n        uint32_t cell = cells[got];\n"
+     "        uint32_t count = sessions[session].count;\n"
+     "        if (got > 0 && cell < lent->values_len && count < PLAIN_MAX_ENTRIES && lent->claimants[cell] != PLAIN_NOBODY &&\n"
+     "            find(entry_at(lent, session, 0), count, cell) == count) {\n"
+     "            return many_answer(6, got);\n"
+     "        }\n"),
+    ("many reads: the target's next word touched", RUN,
+     "        target[got] = entry[CURRENT_VALUE];\n", "        target[got] = entry[CURRENT_VALUE];\n        target[got + 1] = 0;\n"),
+    ("many reads: 0 in the target where a read is refused", RUN,
+     "        if (refused) {\n            return many_answer(refused, got);\n        }\n",
+     "        if (refused) {\n            target[got] = 0;\n            return many_answer(refused, got);\n        }\n"),
+    ("many reads: a count of 0 after a roll-back", RUN,
+     "        if (refused) {\n            return many_answer(refused, got);\n        }\n",
+     "        if (refused) {\n"
+     "            return many_answer(refused, refused == 6 ? 0 : got);\n"
+     "        }\n"),
+    ("many reads: 13 before 15", RUN,
+     "    if (cells_len == 0 || cells_len > PLAIN_MAX_LIST) {\n        return many_answer(15, 0);\n    }\n"
+     "    if (target_len < cells_len) {\n        return many_answer(13, 0);\n    }\n",
+     "    if (target_len < cells_len) {\n        return many_answer(13, 0);\n    }\n"
+     "    if (cells_len == 0 || cells_len > PLAIN_MAX_LIST) {\n        return many_answer(15, 0);\n    }\n"),
+    ("many reads: 7, 1, 9 and 2 before 15 and 13", RUN,
+     "    if (cells_len == 0 || cells_len > PLAIN_MAX_LIST) {\n",
+     "    if (admit(lent, sessions, session, RUNNING)) {\n"
+     "        return many_answer(admit(lent, sessions, session, RUNNING), 0);\n"
+     "    }\n"
+     "    if (cells_len == 0 || cells_len > PLAIN_MAX_LIST) {\n"),
+    ("many reads: an empty list let through", RUN,
+     "    if (cells_len == 0 || cells_len > PLAIN_MAX_LIST) {\n", "    if (cells_len > PLAIN_MAX_LIST) {\n"),
+    ("many reads: 33 cells let through", RUN,
+     "    if (cells_len == 0 || cells_len > PLAIN_MAX_LIST) {\n", "    if (cells_len == 0 || cells_len > PLAIN_MAX_LIST + 1) {\n"),
+    ("many reads: 32 cells refused", RUN,
+     "    if (cells_len == 0 || cells_len > PLAIN_MAX_LIST) {\n", "    if (cells_len == 0 || cells_len >= PLAIN_MAX_LIST) {\n"),
+    ("many reads: the list's length taken as a byte", RUN,
+     "    if (cells_len == 0 || cells_len > PLAIN_MAX_LIST) {\n",
+     "    cells_len = (uint8_t)cells_len;\n    if (cells_len == 0 || cells_len > PLAIN_MAX_LIST) {\n"),
+    ("many reads: a target longer than the list refused", RUN,
+     "    if (target_len < cells_len) {\n", "    if (target_len != cells_len) {\n"),
+    ("many reads: the refused read counted", RUN,
+     "            return many_answer(refused, got);\n", "            return many_answer(refused, got + 1);\n"),
+    ("many reads: a cell that is not there counted", RUN,
+     "            return many_answer(3, got);\n", "            return many_answer(3, got + 1);\n"),
+    ("many reads: a repeated cell entered twice", RUN,
+     "        target[got] = entry[CURRENT_VALUE];\n",
+     "        uint32_t *again = entry_at(lent, session, sessions[session].count);\n"
+     "        for (uint32_t k = 0; k < got && sessions[session].count < PLAIN_MAX_ENTRIES; k++) {\n"
+     "            if (cells[k] == cell) {\n"
+     "                memcpy(again, entry, 4 * PLAIN_ENTRY_WORDS);\n"
+     "                sessions[session].count++;\n"
+     "                break;\n"
+     "            }\n"
+     "        }\n"
+     "        target[got] = entry[CURRENT_VALUE];\n"),
+    ("many reads: a cell of the list not marked", RUN,
+     ": record->count;\n        seen[cell / 64] |= bit;\n", ": record->count;\n"),
+    ("many reads: the snapshot value of a written cell", RUN,
+     "        target[got] = entry[CURRENT_VALUE];\n", "        target[got] = entry[SNAPSHOT_VALUE];\n"),
+    ("many reads: all cells judged before the first is read", RUN,
+     "    for (uint32_t got = 0; got < cells_len; got++) {\n        uint32_t cell = cells[got];\n",
+     "    for (uint32_t got = 0; got < cells_len; got++) {\n"
+     "        if (cells[got] >= lent->values_len) {\n"
+     "            return many_answer(3, 0);\n"
+     "        }\n"
+     "    }\n"
+     "    for (uint32_t got = 0; got < cells_len; got++) {\n        uint32_t cell = cells[got];\n"),
+    ("many reads: undone where a cell is not there", RUN,
+     "            return many_answer(3, got);\n",
+     "            if (got > 0) {\n                roll_back(lent, &sessions[session], session);\n            }\n            return many_answer(3, got);\n"),
+    ("many reads: entries of the log not judged", BUFFERS,
+     "    uint32_t refused = admit(lent, sessions, session, RUNNING);\n    if (refused) {\n        return many_answer(refused, 0);\n    }\n"
+     "    plain_session *record = &sessions[session];\n    const uint32_t *log = entry_at(lent, session, 0);\n"
+     "    uint64_t seen[PLAIN_MAX_CELLS / 64] = {0};\n    for (uint32_t i = 0; i < record->count; i++) {\n"
+     "        uint32_t cell = log[PLAIN_ENTRY_WORDS * i + CELL];\n",
+     "    uint32_t refused = lengths_fit(lent) ? 0 : 7;\n"
+     "    if (!refused && session >= PLAIN_SESSIONS) {\n        refused = 1;\n    }\n"
+     "    if (!refused && (sessions[session].phase > RELEASING || (sessions[session].phase && sessions[session].count > PLAIN_MAX_ENTRIES))) {\n"
+     "        refused = 9;\n    }\n"
+     "    if (!refused && sessions[session].phase != RUNNING) {\n        refused = 2;\n    }\n"
+     "    if (refused) {\n        return many_answer(refused, 0);\n    }\n"
+     "    plain_session *record = &sessions[session];\n    const uint32_t *log = entry_at(lent, session, 0);\n"
+     "    uint64_t seen[PLAIN_MAX_CELLS / 64] = {0};\n    for (uint32_t i = 0; i < record->count; i++) {\n"
+     "        uint32_t cell = log[PLAIN_ENTRY_WORDS * i + CELL] % PLAIN_MAX_CELLS;\n"),
 ]
 
 
@@ -135,6 +232,8 @@ def main():
             file.write(right.replace(old, new))
         build(target, source)
         told = {BUFFERS: tells([compare, "calls", "--seed", seed, "--count", "100000"], environment)}
+        if shows == RUN:
+            told[RUN] = tells([compare, "runs", "--seed", seed, "--count", "2000"], environment)
         if shows == REPLAY:
             replay = os.path.join(target, "replay")
             told[REPLAY] = tells([compare, "replays", "--program", replay, "--mode", "batch", "--seed", seed, "--count", "3000"])

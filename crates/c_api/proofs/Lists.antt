@@ -3,46 +3,57 @@
 use Prim.Native.Nat.{ℕ}
 use mathlib.Core.Path.{_≡_, refl, sym, ap}
 use mathlib.Core.List.{List, [], _∷_, map, reverse}
-use Rattle.model.specs.declared.Call.{Call}
+use lib.ListN.{length, take}
 use Rattle.model.specs.Buffers.{Store}
-use Rattle.model.specs.History.{Event}
+use Rattle.model.specs.History.{Action, Event, event, readsEvent}
 use Rattle.model.specs.Isolation.{Ran}
+use Rattle.model.specs.ManyReads.{ReadsOutcome, readMany, readManyEffect}
 use Rattle.model.specs.Isolation as list
 use Rattle.model.specs.Effects.{number, valueOf}
 use Rattle.model.specs.Step.{Outcome, outcome, effect, setUpEffect}
-use Rattle.model.proofs.Demand3.{demand3-of-code}
-use Rattle.c_api.specs.InNumbers.{NumberOutcome, replied, inNumbers, Heard, heard, Called, none, then, Demand3InNumbers}
+use Rattle.model.proofs.Demand3.{ran-many, demand3-of-code}
+use Rattle.c_api.specs.InNumbers.{NumberOutcome, replied, inNumbers, Heard, heard, Called, none, then, thenMany, Demand3InNumbers}
 
 -- the store that a call for C leaves, with the model's own answer, is the call's outcome
 answered : (n v : ℕ) (y : Store) (o : Outcome) → replied n v y ≡ inNumbers o → outcome (o .answer) y ≡ o
 answered n v y o e = rw (ap (λ (s : NumberOutcome). s .store) e)
 
 -- calls for C, with the answers that they told in numbers
-pub record Answered (σ : Store) (ks : List Call) (h : List Heard) (τ : Store) : Type 0 where
+pub record Answered (σ : Store) (ks : List Action) (h : List Heard) (τ : Store) : Type 0 where
   pub events : List Event
   pub told : h ≡ map heard events
   pub ran : Ran σ ks events τ
 
-pub called : (σ : Store) {ks : List Call} {h : List Heard} {τ : Store} → Called σ ks h τ → Answered σ ks h τ
-called σ none = record { events = []; told = refl; ran = list.none }
-called σ (then {x = x} r k n v y e) =
-    let i = called σ r in
+pub answered-all : (σ : Store) {ks : List Action} {h : List Heard} {τ : Store} → Called σ ks h τ → Answered σ ks h τ
+unfolding readManyEffect
+answered-all σ none = record { events = []; told = refl; ran = list.none }
+answered-all σ (then {x = x} r k n v y e) =
+    let i = answered-all σ r in
     let n′ : n ≡ number (effect k x .answer) = ap (λ (s : NumberOutcome). s .number) e in
     let v′ : v ≡ valueOf (effect k x .answer) = ap (λ (s : NumberOutcome). s .value) e in
     let t = i .told in
     record {
-      events = record { call = k; answer = effect k x .answer } ∷ i .events;
+      events = event k (effect k x .answer) ∷ i .events;
       told = cc;
       ran = list.then (i .ran) k (effect k x .answer) y (answered n v y (effect k x) e);
+    }
+answered-all σ (thenMany {x = x} r s cs target o e) =
+    let i = answered-all σ r in
+    let n : o .number ≡ number (readMany s cs (length target) x .last) = ap (λ (p : ReadsOutcome). p .number) e in
+    let t = i .told in
+    record {
+      events = readsEvent s cs (length target) (take (o .count) (o .target)) (readMany s cs (length target) x .last) ∷ i .events;
+      told = cc;
+      ran = ran-many (i .ran) s cs target o e;
     }
 
 -- demand 3 of the calls for C: a set-up that told 100 left σ, and the calls kept their contracts
 pub demand3-in-numbers : (φ σ : Store) (v : ℕ) → replied 100 v σ ≡ inNumbers (setUpEffect φ)
-    → (calls : List Call) (h : List Heard) (τ : Store) → Called σ (reverse calls) h τ → Demand3InNumbers σ calls h τ
-demand3-in-numbers φ σ v e calls h τ r =
-    let i = called σ r in
+    → (actions : List Action) (h : List Heard) (τ : Store) → Called σ (reverse actions) h τ → Demand3InNumbers σ actions h τ
+demand3-in-numbers φ σ v e actions h τ r =
+    let i = answered-all σ r in
     record {
       events = i .events;
       told = i .told;
-      meets = demand3-of-code φ σ (setUpEffect φ .answer) (answered 100 v σ (setUpEffect φ) e) (sym (ap (λ (s : NumberOutcome). s .number) e)) calls (i .events) τ (i .ran);
+      meets = demand3-of-code φ σ (setUpEffect φ .answer) (answered 100 v σ (setUpEffect φ) e) (sym (ap (λ (s : NumberOutcome). s .number) e)) actions (i .events) τ (i .ran);
     }

@@ -2,13 +2,16 @@
 use Prim.Native.Nat.{ℕ, _%_}
 use mathlib.Core.Path.{_≡_}
 use mathlib.Core.List.{List, [], _∷_, map}
+use lib.ListN.{length, take}
 use denote.Ref.{now}
 use Rattle.model.specs.Buffers.{Store, sessionAt, withSession}
 use Rattle.model.specs.Slices.{Slice, Number}
-use Rattle.model.specs.History.{Event}
+use Rattle.model.specs.History.{Action, oneCall, manyReads, Event}
 use Rattle.model.specs.Isolation.{Demand3OfCode}
 use Rattle.model.specs.Effects.{number, valueOf, Part, storeWord, logWord, noWord}
 use Rattle.model.specs.Step.{Outcome, effect, setUpEffect, peekShows, sessionOf}
+use Rattle.model.specs.ManyReads.{ReadsOutcome, readManyEffect}
+use Rattle.model.specs.declared.Answer.{Answer}
 use Rattle.model.specs.declared.Call.{Call}
 use Rattle.model.specs.declared.Session.{Session}
 use Rattle.model.specs.declared.Sessions.{Sessions}
@@ -68,24 +71,29 @@ TellsPlace s c values classes readers claimants exclusives logs x index r =
 
 -- ---- lists of calls for C
 
--- a call with the two numbers that it told
-pub record Heard : Type 0 where
-  pub call : Call
-  pub number : ℕ
-  pub value : ℕ
+-- what a caller in C hears of an action: of a call its number and value; of many reads, into a target of so many words, their number and the values at the front of
+-- the target, as many as their count says
+pub data Heard : Type 0 where
+  called : Call → ℕ → ℕ → Heard
+  calledMany : ℕ → List ℕ → ℕ → ℕ → List ℕ → Heard
 
--- what a caller in C hears of an event
+abbrev pub heardOf : Action → Answer → List ℕ → Heard
+heardOf (oneCall k) a vs = called k (number a) (valueOf a)
+heardOf (manyReads s cs words) a vs = calledMany s cs words (number a) vs
+
 abbrev pub heard : Event → Heard
-heard e = record { call = e .call; number = number (e .answer); value = valueOf (e .answer) }
+heard e = heardOf (e .action) (e .answer) (e .values)
 
 -- calls for C made one after the other, the newest first: each kept its contract on what the call before left, the record handed back put in its place
-pub data Called (σ : Store) : List Call → List Heard → Store → Type 0 where
+pub data Called (σ : Store) : List Action → List Heard → Store → Type 0 where
   none : Called σ [] [] σ
-  then : {ks : List Call} {h : List Heard} {x : Store} → Called σ ks h x → (k : Call) (n v : ℕ) (y : Store) → replied n v y ≡ inNumbers (effect k x)
-      → Called σ (k ∷ ks) (record { call = k; number = n; value = v } ∷ h) y
+  then : {ks : List Action} {h : List Heard} {x : Store} → Called σ ks h x → (k : Call) (n v : ℕ) (y : Store) → replied n v y ≡ inNumbers (effect k x)
+      → Called σ (oneCall k ∷ ks) (called k n v ∷ h) y
+  thenMany : {ks : List Action} {h : List Heard} {x : Store} → Called σ ks h x → (s : ℕ) (cs target : List ℕ) (o : ReadsOutcome) → o ≡ readManyEffect s cs target x
+      → Called σ (manyReads s cs (length target) ∷ ks) (calledMany s cs (length target) (o .number) (take (o .count) (o .target)) ∷ h) (o .store)
 
--- what C was told of a list of calls in their order is what it hears of events of which demand 3 holds
-pub record Demand3InNumbers (σ : Store) (calls : List Call) (h : List Heard) (τ : Store) : Type 0 where
+-- what C was told of a list of actions in their order is what it hears of events of which demand 3 holds
+pub record Demand3InNumbers (σ : Store) (actions : List Action) (h : List Heard) (τ : Store) : Type 0 where
   pub events : List Event
   pub told : h ≡ map heard events
-  pub meets : Demand3OfCode σ calls events τ
+  pub meets : Demand3OfCode σ actions events τ

@@ -1,13 +1,15 @@
-// The calls for C: the fields, and each call of the store with the record of its session passed in and handed back by value, the answer as two numbers beside it.
+// The calls for C: the fields, and each call of the store with the record of its session passed in and handed back by value, the answer as two numbers beside it; and many reads.
 mod fields;
 
 ghost use mathlib.Core.Path.{_≡_};
 ghost use mathlib.Core.Bool.{true};
 ghost use Rattle.model.specs.declared.Call.the-variants.{Begin, Read, Write, Seal, Advance, Abandon, Peek};
+ghost use Rattle.many_reads.specs.Lent.{ReadsMany};
 ghost use Rattle.c_api.specs.InNumbers.{SetsUpInNumbers, TakesInNumbers, TellsPlace, numbersOf};
 ghost use Rattle.c_api.specs.Answers.{refusalOf, ofBegin, ofRead, ofSeal};
 use model::Answer;
 use model::Plan;
+use model::ReadManyReply;
 use model::Session;
 use model::SessionReply;
 use model::Sessions;
@@ -202,6 +204,36 @@ pub extern "C" fn rukkanei_read(
         session,
         cell,
     ))
+}
+
+// Many reads: 101 where every cell was read, else the number of the first refusal, with how many were read before it.
+#[no_mangle]
+pub extern "C" fn rukkanei_read_many(
+    x: Session,
+    values: &[u32],
+    classes: &[u8],
+    readers: &mut [u16],
+    claimants: &mut [u8],
+    exclusives: &mut [u8],
+    logs: &mut [u32],
+    session: u8,
+    cells: &[u32],
+    target: &mut [u32],
+) -> ReadManyReply
+    ensures { λ r. ⌜ ReadsMany session cells values classes readers claimants exclusives logs target x r ⌝ }
+{
+    many_reads::read_many(
+        x,
+        values,
+        classes,
+        readers,
+        claimants,
+        exclusives,
+        logs,
+        session,
+        cells,
+        target,
+    )
 }
 
 // Write: 100, 6 with the session rolled back, or a refusal.

@@ -193,7 +193,7 @@ pub fn tests(log: &[u32], n: usize, x: Session, fit: bool) -> u8
 }
 
 // Whether they pass for a call of a running session. The tests of other phases stand apart, so that a running session is tested by what it needs alone.
-fn runs(log: &[u32], n: usize, x: Session) -> bool
+pub fn runs(log: &[u32], n: usize, x: Session) -> bool
     requires { ⌜ (length (now log) ≡ 128) × (n ≤ 1024) ⌝ }
     ensures { λ r. ⌜ r ≡ eqb (tested (recordFits n (now (log .entry)) x) (eqb (x .phase) 1)) 0 ⌝ }
 {

@@ -184,27 +184,29 @@ pub fn roll_back(
     }
 }
 
-// ---- the readers of the cells that are not written
+// ---- a set of cells
 
 // Whether a cell is in a set of cells.
-fn is_marked(written: &[u64; 16], cell: u32) -> bool
+pub fn is_marked(cells: &[u64; 16], cell: u32) -> bool
     requires { ⌜ cell < 1024 ⌝ }
-    ensures { λ r. ⌜ r ≡ marked (now (written .entry)) cell ⌝ }
+    ensures { λ r. ⌜ r ≡ marked (now (cells .entry)) cell ⌝ }
 {
     let w = (cell / 64) as usize;
-    let word = written[w];
+    let word = cells[w];
     (word >> (cell % 64)) % 2 == 1
 }
 
 // A cell is put into a set of cells.
-fn put_mark(written: &mut [u64; 16], cell: u32)
+pub fn put_mark(cells: &mut [u64; 16], cell: u32)
     requires { ⌜ cell < 1024 ⌝ }
-    ensures { λ _. ⌜ now (written .exit) ≡ mark (now (written .entry)) cell ⌝ }
+    ensures { λ _. ⌜ now (cells .exit) ≡ mark (now (cells .entry)) cell ⌝ }
 {
     let w = (cell / 64) as usize;
-    let word = written[w];
-    written[w] = word | (1u64 << (cell % 64));
+    let word = cells[w];
+    cells[w] = word | (1u64 << (cell % 64));
 }
+
+// ---- the readers of the cells that are not written
 
 // The session leaves the readers of one cell.
 fn leave_at(readers: &mut [u16], cell: u32, session: u8)

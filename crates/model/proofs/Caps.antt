@@ -3,9 +3,9 @@
 -- whatever else comes into a log, the store or an answer comes out of one of the two.
 use Prim.Native.Nat.{ℕ, zero, suc, _+_, _*_, _≤_, _<_}
 use native.Mathlib.Omega.{arith}
-use mathlib.Core.Path.{_≡_, refl, sym, _∙_, ap, subst, fun-ext}
+use mathlib.Core.Path.{_≡_, refl, sym, _∙_, ap, subst}
 use mathlib.Core.Bool.{Bool, true, false, cond, not, _&&_, _||_}
-use mathlib.Core.List.{List, [], _∷_, reverse}
+use mathlib.Core.List.{List, [], _∷_, _++_, append-nil, reverse}
 use lib.Dec.{leb, ltb, eqb}
 use lib.ListN.{length, getD, set}
 use lib.Seq.{sets, length-sets}
@@ -19,7 +19,7 @@ use Rattle.model.specs.declared.Plan.{Plan}
 use Rattle.model.specs.declared.Plan.the-variants.{Refuse, Start, Tell, Enter, Update, EnterUpdate, RollBack, Cancel, CommitReads, BeginPromotion, Wait, Acquire, Publish, Release, ShowStore, ShowLog}
 use Rattle.model.specs.Buffers.{Locks, Buffers, Store, idle, running, sessionAt, withSession, withEntry, moveTo, word, cellAt, entryAt, slotIn, entryOf, lookIn, targetIn, currentOf, appended, updated, lockAt, onLock, join, cap, fits, allFit, lengthsFit, fresh, logIn, onLog, size}
 use Rattle.model.specs.Caps.{capOf, GotWithin, WithinCaps}
-use Rattle.model.specs.History.{run, events, told, history, add}
+use Rattle.model.specs.History.{Action, oneCall, manyReads, actor, tellsOf, leaves, eventOf, run, events, told, history, add}
 use Rattle.model.specs.Isolation.{All}
 use Rattle.model.specs.Readers.{otherReaders}
 use Rattle.model.specs.Search.{some?, find}
@@ -28,7 +28,9 @@ use Rattle.model.specs.Effects.{number, isLeft, handled, change, changeL
 use Rattle.model.specs.Step.{sessionOf, planOf, step, answerOf, setUpAnswer, setUp}
 use Rattle.model.specs.Told.{Told, began, got, put, sealed, moved, ended, ending, tells, WhereGot}
 use Rattle.model.proofs.Demand3.{set-up-passed, set-up-fresh}
-use Rattle.model.proofs.Laws.{find-some, getD-sets-other, log-length, log-same, log-other, length-on, grown-word, grown-apart}
+use Rattle.model.proofs.Laws.{find-some, getD-sets-other, log-length, log-same, log-other, length-on, grown-word, grown-apart, appended-cell}
+use Rattle.model.proofs.Invariant.{all-append}
+use Rattle.model.proofs.ManyReads.{kept-by-reads}
 use Rattle.model.proofs.Passing.{choose, guarded, cell-known, cell-new}
 use Rattle.model.proofs.Quiet.{Quiet, peeks}
 use Rattle.model.proofs.Runs.{first, history-step}
@@ -97,9 +99,8 @@ module _ (s : ℕ) (logs : List ℕ) (k c v : ℕ) (lt : s < 16) (len : length l
   entered-length = length-on s logs lt len (λ log. appended log k c v) grown-whole ∙ len
 
   entered-cell : k < 32 → cellAt (logIn (onLog s (λ log. appended log k c v) logs) s) k ≡ c
-  unfolding cellAt
   entered-cell lk =
-      rw (log-same s logs lt len (λ log. appended log k c v) grown-whole) (unfold appended in grown-word (logIn logs s) k c v lk (log-length logs s lt len) 0 (omega arith))
+      rw (log-same s logs lt len (λ log. appended log k c v) grown-whole) (appended-cell (logIn logs s) k c v lk (log-length logs s lt len))
 
 -- ---- what a plan leaves
 
@@ -166,7 +167,7 @@ module _ {σ : Store} (I : Capped σ) (s : ℕ) where
 
 -- ---- the calls
 
-logs-long : (B : Buffers) → lengthsFit B ≡ true → length (B .logs) ≡ 2048
+pub logs-long : (B : Buffers) → lengthsFit B ≡ true → length (B .logs) ≡ 2048
 unfolding lengthsFit
 logs-long B h =
     test (eqb (length (B .logs)) 2048) (eqb-true (length (B .logs)) 2048) (λ q. absurd (clash (lengthsFit B) h (rw (q, and-false))))
@@ -335,38 +336,68 @@ classes-after s (Release c) σ = refl
 classes-after s (ShowStore c) σ = refl
 classes-after s (ShowLog k) σ = refl
 
-pub classes-run : (σ : Store) (ks : List Call) → run σ ks .lent .classes ≡ σ .lent .classes
-unfolding run step
+classes-step : (k : Call) (σ : Store) → step k σ .lent .classes ≡ σ .lent .classes
+unfolding step
+classes-step k σ = classes-after (sessionOf k) (planOf k σ) σ
+
+classes-leaves : (k : Action) (σ : Store) → leaves k σ .lent .classes ≡ σ .lent .classes
+classes-leaves (oneCall k) σ = classes-step k σ
+classes-leaves (manyReads s cs words) σ =
+    kept-by-reads (λ _ _ τ. τ .lent .classes ≡ σ .lent .classes) s (λ _ _ τ _ e c. classes-step (Read s c) τ ∙ e) cs words σ refl refl refl
+
+pub classes-run : (σ : Store) (ks : List Action) → run σ ks .lent .classes ≡ σ .lent .classes
+unfolding run
 classes-run σ [] = refl
-classes-run σ (k ∷ ks) = classes-after (sessionOf k) (planOf k (run σ ks)) (run σ ks) ∙ classes-run σ ks
+classes-run σ (k ∷ ks) = classes-leaves k (run σ ks) ∙ classes-run σ ks
 
-cap-run : (σ : Store) (ks : List Call) (c : ℕ) → capOf (run σ ks) c ≡ capOf σ c
-cap-run σ ks c = ap (λ (l : List ℕ). cap (getD l c 0)) (classes-run σ ks)
+-- stores of the same classes have the same caps
+caps-same : (σ τ : Store) → σ .lent .classes ≡ τ .lent .classes → capOf σ ≡ capOf τ
+caps-same σ τ e = ap {B = ℕ → ℕ} (λ (l : List ℕ) (c : ℕ). cap (getD l c 0)) e
 
--- ---- every list of calls
+-- ---- the actions
+
+-- what is left and what was told are within the caps
+abbrev Within : List Told → Store → Type 0
+Within ws τ = Capped τ × TellsWithin (capOf τ) ws
+
+within-call : (ws : List Told) (τ : Store) → Within ws τ → (k : Call) → Within (tells k (answerOf k τ) ++ ws) (step k τ)
+within-call ws τ w k =
+    let us = tells k (answerOf k τ) in (
+      keeps-capped (w .0) k,
+      subst (λ (bound : ℕ → ℕ). TellsWithin bound (us ++ ws)) (caps-same τ (step k τ) (sym (classes-step k τ)))
+          (all-append (WhereGot (λ c v. v ≤ capOf τ c)) us ws (tells-within (w .0) k) (w .1)),
+    )
+
+within-action : {σ : Store} → Capped σ → (k : Action) → Within (tellsOf (eventOf k σ)) (leaves k σ)
+within-action {σ} I (oneCall k) = subst (λ (ws : List Told). Within ws (step k σ)) (append-nil (tells k (answerOf k σ))) (within-call [] σ (I, tt) k)
+within-action {σ} I (manyReads s cs words) = kept-by-reads (λ ws _ τ. Within ws τ) s (λ ws _ τ _ w c. within-call ws τ w (Read s c)) cs words σ (I, tt) (I, tt) (I, tt)
+
+-- ---- every list of actions
 
 -- from any store with the invariant
 module _ {σ : Store} (I : Capped σ) where
-  pub capped-run : (ks : List Call) → Capped (run σ ks)
+  pub capped-run : (ks : List Action) → Capped (run σ ks)
   unfolding run
   capped-run [] = I
-  capped-run (k ∷ ks) = keeps-capped (capped-run ks) k
+  capped-run (k ∷ ks) = within-action (capped-run ks) k .0
 
-  got-within : (ks : List Call) → All (GotWithin σ) (history [] σ ks)
+  got-within : (ks : List Action) → All (GotWithin σ) (history [] σ ks)
+  unfolding run
   got-within [] = unfold told events in tt
   got-within (k ∷ ks) =
+      let e = eventOf k (run σ ks) in
       subst (All (GotWithin σ)) (sym (history-step [] σ k ks))
-      (more (got-within ks) (tells k (answerOf k (run σ ks)))
-      (subst (λ (bound : ℕ → ℕ). TellsWithin bound (tells k (answerOf k (run σ ks)))) (fun-ext (cap-run σ ks))
-      (tells-within (capped-run ks) k)))
+      (more (got-within ks) (actor (e .action)) (tellsOf e)
+      (subst (λ (bound : ℕ → ℕ). TellsWithin bound (tellsOf e)) (caps-same (run σ (k ∷ ks)) σ (classes-run σ (k ∷ ks))) (within-action (capped-run ks) k .1)))
     where
-      more : All (GotWithin σ) (history [] σ ks) → (ws : List Told) → TellsWithin (capOf σ) ws
-          → All (GotWithin σ) (add (suc (length ks)) (sessionOf k) ws (history [] σ ks))
-      more g [] a = g
-      more g (w ∷ ws) a = (a .0, more g ws (a .1))
+      more : All (GotWithin σ) (history [] σ ks) → (s : ℕ) (ws : List Told) → TellsWithin (capOf σ) ws
+          → All (GotWithin σ) (add (suc (length ks)) s ws (history [] σ ks))
+      more g s [] a = g
+      more g s (w ∷ ws) a = (a .0, more g s ws (a .1))
 
-  pub within-from : (ks : List Call) → WithinCaps σ ks
-  within-from ks = record { stored = λ c. omega (arith, capped-run ks .stored c, cap-run σ ks c); got = got-within ks }
+  pub within-from : (ks : List Action) → WithinCaps σ ks
+  within-from ks =
+      record { stored = λ c. subst (λ (bound : ℕ → ℕ). getD (run σ ks .lent .values) c 0 ≤ bound c) (caps-same (run σ ks) σ (classes-run σ ks)) (capped-run ks .stored c); got = got-within ks }
 
 -- what set-up tested
 pub all-fit : (vs ks : List ℕ) → allFit vs ks ≡ true → (c : ℕ) → getD vs c 0 ≤ cap (getD ks c 0)
@@ -380,7 +411,7 @@ pub capped-fresh : (B : Buffers) → allFit (B .values) (B .classes) ≡ true �
 unfolding fresh
 capped-fresh B h = record { stored = all-fit (B .values) (B .classes) h; logged = λ s k u. absurd (u .0 (ap (λ (x : Session). x .phase) (first B s))) }
 
--- any store that set-up answers 100, and any list of calls from what it leaves
-pub within-caps : (σ : Store) → number (setUpAnswer (σ .lent)) ≡ 100 → (calls : List Call) → WithinCaps (setUp σ) (reverse calls)
-within-caps σ h calls =
-    subst (λ (φ : Store). WithinCaps φ (reverse calls)) (sym (set-up-fresh σ h)) (within-from (capped-fresh (σ .lent) (set-up-passed (σ .lent) h .1)) (reverse calls))
+-- any store that set-up answers 100, and any list of actions from what it leaves
+pub within-caps : (σ : Store) → number (setUpAnswer (σ .lent)) ≡ 100 → (actions : List Action) → WithinCaps (setUp σ) (reverse actions)
+within-caps σ h actions =
+    subst (λ (φ : Store). WithinCaps φ (reverse actions)) (sym (set-up-fresh σ h)) (within-from (capped-fresh (σ .lent) (set-up-passed (σ .lent) h .1)) (reverse actions))

@@ -41,7 +41,7 @@ module _ (s : ℕ) (σ : Store) (low : s < 16) (long : length (σ .lent .logs) �
   front = length-take-le (128 * s) (σ .lent .logs) (omega arith)
 
   -- a log changed twice
-  over : (f g : List ℕ → List ℕ) → length (f (logIn (σ .lent .logs) s)) ≡ 128
+  pub over : (f g : List ℕ → List ℕ) → length (f (logIn (σ .lent .logs) s)) ≡ 128
       → onLog s (λ log. g (f (logIn (σ .lent .logs) s))) (σ .lent .logs) ≡ onLog s g (onLog s f (σ .lent .logs))
   over f g whole =
       let logs = σ .lent .logs in

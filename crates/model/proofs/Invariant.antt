@@ -4,7 +4,7 @@ use native.Mathlib.Omega.{arith}
 use mathlib.Core.Path.{_≡_, refl, sym, _∙_}
 use mathlib.Core.Bool.{Bool, true, false, cond}
 use mathlib.Core.Option.{Option, none, some}
-use mathlib.Core.List.{List, [], _∷_}
+use mathlib.Core.List.{List, [], _∷_, _++_}
 use lib.Dec.{leb}
 use lib.ListN.{length, getD}
 use borrow.Author.Tests.{lt-ltb, le-ltb}
@@ -55,6 +55,10 @@ before-later start p c k ks h = rw (le-ltb (k .place) p h)
 pub all-map {ℓ} : {A : Type ℓ} {P Q : A → Type 0} (f : (a : A) → P a → Q a) (l : List A) → All P l → All Q l
 all-map f [] h = tt
 all-map f (x ∷ xs) h = (f x (h .0), all-map f xs (h .1))
+
+pub all-append {ℓ} : {A : Type ℓ} (P : A → Type 0) (k l : List A) → All P k → All P l → All P (k ++ l)
+all-append P [] l g h = h
+all-append P (x ∷ xs) l g h = (g .0, all-append P xs l (g .1) h)
 
 -- ---- a session and its transaction
 

@@ -9,11 +9,11 @@ use mathlib.Core.List.{List, [], _∷_, _++_}
 use lib.Dec.{ltb, eqb}
 use lib.ListN.{length, getD, set, take, drop, length-set, length-append, length-drop, take-append-drop}
 use lib.Seq.{sets, getD-set-same, getD-set-other, length-take-le, take-append-seam, drop-append-seam, take-append-le, drop-append-le, drop-append-add}
-use borrow.Author.Tests.{eqb-true, eq-eqb, ne-eqb, ltb-true, ltb-false}
+use borrow.Author.Tests.{eqb-true, eq-eqb, ne-eqb, lt-ltb, ltb-true, ltb-false}
 use Rattle.model.specs.declared.Session.{Session}
 use Rattle.model.specs.declared.Sessions.{Sessions}
 use Rattle.model.specs.declared.Lock.{Lock}
-use Rattle.model.specs.Buffers.{Locks, idle, sessionAt, withSession, logIn, onLog, word, cellAt, entryAt, slotIn, entryOf, lookIn, lockAt, setLock, onLock, sweep, leave, vacate, withdraw}
+use Rattle.model.specs.Buffers.{Locks, idle, sessionAt, withSession, logIn, onLog, word, cellAt, entryAt, slotIn, entryOf, lookIn, appended, lockAt, setLock, onLock, sweep, leave, vacate, withdraw}
 use Rattle.model.specs.Isolation.{at}
 use Rattle.model.specs.Readers.{odd, assign}
 use Rattle.model.specs.Search.{some?, orElse, find, lower, lowest, below, tally}
@@ -102,6 +102,11 @@ below-is n cell zero h j l = absurd (omega arith)
 below-is n cell (suc k) h j l =
     same j k (λ e. rw e (ltb-true (cell k) n (both-l (ltb (cell k) n) (below n cell k) h)))
     (λ ne. below-is n cell k (both-r (ltb (cell k) n) (below n cell k) h) j (omega arith))
+
+pub below-ext : (n : ℕ) (f g : ℕ → ℕ) (k : ℕ) → ((j : ℕ) → j < k → f j ≡ g j) → below n f k ≡ below n g k
+unfolding below
+below-ext n f g zero h = refl
+below-ext n f g (suc k) h = rw (h k (omega arith), below-ext n f g k (λ j l. h j (omega arith)))
 
 -- ---- locks
 
@@ -300,10 +305,23 @@ module _ (log : List ℕ) (k c v : ℕ) (lk : k < 32) (whole : length log ≡ 12
   unfolding word
   grown-apart i j n l = getD-sets-other (c ∷ v ∷ v ∷ 0 ∷ []) log (4 * k) (4 * i + j) (λ m q e. n (omega arith))
 
+  -- its own cell, the cells before it, and that all of them are below n
+  pub appended-cell : cellAt (appended log k c v) k ≡ c
+  unfolding cellAt appended
+  appended-cell = grown-word 0 (omega arith)
+
+  pub appended-apart : (j : ℕ) → j < k → cellAt (appended log k c v) j ≡ cellAt log j
+  unfolding cellAt appended
+  appended-apart j l = grown-apart j 0 (λ e. omega arith) (omega arith)
+
+  pub appended-below : (n : ℕ) → c < n → below n (cellAt log) k ≡ true → below n (cellAt (appended log k c v)) (suc k) ≡ true
+  unfolding below
+  appended-below n lc h = rw (appended-cell, lt-ltb c n lc) (below-ext n (cellAt (appended log k c v)) (cellAt log) k appended-apart ∙ h)
+
   grown-before : (d : ℕ) → lookIn grown k d ≡ lookIn log k d
-  unfolding lookIn slotIn entryOf entryAt cellAt
+  unfolding lookIn slotIn entryOf entryAt cellAt appended
   grown-before d =
-      rw (find-ext (cellAt grown) d (cellAt log) k (λ j l. grown-apart j 0 (λ e. omega arith) (omega arith)))
+      rw (find-ext (cellAt grown) d (cellAt log) k appended-apart)
       (which (find (cellAt log) k d) (λ p. rw p)
       (λ i p.
       let l = find-some (cellAt log) d k p .0 in
@@ -311,14 +329,9 @@ module _ (log : List ℕ) (k c v : ℕ) (lk : k < 32) (whole : length log ≡ 12
       rw p (rw (q 1 (omega arith), q 2 (omega arith), q 3 (omega arith)))))
 
   pub grown-find : find (cellAt log) k c ≡ none → find (cellAt grown) (suc k) c ≡ some k
-  unfolding find orElse cellAt
+  unfolding find orElse cellAt appended
   grown-find h =
-      rw (
-        find-ext (cellAt grown) c (cellAt log) k (λ j l. grown-apart j 0 (λ e. omega arith) (omega arith)),
-        h,
-        grown-word 0 (omega arith),
-        eq-eqb c c refl,
-      )
+      rw (find-ext (cellAt grown) c (cellAt log) k appended-apart, h, grown-word 0 (omega arith), eq-eqb c c refl)
 
   pub grown-new : lookIn log k c ≡ none → lookIn grown (suc k) c ≡ some (record { snapshot = v; current = v; dirty = false })
   unfolding lookIn slotIn entryOf entryAt cellAt find orElse odd

@@ -5,14 +5,11 @@ use mathlib.Core.Bool.{Bool, true, false, cond, not, _&&_, _||_}
 use mathlib.Core.List.{List, [], _∷_}
 use lib.Dec.{ltb, eqb}
 use lib.ListN.{getD}
-use Rattle.model.specs.declared.Call.{Call}
-use Rattle.model.specs.declared.Answer.{Answer}
 use Rattle.model.specs.Buffers.{Store}
-use Rattle.model.specs.History.{run}
+use Rattle.model.specs.History.{Action, actor, Event, tellsOf, eventOf, run}
 use Rattle.model.specs.Isolation.{All}
 use Rattle.model.specs.Search.{tally}
-use Rattle.model.specs.Step.{sessionOf, answerOf}
-use Rattle.model.specs.Told.{Told, began, got, put, sealed, moved, ended, tells, begins, ReadOf}
+use Rattle.model.specs.Told.{Told, began, got, put, sealed, moved, ended, begins, ReadOf}
 use Rattle.model.proofs.Tools.{upd}
 
 -- the place of its begin; whether it is open; its reads before writing; the cells it wrote and its values there; the
@@ -113,7 +110,7 @@ pub record Commit : Type 0 where
   pub wrote : ℕ → Bool
   pub value : ℕ → ℕ
 
--- the place of the next call; each session's latest transaction; the commits so far, the newest first; whether the last call made the newest
+-- the place of the next action; each session's latest transaction; the commits so far, the newest first; whether the last action made the newest
 pub record Ledger : Type 0 where
   pub place : ℕ
   pub mine : ℕ → Txn
@@ -124,7 +121,7 @@ pub record Ledger : Type 0 where
 abbrev pub tick : Ledger → Ledger
 tick T = record { place = suc (T .place); mine = T .mine; commits = T .commits; new = T .new }
 
--- before a call it has made no commit
+-- before an action it has made no commit
 abbrev pub calm : Ledger → Ledger
 calm T = record { place = T .place; mine = T .mine; commits = T .commits; new = false }
 
@@ -164,16 +161,17 @@ abbrev pub hears : ℕ → ℕ → List Told → Ledger → Ledger
 hears n s [] T = T
 hears n s (w ∷ ws) T = hear n s w (hears n s ws T)
 
-unfoldable pub observe : ℕ → Call → Answer → Ledger → Ledger
-observe n k a T = tick (hears n (sessionOf k) (tells k a) (calm T))
+-- an event: all that it tells, at its place
+unfoldable pub observe : ℕ → Event → Ledger → Ledger
+observe n e T = tick (hears n (actor (e .action)) (tellsOf e) (calm T))
 
 abbrev pub blank : Ledger
 blank = record { place = 1; mine = λ s. closed (opened 0); commits = []; new = false }
 
--- the ledger of n cells after a list of calls, from one to go on with
-unfoldable pub ledger : ℕ → Ledger → Store → List Call → Ledger
+-- the ledger of n cells after a list of actions, from one to go on with
+unfoldable pub ledger : ℕ → Ledger → Store → List Action → Ledger
 ledger n T σ [] = T
-ledger n T σ (k ∷ ks) = observe n k (answerOf k (run σ ks)) (ledger n T σ ks)
+ledger n T σ (k ∷ ks) = observe n (eventOf k (run σ ks)) (ledger n T σ ks)
 
 -- the value of the last commit to a cell before a place, or the starting value
 unfoldable pub valueBefore : ℕ → List ℕ → List Commit → ℕ → ℕ

@@ -9,6 +9,8 @@ pub mod Roles
 pub mod View
 pub mod Ledger
 pub mod Invariant
+pub mod Firsts
+pub mod ManyReads
 pub mod Running
 pub mod Effects
 pub mod Sealing
@@ -24,6 +26,8 @@ pub mod Commits
 pub mod Writers
 pub mod Demand3
 pub mod Orders
+pub mod Rounds
 pub mod Cases
 pub mod Twin
 pub mod Caps
+pub mod ReadAgain

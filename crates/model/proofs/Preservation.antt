@@ -1,30 +1,35 @@
--- Every call keeps the invariant, so every run does.
+-- Every action keeps the invariant, so every run does.
 use Prim.Native.Nat.{ℕ, suc, _≤_, _<_}
 use native.Mathlib.Omega.{arith}
-use mathlib.Core.Path.{_≡_, refl, sym, _∙_, ap}
+use mathlib.Core.Path.{_≡_, refl, sym, _∙_, ap, subst}
 use mathlib.Core.Bool.{Bool, true, false, cond, not, _&&_, _||_}
 use mathlib.Core.Option.{none, some}
-use mathlib.Core.List.{List, _∷_}
+use mathlib.Core.List.{List, [], _∷_, _++_}
 use lib.Dec.{leb, ltb, eqb}
 use lib.ListN.{length, getD}
 use borrow.Author.Tests.{eqb-true, eqb-false, eq-eqb, ne-eqb, leb-true}
 use Rattle.model.specs.declared.Call.{Call}
 use Rattle.model.specs.declared.Call.the-variants.{Begin, Read, Write, Seal, Advance, Abandon, Peek}
+use Rattle.model.specs.declared.Answer.{Answer}
+use Rattle.model.specs.declared.Answer.the-variants.{Done, Refused}
 use Rattle.model.specs.declared.Plan.{Plan}
-use Rattle.model.specs.declared.Plan.the-variants.{Refuse, Start, Enter, EnterUpdate, RollBack, Cancel, Acquire, Publish, Release}
+use Rattle.model.specs.declared.Plan.the-variants.{Refuse, Start, Enter, EnterUpdate, Cancel, Acquire, Publish, Release}
 use Rattle.model.specs.Buffers.{Store, size, idle, moveTo, Entry, cellAt, entryAt, slotIn, isPublished, targetIn, currentOf, lockAt, cap}
-use Rattle.model.specs.Isolation.{at}
+use Rattle.model.specs.History.{Action, oneCall, manyReads, event, leaves, eventOf}
+use Rattle.model.specs.Isolation.{All, at}
+use Rattle.model.specs.ManyReads.{readMany}
 use Rattle.model.specs.Readers.{otherReaders}
 use Rattle.model.specs.Search.{some?, find, below, tally}
-use Rattle.model.specs.Told.{tells, ending}
-use Rattle.model.specs.Plans.{recordFits, guard, known, claimed, newCell, readSlot, writeSlot, writeCapped, sealTarget, promotePlan, advanceTarget, plan, admit, entriesFit}
+use Rattle.model.specs.Told.{Told, tells, ending, readsTell}
+use Rattle.model.specs.Plans.{recordFits, guard, known, claimed, readSlot, writeSlot, writeCapped, sealTarget, promotePlan, advanceTarget, plan, admit, entriesFit}
 use Rattle.model.specs.Effects.{rolledBack, handled, change, recordOf, after, releaseAnswer, answer, logOf}
 use Rattle.model.specs.Step.{sessionOf, planOf, step, answerOf}
 use Rattle.model.proofs.Advancing.{target-some, target-none, late, role-late, more-open, holds-more, last-done, holds-last, waits, publishes-more, publishes-last, releases-more, releases-last}
 use Rattle.model.proofs.Effects.{running-role, slot-none, slot-some, replaced, rolls, started, learns, enter-phase, enter-look, enter-slot, enters, notes}
 use Rattle.model.proofs.Invariant.{roleIn, roleOf, role, Running, Promoting, Finishing, Inv, calms, ticks}
 use Rattle.model.proofs.Laws.{find-some, below-is, tally-flat, tally-more}
-use Rattle.model.proofs.Ledger.{Txn, closed, saw, wroteTo, sealedAt, advanced, Commit, Ledger, tick, calm, asCommit, amend, starts, observe}
+use Rattle.model.proofs.Ledger.{Txn, closed, saw, wroteTo, sealedAt, advanced, Commit, Ledger, tick, calm, asCommit, amend, starts, hears, observe}
+use Rattle.model.proofs.ManyReads.{ByRead, hears-after, kept-by-reads}
 use Rattle.model.proofs.Passing.{choose, guarded, running-cell, cell-new}
 use Rattle.model.proofs.Quiet.{Quiet, peeks}
 use Rattle.model.proofs.Roles.{pends, flip}
@@ -150,7 +155,11 @@ module _ (σ : Store) (s c : ℕ) where
 
 module _ {first : List ℕ} {σ : Store} {T : Ledger} (I : Inv first σ T) where
   abbrev InvKept : Call → Plan → Type 0
-  InvKept k p = Inv first (after (sessionOf k) p σ) (observe (length first) k (answer (sessionOf k) p σ) T)
+  InvKept k p = Inv first (after (sessionOf k) p σ) (observe (length first) (event k (answer (sessionOf k) p σ)) T)
+
+  -- a read, which other reads may follow at its place
+  abbrev ReadKept : ℕ → ℕ → Plan → Type 0
+  ReadKept s c p = Inv first (after s p σ) (hears (length first) s (tells (Read s c) (answer s p σ)) (calm T))
 
   -- a call that tells nothing
   stays : Inv first σ (tick (calm T))
@@ -186,13 +195,11 @@ module _ {first : List ℕ} {σ : Store} {T : Ledger} (I : Inv first σ T) where
       ticks (roll-back s lt (r .live) (calm₂ s ph))))
 
   -- a call of a running session on a cell: 7, 1, 9, 2 and 3 leave all as before
-  on-cell : (k : Call) (c : ℕ) (p : Plan) → let s = sessionOf k in
-      InvKept k (Refuse 7) → InvKept k (Refuse 1) → InvKept k (Refuse 9) → InvKept k (Refuse 2) → InvKept k (Refuse 3)
-      → (s < 16 → recordOf σ s .phase ≡ 1 → c < length first → InvKept k p)
-      → InvKept k (admit (σ .lent) s (guard (size (σ .lent)) (logOf σ s) (recordOf σ s) (eqb (recordOf σ s .phase) 1) (known (size (σ .lent)) c p)))
+  on-cell : (P : Plan → Type 0) (s c : ℕ) (p : Plan) → P (Refuse 7) → P (Refuse 1) → P (Refuse 9) → P (Refuse 2) → P (Refuse 3)
+      → (s < 16 → recordOf σ s .phase ≡ 1 → c < length first → P p)
+      → P (admit (σ .lent) s (guard (size (σ .lent)) (logOf σ s) (recordOf σ s) (eqb (recordOf σ s .phase) 1) (known (size (σ .lent)) c p)))
   unfolding size
-  on-cell k c p r7 r1 r9 r2 r3 f =
-      running-cell (InvKept k) (σ .lent) (sessionOf k) (recordOf σ (sessionOf k)) c p r7 r1 r9 r2 r3 (λ lt ph l. f lt ph (omega (arith, I .shape .values)))
+  on-cell P s c p r7 r1 r9 r2 r3 f = running-cell P (σ .lent) s (recordOf σ s) c p r7 r1 r9 r2 r3 (λ lt ph l. f lt ph (omega (arith, I .shape .values)))
 
   keep-quiet : (k : Call) (p : Plan) → Quiet k σ p → InvKept k p
   unfolding observe
@@ -201,39 +208,34 @@ module _ {first : List ℕ} {σ : Store} {T : Ledger} (I : Inv first σ T) where
   pub runs : (s : ℕ) → recordOf σ s .phase ≡ 1 → Running (look σ s) (T .mine s)
   runs s ph = rw ph at (I .link s)
 
-  -- a cell that is not in the log
-  new-cell : (k : Call) (c : ℕ) (p : Plan) → let s = sessionOf k in
-      InvKept k (Refuse 5) → InvKept k RollBack
-      → (recordOf σ s .count < 32 → lockAt (σ .lent .locks) c .claimant ≡ 16 → InvKept k p)
-      → InvKept k (newCell (recordOf σ s) (lockAt (σ .lent .locks) c) p)
-  new-cell k c p r5 r6 f = cell-new (InvKept k) (recordOf σ (sessionOf k)) (lockAt (σ .lent .locks) c) p r5 (λ _. r6) f
-
-  keep-read : (s c : ℕ) → InvKept (Read s c) (planOf (Read s c) σ)
-  unfolding planOf plan observe tells ending after answer readSlot slot
+  -- before the next place
+  keep-read : (s c : ℕ) → ReadKept s c (planOf (Read s c) σ)
+  unfolding planOf plan tells ending after answer readSlot slot
   keep-read s c =
-      on-cell (Read s c) c (readSlot (logOf σ s) (recordOf σ s) (lockAt (σ .lent .locks) c) c (slotIn (logOf σ s) (recordOf σ s .count) c)) stays stays stays stays stays
+      let still : Inv first σ (calm T) = calms I in
+      on-cell (ReadKept s c) s c (readSlot (logOf σ s) (recordOf σ s) (lockAt (σ .lent .locks) c) c (slotIn (logOf σ s) (recordOf σ s .count) c)) still still still still still
       (λ lt ph lc.
       let r = runs s ph in
-      choose (InvKept (Read s c)) (readSlot (logOf σ s) (recordOf σ s) (lockAt (σ .lent .locks) c) c) (slot σ s c)
-      (λ p. new-cell (Read s c) c (Enter c) stays (ticks (roll-back s lt (r .live) (calm₁ s ph)))
+      choose (ReadKept s c) (readSlot (logOf σ s) (recordOf σ s) (lockAt (σ .lent .locks) c) c) (slot σ s c)
+      (λ p. cell-new (ReadKept s c) (recordOf σ s) (lockAt (σ .lent .locks) c) (Enter c) still (λ _. roll-back s lt (r .live) (calm₁ s ph))
       (λ room cl.
       rw (amend-same s (saw c (getD (σ .lent .values) c 0)) T (r .live) (and-not (T .mine s .done)))
-      (ticks (learns s lt (enters s lt I c ph p room lc cl) c _ (enter-phase s lt I c ph p room) (enter-look s lt I c ph p room)))))
+      (learns s lt (enters s lt I c ph p room lc cl) c _ (enter-phase s lt I c ph p room) (enter-look s lt I c ph p room))))
       (λ j p.
       rw (amend-same s (saw c (entryAt (logOf σ s) j .current)) T (r .live) (and-not (T .mine s .done)))
-      (ticks (learns s lt I c (entryAt (logOf σ s) j) ph (slot-some σ s c p)))))
+      (learns s lt I c (entryAt (logOf σ s) j) ph (slot-some σ s c p))))
 
   keep-write : (s c v : ℕ) → InvKept (Write s c v) (planOf (Write s c v) σ)
   unfolding planOf plan observe tells ending after answer writeCapped writeSlot slot
   keep-write s c v =
       let k = getD (σ .lent .classes) c 0 in
-      on-cell (Write s c v) c (cond (ltb k 16) (writeCapped (logOf σ s) (recordOf σ s) (lockAt (σ .lent .locks) c) c v (cap k)) (Refuse 8)) stays stays stays stays stays
+      on-cell (InvKept (Write s c v)) s c (cond (ltb k 16) (writeCapped (logOf σ s) (recordOf σ s) (lockAt (σ .lent .locks) c) c v (cap k)) (Refuse 8)) stays stays stays stays stays
       (λ lt ph lc.
       let r = runs s ph in
       split (InvKept (Write s c v)) (ltb k 16)
       (λ _. split (InvKept (Write s c v)) (leb v (cap k))
       (λ _. choose (InvKept (Write s c v)) (writeSlot (recordOf σ s) (lockAt (σ .lent .locks) c) c v) (slot σ s c)
-      (λ p. new-cell (Write s c v) c (EnterUpdate c v) stays (ticks (roll-back s lt (r .live) (calm₁ s ph)))
+      (λ p. cell-new (InvKept (Write s c v)) (recordOf σ s) (lockAt (σ .lent .locks) c) (EnterUpdate c v) stays (λ _. ticks (roll-back s lt (r .live) (calm₁ s ph)))
       (λ room cl.
       rw (amend-same s (wroteTo c v) T (r .live) (and-not (T .mine s .done)))
       (notes s lt (enters s lt I c ph p room lc cl) c (recordOf σ s .count) v (enter-phase s lt I c ph p room) (enter-slot s lt I c ph p room))))
@@ -337,12 +339,38 @@ module _ {first : List ℕ} {σ : Store} {T : Ledger} (I : Inv first σ T) where
       let ph : recordOf σ s .phase ≡ 4 = omega (arith, phase-le I s k) in
       keep-release s lt k two c tgt (rw ph at (I .link s)) ph))))
 
-  pub keep : (k : Call) → Inv first (step k σ) (observe (length first) k (answerOf k σ) T)
-  unfolding step answerOf planOf
-  keep (Begin s) = keep-begin s
-  keep (Read s c) = keep-read s c
-  keep (Write s c v) = keep-write s c v
-  keep (Seal s) = keep-seal s
-  keep (Advance s) = keep-advance s
-  keep (Abandon s) = keep-abandon s
-  keep (Peek s c) = keep-quiet (Peek s c) _ (peeks σ s c)
+  keep-call : (k : Call) → InvKept k (planOf k σ)
+  unfolding planOf
+  keep-call (Begin s) = keep-begin s
+  keep-call (Read s c) = unfold observe in ticks (keep-read s c)
+  keep-call (Write s c v) = keep-write s c v
+  keep-call (Seal s) = keep-seal s
+  keep-call (Advance s) = keep-advance s
+  keep-call (Abandon s) = keep-abandon s
+  keep-call (Peek s c) = keep-quiet (Peek s c) _ (peeks σ s c)
+
+-- ---- the actions
+
+module _ {first : List ℕ} {σ : Store} {T : Ledger} (I : Inv first σ T) where
+  abbrev heardBy : ℕ → List Told → Ledger
+  heardBy s ws = hears (length first) s ws (calm T)
+
+  -- kept by the reads of one call: the invariant; and a claim of what was told, the last answer and the ledger, which each single read keeps where the invariant holds
+  pub kept-with-inv : (s : ℕ) (P : List Told → Answer → Ledger → Type 0)
+      → ((ws : List Told) (a : Answer) (τ : Store) → All ByRead ws → Inv first τ (heardBy s ws) → P ws a (heardBy s ws) → (c : ℕ) → let b = answerOf (Read s c) τ in
+      P (tells (Read s c) b ++ ws) b (hears (length first) s (tells (Read s c) b) (calm (heardBy s ws))))
+      → (cs : List ℕ) (words : ℕ) → P [] (Refused 15) (calm T) → P [] (Refused 13) (calm T) → P [] Done (calm T) → let r = readMany s cs words σ in
+      let ws = readsTell cs (r .values) (r .last) in Inv first (r .store) (heardBy s ws) × P ws (r .last) (heardBy s ws)
+  unfolding step answerOf
+  kept-with-inv s P more cs words r15 r13 p =
+      kept-by-reads (λ ws a τ. Inv first τ (heardBy s ws) × P ws a (heardBy s ws)) s
+      (λ ws a τ b H c.
+      let us = tells (Read s c) (answerOf (Read s c) τ) in
+      subst (λ (U : Ledger). Inv first (step (Read s c) τ) U × P (us ++ ws) (answerOf (Read s c) τ) U) (hears-after (length first) s us ws T b)
+      (keep-read (H .0) s c, more ws a τ b (H .0) (H .1) c))
+      cs words σ (calms I, r15) (calms I, r13) (calms I, p)
+
+  pub keep : (k : Action) → Inv first (leaves k σ) (observe (length first) (eventOf k σ) T)
+  unfolding step answerOf observe
+  keep (oneCall k) = keep-call I k
+  keep (manyReads s cs words) = ticks (kept-with-inv s (λ _ _ _. Unit {0}) (λ _ _ _ _ _ _ _. tt) cs words tt tt tt .0)

@@ -1,4 +1,4 @@
--- Every list of calls keeps the invariant and a ledger that matches what is told, from any start that has both; what set-up leaves is such a start.
+-- Every list of actions keeps the invariant and a ledger that matches what is told, from any start that has both; what set-up leaves is such a start.
 use Prim.Native.Nat.{ℕ, zero, suc, _<_}
 use native.Mathlib.Omega.{arith}
 use mathlib.Core.Path.{_≡_, refl, sym, _∙_, ap, subst}
@@ -7,14 +7,12 @@ use mathlib.Core.Bool.{false}
 use mathlib.Core.List.{List, [], _∷_}
 use lib.ListN.{length, getD, replicate, length-replicate}
 use Rattle.model.specs.declared.Session.{Session}
-use Rattle.model.specs.declared.Call.{Call}
 use Rattle.model.specs.Buffers.{Buffers, Store, size, idle, sessionAt, lockAt, fresh}
-use Rattle.model.specs.History.{Item, add, run, events, told, history, transaction}
+use Rattle.model.specs.History.{Action, actor, tellsOf, eventOf, Item, add, run, events, told, history, transaction}
 use Rattle.model.specs.Isolation.{All}
 use Rattle.model.specs.Readers.{odd, member}
 use Rattle.model.specs.Effects.{recordOf}
-use Rattle.model.specs.Step.{sessionOf, answerOf}
-use Rattle.model.specs.Told.{Told, tells}
+use Rattle.model.specs.Told.{Told}
 use Rattle.model.proofs.Effects.{idle-out}
 use Rattle.model.proofs.Invariant.{role, latest, all-map, Inv}
 use Rattle.model.proofs.Ledger.{Ledger, blank, ledger}
@@ -81,18 +79,20 @@ module _ (B : Buffers) where
         just = tt;
       }
 
--- ---- every list of calls
+-- ---- every list of actions
 
-events-length : (φ : Store) (ks : List Call) → length (events φ ks) ≡ length ks
+events-length : (φ : Store) (ks : List Action) → length (events φ ks) ≡ length ks
 unfolding events
 events-length φ [] = refl
 events-length φ (k ∷ ks) = ap suc (events-length φ ks)
 
--- one call more tells at its place, after what the list before it tells
-pub history-step : (start : List Item) (φ : Store) (k : Call) (ks : List Call)
-    → history start φ (k ∷ ks) ≡ add (suc (length ks)) (sessionOf k) (tells k (answerOf k (run φ ks))) (history start φ ks)
+-- one action more tells at its place, after what the list before it tells
+pub history-step : (start : List Item) (φ : Store) (k : Action) (ks : List Action)
+    → let e = eventOf k (run φ ks) in history start φ (k ∷ ks) ≡ add (suc (length ks)) (actor (e .action)) (tellsOf e) (history start φ ks)
 unfolding told events
-history-step start φ k ks = ap (λ (m : ℕ). add (suc m) (sessionOf k) (tells k (answerOf k (run φ ks))) (history start φ ks)) (events-length φ ks)
+history-step start φ k ks =
+    let e = eventOf k (run φ ks) in
+    ap (λ (m : ℕ). add (suc m) (actor (e .action)) (tellsOf e) (history start φ ks)) (events-length φ ks)
 
 -- what is told is told at the places of the list
 abbrev Below : ℕ → List Item → Type 0
@@ -102,15 +102,16 @@ below-add : (m q s : ℕ) → q < m → (ws : List Told) (h : List Item) → Bel
 below-add m q s l [] h a = a
 below-add m q s l (w ∷ ws) h a = (l, below-add m q s l ws h a)
 
-told-before : (start : List Item) → Below 1 start → (φ : Store) (ks : List Call) → Below (suc (length ks)) (history start φ ks)
+told-before : (start : List Item) → Below 1 start → (φ : Store) (ks : List Action) → Below (suc (length ks)) (history start φ ks)
 told-before start b φ [] = unfold told events in b
 told-before start b φ (k ∷ ks) =
+    let e = eventOf k (run φ ks) in
     subst (Below (suc (suc (length ks)))) (sym (history-step start φ k ks))
-    (below-add (suc (suc (length ks))) (suc (length ks)) (sessionOf k) (omega arith) (tells k (answerOf k (run φ ks))) (history start φ ks)
+    (below-add (suc (suc (length ks))) (suc (length ks)) (actor (e .action)) (omega arith) (tellsOf e) (history start φ ks)
     (all-map (λ i l. omega arith) (history start φ ks) (told-before start b φ ks)))
 
 -- from any store and ledger with the invariant
-pub inv-from : {start : List ℕ} {φ : Store} {T : Ledger} → Inv start φ T → (ks : List Call) → Inv start (run φ ks) (ledger (length start) T φ ks)
+pub inv-from : {start : List ℕ} {φ : Store} {T : Ledger} → Inv start φ T → (ks : List Action) → Inv start (run φ ks) (ledger (length start) T φ ks)
 unfolding run ledger
 inv-from I [] = I
 inv-from I (k ∷ ks) = keep (inv-from I ks) k
@@ -129,18 +130,18 @@ module _ {φ : Store} {h₀ : List Item} {T₀ : Ledger} (R : Ready φ h₀ T₀
   abbrev n : ℕ
   n = length (φ .lent .values)
 
-  abbrev pub ledger-of : List Call → Ledger
+  abbrev pub ledger-of : List Action → Ledger
   ledger-of ks = ledger (length (φ .lent .values)) T₀ φ ks
 
-  pub inv-run : (ks : List Call) → Inv (φ .lent .values) (run φ ks) (ledger-of ks)
+  pub inv-run : (ks : List Action) → Inv (φ .lent .values) (run φ ks) (ledger-of ks)
   inv-run = inv-from (R .inv)
 
-  pub place-is : (ks : List Call) → ledger-of ks .place ≡ suc (length ks)
+  pub place-is : (ks : List Action) → ledger-of ks .place ≡ suc (length ks)
   unfolding ledger
   place-is [] = R .place
-  place-is (k ∷ ks) = observe-place n k (answerOf k (run φ ks)) (ledger-of ks) ∙ ap suc (place-is ks)
+  place-is (k ∷ ks) = observe-place n (eventOf k (run φ ks)) (ledger-of ks) ∙ ap suc (place-is ks)
 
-  pub match-run : (ks : List Call) → Matches (length (φ .lent .values)) (history h₀ φ ks) (ledger-of ks)
+  pub match-run : (ks : List Action) → Matches (length (φ .lent .values)) (history h₀ φ ks) (ledger-of ks)
   unfolding ledger
   match-run [] = unfold told events in R .match
   match-run (k ∷ ks) =

@@ -1,10 +1,10 @@
 -- What the store's answers spare: a session that begins has no open transaction, and values are got and put and a seal is told before the seal.
--- So the ledger goes on to match with every call.
+-- So the ledger goes on to match with every action.
 use Prim.Native.Nat.{ℕ, suc, _≤_, _<_}
 use native.Mathlib.Omega.{arith}
 use mathlib.Core.Path.{_≡_, refl, sym, _∙_, ap, subst}
 use mathlib.Core.Bool.{true, false, _||_}
-use mathlib.Core.List.{List, [], _∷_}
+use mathlib.Core.List.{List, [], _∷_, _++_}
 use lib.Dec.{ltb, eqb}
 use lib.ListN.{length}
 use borrow.Author.Tests.{eqb-true, ltb-true, ltb-false}
@@ -14,7 +14,7 @@ use Rattle.model.specs.declared.Answer.{Answer}
 use Rattle.model.specs.declared.Plan.{Plan}
 use Rattle.model.specs.declared.Plan.the-variants.{Refuse, Start}
 use Rattle.model.specs.Buffers.{Store, size}
-use Rattle.model.specs.History.{Item, add, Name, name, transaction, isOpen}
+use Rattle.model.specs.History.{Action, oneCall, manyReads, actor, Event, tellsOf, eventOf, Item, add, Name, name, transaction, isOpen}
 use Rattle.model.specs.Isolation.{All}
 use Rattle.model.specs.Plans.{guard, plan, admit}
 use Rattle.model.specs.Effects.{number, valueOf, recordOf, answer, logOf}
@@ -22,9 +22,10 @@ use Rattle.model.specs.Step.{sessionOf, planOf, answerOf}
 use Rattle.model.specs.Told.{Told, began, got, put, sealed, moved, ended, ending, tells, begins}
 use Rattle.model.proofs.Invariant.{Inv}
 use Rattle.model.proofs.Ledger.{Ledger, calm, amend, starts, hear, hears, observe}
+use Rattle.model.proofs.ManyReads.{ByRead, value, end}
 use Rattle.model.proofs.Matching.{Next, stays, grows, starts-here, next, Matches, unchanged, one-told}
 use Rattle.model.proofs.Passing.{guarded}
-use Rattle.model.proofs.Preservation.{runs}
+use Rattle.model.proofs.Preservation.{runs, kept-with-inv}
 use Rattle.model.proofs.Tools.{split, test, clash}
 use Rattle.model.proofs.Words.{Unsealed, Fits}
 
@@ -59,6 +60,18 @@ before-more q i h b f x o = go (next x i h)
     go (stays e _) = f x (rw e at o)
     go (grows _ p _) = f x p
     go (starts-here y _ _ _ _) = absurd (clash (begins (i .told)) y b)
+
+before-reads : (q s : ℕ) (ws : List Told) (h : List Item) → All ByRead ws → Before q h → Before q (add q s ws h)
+before-reads q s [] h a b = b
+before-reads q s (w ∷ ws) h a b = before-more q (record { place = q; session = s; told = w }) (add q s ws h) (no-begin w (a .0)) (before-reads q s ws h (a .1) b)
+  where
+    no-begin : (w : Told) → ByRead w → begins w ≡ false
+    no-begin w (value c v) = refl
+    no-begin w end = refl
+
+add-append : (q s : ℕ) (us ws : List Told) (h : List Item) → add q s (us ++ ws) h ≡ add q s us (add q s ws h)
+add-append q s [] ws h = refl
+add-append q s (u ∷ us) ws h = ap (λ (g : List Item). record { place = q; session = s; told = u } ∷ g) (add-append q s us ws h)
 
 -- ---- a ledger's place
 
@@ -162,17 +175,38 @@ module _ {first : List ℕ} {σ : Store} {T : Ledger} (I : Inv first σ T) {n : 
   heard (Abandon s) none = says-abandon s _
   heard (Peek s c) none = unfold tells in told-ending s _
 
+-- ---- an action
+
+module _ {first : List ℕ} {σ : Store} {T : Ledger} (I : Inv first σ T) {h : List Item} (M : Matches (length first) h T) (before : Before (T .place) h) where
+  heard-action : (k : Action) → ((s : ℕ) → transaction (name (T .place) s) h ≡ []) → let e = eventOf k σ in
+      Matches (length first) (add (T .place) (actor (e .action)) (tellsOf e) h) (hears (length first) (actor (e .action)) (tellsOf e) (calm T))
+  unfolding answerOf
+  heard-action (oneCall k) none = heard I M before k none
+  heard-action (manyReads s cs words) none =
+      let n = length first in
+      let still = nothing-told I M before s in
+      kept-with-inv I s (λ ws _ U. Matches n (add (T .place) s ws h) U)
+      (λ ws _ τ a J N c.
+      let us = tells (Read s c) (answerOf (Read s c) τ) in
+      let g = add (T .place) s ws h in
+      let e = hears-place n s ws (calm T) in
+      rw (add-append (T .place) s us ws h)
+      (subst (λ (q : ℕ). Matches n (add q s us g) (hears n s us (calm (hears n s ws (calm T))))) e
+      (heard-read J N (subst (λ (q : ℕ). Before q g) (sym e) (before-reads (T .place) s ws h a before)) s c)))
+      cs words still still still .1
+
 -- the ledger goes on to match
 pub heeds : {first : List ℕ} {σ : Store} {T : Ledger} → Inv first σ T → {h : List Item} → Matches (length first) h T → (q : ℕ) → T .place ≡ q
-    → All (λ (i : Item). i .place < q) h → (k : Call) → Matches (length first) (add q (sessionOf k) (tells k (answerOf k σ)) h) (observe (length first) k (answerOf k σ) T)
+    → All (λ (i : Item). i .place < q) h → (k : Action) → let e = eventOf k σ in
+    Matches (length first) (add q (actor (e .action)) (tellsOf e) h) (observe (length first) e T)
 unfolding observe
-heeds {first} {σ} {T} I {h} M q e old k =
+heeds {first} {σ} {T} I {h} M q p old k =
     let n = length first in
-    let ws = tells k (answerOf k σ) in
-    let U = hears n (sessionOf k) ws (calm T) in
-    let N = heard I M (subst (λ (q : ℕ). Before q h) (sym e) (before-place q h old)) k (λ s. rw e (unborn q h old (name q s) (omega arith))) in
-    unchanged {T = U} (λ x. refl) refl refl (subst (λ (q : ℕ). Matches n (add q (sessionOf k) ws h) U) e N)
+    let e = eventOf k σ in
+    let U = hears n (actor (e .action)) (tellsOf e) (calm T) in
+    let N = heard-action I M (subst (λ (q : ℕ). Before q h) (sym p) (before-place q h old)) k (λ s. rw p (unborn q h old (name q s) (omega arith))) in
+    unchanged {T = U} (λ x. refl) refl refl (subst (λ (q : ℕ). Matches n (add q (actor (e .action)) (tellsOf e) h) U) p N)
 
-pub observe-place : (n : ℕ) (k : Call) (a : Answer) (T : Ledger) → observe n k a T .place ≡ suc (T .place)
+pub observe-place : (n : ℕ) (e : Event) (T : Ledger) → observe n e T .place ≡ suc (T .place)
 unfolding observe
-observe-place n k a T = ap suc (hears-place n (sessionOf k) (tells k a) (calm T))
+observe-place n e T = ap suc (hears-place n (actor (e .action)) (tellsOf e) (calm T))

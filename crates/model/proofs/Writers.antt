@@ -7,20 +7,19 @@ use mathlib.Core.List.{List, [], _∷_}
 use lib.Dec.{ltb, eqb}
 use lib.ListN.{length, List·getD-eq-default}
 use borrow.Author.Tests.{ltb-true, ltb-false, le-leb, lt-leb}
-use Rattle.model.specs.declared.Call.{Call}
-use Rattle.model.specs.declared.Answer.{Answer}
 use Rattle.model.specs.Buffers.{Locks, Store, lockAt}
-use Rattle.model.specs.History.{Item, add, run, history, Name, transaction, isOpen, wrote, commit, committed}
+use Rattle.model.specs.History.{Action, oneCall, manyReads, actor, actionTells, Event, tellsOf, eventOf, Item, add, run, history, Name, transaction, isOpen, wrote, commit, committed}
 use Rattle.model.specs.Isolation.{All, at, Isolated, Holds, firsts, HoldsAtCommit}
 use Rattle.model.specs.Effects.{number, recordOf}
-use Rattle.model.specs.Step.{sessionOf, answerOf}
-use Rattle.model.specs.Told.{Told, sealed, ended, ending, tells, writes, begins}
+use Rattle.model.specs.Step.{sessionOf}
+use Rattle.model.specs.Told.{Told, sealed, ended, ending, readsTell, writes, begins}
 use Rattle.model.proofs.Advancing.{late, role-late}
 use Rattle.model.proofs.Commits.{pick, all-both, isolated}
 use Rattle.model.proofs.Effects.{running-role}
 use Rattle.model.proofs.Invariant.{roleIn, roleOf, role, Link, Just, Inv}
 use Rattle.model.proofs.Laws.{Long}
 use Rattle.model.proofs.Ledger.{Txn, closed, Commit, Ledger, tick, calm, asCommit, amend, starts, hear, hears, observe, ledger}
+use Rattle.model.proofs.ManyReads.{reads-by-read, amend-keeps, hears-keeps}
 use Rattle.model.proofs.Matching.{Next, stays, grows, starts-here, next, Recorded}
 use Rattle.model.proofs.Roles.{owns, flip}
 use Rattle.model.proofs.Runs.{history-step, Ready, ledger-of, inv-run, place-is, match-run}
@@ -78,36 +77,31 @@ amend-grows s f T =
 hear-grows : (n s : ℕ) (w : Told) (T : Ledger) → Grown T (hear n s w T)
 hear-grows n s w T = split (Grown T) (begins w) (λ _. unfold starts in kept refl) (λ _. amend-grows s _ T)
 
--- the end commits nothing
-closed-keeps : (s : ℕ) (T : Ledger) → (amend s closed T .commits ≡ T .commits) × (amend s closed T .new ≡ T .new)
-unfolding amend
-closed-keeps s T = split (λ (U : Ledger). (U .commits ≡ T .commits) × (U .new ≡ T .new)) (T .mine s .live) (λ _. go (T .mine s .done) (T .new)) (λ _. (refl, refl))
-  where
-    go : (d b : Bool) → (cond (d && not d) (asCommit s (T .place) (closed (T .mine s)) ∷ T .commits) (T .commits) ≡ T .commits) × ((b || (d && not d)) ≡ b)
-    go true true = (refl, refl)
-    go true false = (refl, refl)
-    go false true = (refl, refl)
-    go false false = (refl, refl)
-
 on-tick : {T U : Ledger} → Grown (calm T) U → Grown T (tick U)
 on-tick (kept e) = kept e
 on-tick (grew k e p w) = grew k e p w
 
-observe-grows : (n : ℕ) (k : Call) (a : Answer) (T : Ledger) → Grown T (observe n k a T)
+observe-grows : (n : ℕ) (e : Event) (T : Ledger) → Grown T (observe n e T)
 unfolding observe
-observe-grows n k a T =
-    tells-any P a (unfold ending in split P (eqb (number a) 6 || eqb (number a) 105) (λ _. one ended) (λ _. kept refl)) (λ w _ _. one w)
-    (λ _. go (hear-grows n (sessionOf k) sealed (calm T)) (closed-keeps (sessionOf k) (hear n (sessionOf k) sealed (calm T)))) k
+observe-grows n e T = go (e .action)
   where
-    P : List Told → Type 0
-    P ws = Grown T (tick (hears n (sessionOf k) ws (calm T)))
+    P : ℕ → List Told → Type 0
+    P s ws = Grown T (tick (hears n s ws (calm T)))
 
-    one : (w : Told) → P (w ∷ [])
-    one w = on-tick (hear-grows n (sessionOf k) w (calm T))
+    alone : (s : ℕ) (w : Told) → P s (w ∷ [])
+    alone s w = on-tick (hear-grows n s w (calm T))
 
-    go : {U W : Ledger} → Grown (calm T) U → (W .commits ≡ U .commits) × (W .new ≡ U .new) → Grown T (tick W)
-    go (kept e) f = kept (f .0 ∙ e)
-    go (grew k e p w) f = grew k (f .0 ∙ e) p (f .1 ∙ w)
+    closes : {U W : Ledger} → Grown (calm T) U → (W .commits ≡ U .commits) × (W .new ≡ U .new) → Grown T (tick W)
+    closes (kept e) f = kept (f .0 ∙ e)
+    closes (grew k e p w) f = grew k (f .0 ∙ e) p (f .1 ∙ w)
+
+    go : (k : Action) → P (actor k) (actionTells k (e .answer) (e .values))
+    go (oneCall k) =
+        let s = sessionOf k in
+        let a = e .answer in
+        tells-any (P s) a (unfold ending in split (P s) (eqb (number a) 6 || eqb (number a) 105) (λ _. alone s ended) (λ _. kept refl)) (λ w _ _. alone s w)
+        (λ _. closes (hear-grows n s sealed (calm T)) (amend-keeps s closed (hear n s sealed (calm T)) refl)) k
+    go (manyReads s cs words) = kept (hears-keeps n s (readsTell cs (e .values) (e .answer)) (calm T) (reads-by-read cs (e .values) (e .answer)) .0)
 
 -- ---- what more told does to a transaction
 
@@ -146,11 +140,11 @@ later-add n x q s (w ∷ ws) h d = later-on (later-add n x q s ws h d) (later-it
 
 -- ---- the runs
 
-firsts-all : (m : ℕ) (k : Call) (ks : List Call) → m ≡ suc (length ks) → firsts m (k ∷ ks) ≡ k ∷ ks
+firsts-all : (m : ℕ) (k : Action) (ks : List Action) → m ≡ suc (length ks) → firsts m (k ∷ ks) ≡ k ∷ ks
 unfolding firsts
 firsts-all m k ks e = rw (le-leb (suc (length ks)) m (omega arith))
 
-firsts-fewer : (m : ℕ) (k : Call) (ks : List Call) → m ≤ length ks → firsts m (k ∷ ks) ≡ firsts m ks
+firsts-fewer : (m : ℕ) (k : Action) (ks : List Action) → m ≤ length ks → firsts m (k ∷ ks) ≡ firsts m ks
 unfolding firsts
 firsts-fewer m k ks h = rw (lt-leb (suc (length ks)) m (omega arith))
 
@@ -158,26 +152,26 @@ module _ {φ : Store} {h₀ : List Item} {T₀ : Ledger} (R : Ready φ h₀ T₀
   abbrev n : ℕ
   n = length (φ .lent .values)
 
-  abbrev tx : List Call → Name → List Item
+  abbrev tx : List Action → Name → List Item
   tx ks x = transaction x (history h₀ φ ks)
 
   -- the older commits stay
-  older : (P : Commit → Type 0) (k : Call) (ks : List Call) → All P (ledger-of R (k ∷ ks) .commits) → All P (ledger-of R ks .commits)
+  older : (P : Commit → Type 0) (k : Action) (ks : List Action) → All P (ledger-of R (k ∷ ks) .commits) → All P (ledger-of R ks .commits)
   unfolding ledger
-  older P k ks a = go (observe-grows n k (answerOf k (run φ ks)) (ledger-of R ks))
+  older P k ks a = go (observe-grows n (eventOf k (run φ ks)) (ledger-of R ks))
     where
-      go : Grown (ledger-of R ks) (observe n k (answerOf k (run φ ks)) (ledger-of R ks)) → All P (ledger-of R ks .commits)
+      go : Grown (ledger-of R ks) (observe n (eventOf k (run φ ks)) (ledger-of R ks)) → All P (ledger-of R ks .commits)
       go (kept e) = rw e at a
       go (grew j e _ _) = (rw e at a) .1
 
   -- with its commit a transaction holds what it wrote
-  abbrev Held : List Call → Commit → Type 0
+  abbrev Held : List Action → Commit → Type 0
   Held ks k = (c : ℕ) → k .wrote c ≡ true → Holds (run φ (firsts (k .place) ks)) (k .who) c
 
-  lift : (x : Call) (ks : List Call) → All (Held ks) (ledger-of R ks .commits) → All (Held (x ∷ ks)) (ledger-of R ks .commits)
+  lift : (x : Action) (ks : List Action) → All (Held ks) (ledger-of R ks .commits) → All (Held (x ∷ ks)) (ledger-of R ks .commits)
   lift x ks a = all-both (λ k l q c w. rw (firsts-fewer (k .place) x ks (omega (arith, l, place-is R ks))) (q c w)) (ledger-of R ks .commits) (inv-run R ks .old) a
 
-  grow : (x : Call) (ks : List Call) → All (Held ks) (ledger-of R ks .commits) → (U : Ledger) → Grown (ledger-of R ks) U
+  grow : (x : Action) (ks : List Action) → All (Held ks) (ledger-of R ks .commits) → (U : Ledger) → Grown (ledger-of R ks) U
       → Just (run φ (x ∷ ks)) (U .new) (U .commits) → All (Held (x ∷ ks)) (U .commits)
   grow x ks a U (kept e) j = rw e (lift x ks a)
   grow x ks a U (grew k e l w) j =
@@ -185,13 +179,13 @@ module _ {φ : Store} {h₀ : List Item} {T₀ : Ledger} (R : Ready φ h₀ T₀
       subst (All (Held (x ∷ ks))) (sym e)
       (λ c v. rw (firsts-all (k .place) x ks (l ∙ place-is R ks)) (i w c v), lift x ks a)
 
-  held : (ks : List Call) → All (Held ks) (ledger-of R ks .commits)
+  held : (ks : List Action) → All (Held ks) (ledger-of R ks .commits)
   unfolding ledger
   held [] = rw (R .commits) tt
-  held (x ∷ ks) = grow x ks (held ks) (ledger-of R (x ∷ ks)) (observe-grows n x (answerOf x (run φ ks)) (ledger-of R ks)) (inv-run R (x ∷ ks) .just)
+  held (x ∷ ks) = grow x ks (held ks) (ledger-of R (x ∷ ks)) (observe-grows n (eventOf x (run φ ks)) (ledger-of R ks)) (inv-run R (x ∷ ks) .just)
 
   -- a committed transaction stays committed, at its place
-  frozen : (k : Call) (ks : List Call) (x : Name) → committed n (tx ks x) ≡ true → (committed n (tx (k ∷ ks) x) ≡ true) × (commit n (tx (k ∷ ks) x) ≡ commit n (tx ks x))
+  frozen : (k : Action) (ks : List Action) (x : Name) → committed n (tx ks x) ≡ true → (committed n (tx (k ∷ ks) x) ≡ true) × (commit n (tx (k ∷ ks) x) ≡ commit n (tx ks x))
   frozen k ks x d =
       let M = match-run R ks in
       let y = pick x (ledger-of R ks .commits) (M .every x d) (M .recorded) (older (Recorded n (history h₀ φ (k ∷ ks))) k ks (match-run R (k ∷ ks) .recorded)) in
@@ -203,12 +197,13 @@ module _ {φ : Store} {h₀ : List Item} {T₀ : Ledger} (R : Ready φ h₀ T₀
     pub not-done : committed (length (φ .lent .values)) t ≡ false
     pub wrote : (c : ℕ) → wrote t c ≡ true → wrote u c ≡ true
 
-  past : (k : Call) (ks : List Call) (x : Name) → x .place ≤ length ks → Later n (tx ks x) (tx (k ∷ ks) x)
+  past : (k : Action) (ks : List Action) (x : Name) → x .place ≤ length ks → Later n (tx ks x) (tx (k ∷ ks) x)
   past k ks x l =
+      let e = eventOf k (run φ ks) in
       subst (λ (h : List Item). Later n (tx ks x) (transaction x h)) (sym (history-step h₀ φ k ks))
-      (later-add n x (suc (length ks)) (sessionOf k) (tells k (answerOf k (run φ ks))) (history h₀ φ ks) (λ e. omega arith))
+      (later-add n x (suc (length ks)) (actor (e .action)) (tellsOf e) (history h₀ φ ks) (λ e. omega arith))
 
-  still-open : (ks : List Call) (x : Name) → isOpen (tx ks x) ≡ true → committed n (tx ks x) ≡ false → (m : ℕ) → x .place ≤ m → m ≤ length ks → Opening (tx (firsts m ks) x) (tx ks x)
+  still-open : (ks : List Action) (x : Name) → isOpen (tx ks x) ≡ true → committed n (tx ks x) ≡ false → (m : ℕ) → x .place ≤ m → m ≤ length ks → Opening (tx (firsts m ks) x) (tx ks x)
   still-open [] x l d m a b = unfold firsts in record { open′ = l; not-done = d; wrote = λ c h. h }
   still-open (k ∷ ks) x l d m a b =
       same m (suc (length ks))
@@ -218,13 +213,13 @@ module _ {φ : Store} {h₀ : List Item} {T₀ : Ledger} (R : Ready φ h₀ T₀
       let o = still-open ks x (p .open′ l) (flip (committed n (tx ks x)) (λ y. clash (committed n (tx (k ∷ ks) x)) (frozen k ks x y .0) d)) m a (omega arith) in
       rw (firsts-fewer m k ks (omega arith)) (record { open′ = o .open′; not-done = o .not-done; wrote = λ c h. p .wrote c (o .wrote c h) }))
 
-  commit-le : (ks : List Call) (x : Name) → committed n (tx ks x) ≡ true → commit n (tx ks x) ≤ length ks
+  commit-le : (ks : List Action) (x : Name) → committed n (tx ks x) ≡ true → commit n (tx ks x) ≤ length ks
   commit-le ks x d =
       let M = match-run R ks in
       let y = pick x (ledger-of R ks .commits) (M .every x d) (M .recorded) (inv-run R ks .old) in
       subst (λ (x : Name). commit n (tx ks x) ≤ length ks) (y .1) (omega (arith, y .2 .commit, y .3, place-is R ks))
 
-  not-yet : (ks : List Call) (x : Name) → committed n (tx ks x) ≡ true → (m : ℕ) → x .place ≤ m → m < commit n (tx ks x) → Opening (tx (firsts m ks) x) (tx ks x)
+  not-yet : (ks : List Action) (x : Name) → committed n (tx ks x) ≡ true → (m : ℕ) → x .place ≤ m → m < commit n (tx ks x) → Opening (tx (firsts m ks) x) (tx ks x)
   not-yet [] x d m a b = absurd (omega (arith, commit-le [] x d, b))
   not-yet (k ∷ ks) x d m a b =
       let c = commit-le (k ∷ ks) x d in
@@ -234,7 +229,7 @@ module _ {φ : Store} {h₀ : List Item} {T₀ : Ledger} (R : Ready φ h₀ T₀
       (λ y. let o = not-yet ks x y m a (omega (arith, b, frozen k ks x y .1)) in record { open′ = o .open′; not-done = o .not-done; wrote = λ c h. p .wrote c (o .wrote c h) })
       (λ y. let o = still-open ks x (p .done y d) y m a (omega (arith, b, c)) in record { open′ = o .open′; not-done = o .not-done; wrote = λ c h. p .wrote c (o .wrote c h) }))
 
-  pub writing : (ks : List Call) → HoldsAtCommit h₀ φ ks
+  pub writing : (ks : List Action) → HoldsAtCommit h₀ φ ks
   writing ks =
       let M = match-run R ks in
       record {
@@ -253,7 +248,7 @@ module _ {φ : Store} {h₀ : List Item} {T₀ : Ledger} (R : Ready φ h₀ T₀
             (wrote (tx ks x)) (λ c h. sym (ap (λ (t : Txn). t .wrote c) u) ∙ h) c w al;
       }
 
-  pub isolation : (ks : List Call) → Isolated (φ .lent .values) (history h₀ φ ks)
+  pub isolation : (ks : List Action) → Isolated (φ .lent .values) (history h₀ φ ks)
   isolation ks =
       let M = match-run R ks in
       isolated (φ .lent .values) (history h₀ φ ks) (ledger-of R ks .commits) (inv-run R ks .lawful) (M .recorded) (M .every) (M .stands)

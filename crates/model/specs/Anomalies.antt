@@ -1,8 +1,9 @@
--- Small histories to judge the claim by: four that must not pass, as a store without the method would answer; written in the order of the calls.
+-- Small histories to judge the claim by: five that must not pass, as a store without the method would answer, and one that must; written in the order of the calls.
+use Prim.Native.Nat.{ℕ}
 use mathlib.Core.List.{List, [], _∷_, reverse}
 use Rattle.model.specs.declared.Call.the-variants.{Begin, Read, Write, Seal, Advance}
 use Rattle.model.specs.declared.Answer.the-variants.{Done, Value, Sealed, Moved, Committed}
-use Rattle.model.specs.History.{Event, event}
+use Rattle.model.specs.History.{Event, event, readsEvent}
 
 -- both transactions read 3 in cell 0, write it and commit: one update is lost
 unfoldable pub lostUpdate : List Event
@@ -29,3 +30,11 @@ readAhead =
     reverse
     (event (Begin 0) Done ∷ event (Read 0 1) (Value 6) ∷ event (Write 0 0 4) Done ∷ event (Begin 1) Done ∷ event (Write 1 1 6) Done ∷ event (Seal 1) Sealed
     ∷ event (Seal 0) Sealed ∷ event (Advance 1) Moved ∷ event (Advance 0) Moved ∷ [])
+
+-- session 0 commits 4 to cell 0 and 6 to cell 1; session 1 then reads both in one call, and gets v of cell 1: 6 must pass, and the older 5 must not
+unfoldable pub readTogether : ℕ → List Event
+readTogether v =
+    reverse
+    (event (Begin 0) Done ∷ event (Write 0 0 4) Done ∷ event (Write 0 1 6) Done ∷ event (Seal 0) Sealed ∷ event (Advance 0) Moved ∷ event (Advance 0) Moved
+    ∷ event (Advance 0) Moved ∷ event (Advance 0) Moved ∷ event (Advance 0) Moved ∷ event (Advance 0) Committed
+    ∷ event (Begin 1) Done ∷ readsEvent 1 (0 ∷ 1 ∷ []) 2 (4 ∷ v ∷ []) (Value v) ∷ event (Seal 1) Committed ∷ [])

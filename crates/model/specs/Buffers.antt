@@ -52,6 +52,10 @@ withSession ss s x = record { records = set (ss .records) s x }
 abbrev pub withEntry : Session → Session
 withEntry x = record { phase = x .phase; count = suc (x .count); next = x .next }
 
+-- with k entries in all
+abbrev pub withEntries : ℕ → Session → Session
+withEntries k x = record { phase = x .phase; count = k; next = x .next }
+
 abbrev pub moveTo : ℕ → ℕ → Session → Session
 moveTo phase next x = record { phase = phase; count = x .count; next = next }
 

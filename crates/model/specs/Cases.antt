@@ -157,7 +157,7 @@ writing p = state (session p 1 0) (entry 0 8 4 1) (cells 3 5) (cells 2 2) (cells
 abbrev full : ℕ → State
 full claimant = state (session 1 32 0) (replicate 128 0) (cells 3 5) (cells 7 6) (cells 16 claimant) (cells 1 1)
 
--- the table of refusals, in the order of its numbers; 7 and set-up's 8 are in SetUpCases.antt, 10 to 13 are the fields'
+-- the table of refusals, in the order of its numbers; 7 and set-up's 8 are in SetUpCases.antt, 10 to 13 are the fields', and 15 and 13 of many reads are in Rounds.antt
 unfoldable pub refusals : List Case
 refusals =
     -- 1: session above 15, of each call

@@ -1,40 +1,72 @@
--- What a list of calls tells (document 01, "What demand 3 counts"): one definition for each of its words.
--- Every list here, of calls, of events and of items, has the newest first, since a list's tail is then all that went before. A place is a call's
--- ordinal in the list, from 1; what is told where the list starts has place 0. Set-up and the field calls stand outside: `Call` has no case for them.
+-- What a list of actions tells (document 01, "What demand 3 counts"): one definition for each of its words.
+-- Every list here, of actions, of events and of items, has the newest first, since a list's tail is then all that went before. A place is an action's
+-- ordinal in the list, from 1; what is told where the list starts has place 0. Set-up and the field calls stand outside: `Action` has no case for them.
 use Prim.Native.Nat.{ℕ, suc}
 use mathlib.Core.Bool.{Bool, false, cond, not, _&&_, _||_}
-use mathlib.Core.List.{List, [], _∷_}
+use mathlib.Core.List.{List, [], _∷_, map}
 use lib.Dec.{ltb, eqb}
 use lib.ListN.{length, getD}
 use Rattle.model.specs.declared.Call.{Call}
 use Rattle.model.specs.declared.Answer.{Answer}
 use Rattle.model.specs.Buffers.{Store}
 use Rattle.model.specs.Search.{tally}
+use Rattle.model.specs.ManyReads.{readMany}
 use Rattle.model.specs.Step.{sessionOf, step, answerOf}
-use Rattle.model.specs.Told.{Told, tells, begins, writes, seals, moves, ends, valuePut, ReadOf, readUnless}
+use Rattle.model.specs.Told.{Told, tells, readsTell, begins, writes, seals, moves, ends, valuePut, ReadOf, readUnless}
 
--- ---- calls, answers, and what they tell
+-- ---- actions, answers, and what they tell
 
--- a call and its answer
+-- a call; or many reads, by a session, of cells, into a target of so many words: one action with one place (document 02, Paper 1)
+pub data Action : Type 0 where
+  oneCall : Call → Action
+  manyReads : ℕ → List ℕ → ℕ → Action
+
+-- calls, each an action of its own
+abbrev pub asActions : List Call → List Action
+asActions ks = map {B = Action} oneCall ks
+
+-- the session that acts
+abbrev pub actor : Action → ℕ
+actor (oneCall k) = sessionOf k
+actor (manyReads s cs words) = s
+
+-- an action, its answer and, of many reads, whose answer is their last, the values that they obtained
 pub record Event : Type 0 where
-  pub call : Call
+  pub action : Action
   pub answer : Answer
+  pub values : List ℕ
 
 abbrev pub event : Call → Answer → Event
-event k a = record { call = k; answer = a }
+event k a = record { action = oneCall k; answer = a; values = [] }
+
+abbrev pub readsEvent : ℕ → List ℕ → ℕ → List ℕ → Answer → Event
+readsEvent s cs words vs a = record { action = manyReads s cs words; answer = a; values = vs }
 
 -- what it tells
+abbrev pub actionTells : Action → Answer → List ℕ → List Told
+actionTells (oneCall k) a vs = tells k a
+actionTells (manyReads s cs words) a vs = readsTell cs vs a
+
 abbrev pub tellsOf : Event → List Told
-tellsOf e = tells (e .call) (e .answer)
+tellsOf e = actionTells (e .action) (e .answer) (e .values)
 
--- the store that a list of calls leaves, and the calls with their answers: each call gets what the call before left
-unfoldable pub run : Store → List Call → Store
+-- what an action leaves, and the event that it is
+abbrev pub leaves : Action → Store → Store
+leaves (oneCall k) σ = step k σ
+leaves (manyReads s cs words) σ = readMany s cs words σ .store
+
+abbrev pub eventOf : Action → Store → Event
+eventOf (oneCall k) σ = event k (answerOf k σ)
+eventOf (manyReads s cs words) σ = readsEvent s cs words (readMany s cs words σ .values) (readMany s cs words σ .last)
+
+-- the store that a list of actions leaves, and its events: each action gets what the one before left
+unfoldable pub run : Store → List Action → Store
 run σ [] = σ
-run σ (k ∷ ks) = step k (run σ ks)
+run σ (k ∷ ks) = leaves k (run σ ks)
 
-unfoldable pub events : Store → List Call → List Event
+unfoldable pub events : Store → List Action → List Event
 events σ [] = []
-events σ (k ∷ ks) = event k (answerOf k (run σ ks)) ∷ events σ ks
+events σ (k ∷ ks) = eventOf k (run σ ks) ∷ events σ ks
 
 -- something told, at its place and of its session
 pub record Item : Type 0 where
@@ -45,19 +77,19 @@ pub record Item : Type 0 where
 abbrev pub item : ℕ → ℕ → Told → Item
 item q s w = record { place = q; session = s; told = w }
 
--- one call more, at place q of session s: what it tells
+-- one action more, at place q of session s: what it tells, all at that place
 abbrev pub add : ℕ → ℕ → List Told → List Item → List Item
 add q s [] h = h
 add q s (w ∷ ws) h = item q s w ∷ add q s ws h
 
--- what events tell, after `start`: what transactions that were open before the first call have told, all of it at place 0; `[]` after a set-up. Which starts
+-- what events tell, after `start`: what transactions that were open before the first action have told, all of it at place 0; `[]` after a set-up. Which starts
 -- the theorems admit: `Ready` in proofs/Runs.antt
 unfoldable pub told : List Item → List Event → List Item
 told start [] = start
-told start (e ∷ h) = add (suc (length h)) (sessionOf (e .call)) (tellsOf e) (told start h)
+told start (e ∷ h) = add (suc (length h)) (actor (e .action)) (tellsOf e) (told start h)
 
--- what a list of calls tells
-abbrev pub history : List Item → Store → List Call → List Item
+-- what a list of actions tells
+abbrev pub history : List Item → Store → List Action → List Item
 history start σ ks = told start (events σ ks)
 
 -- ---- Transaction: a begin answered 100 and that session's later calls, up to and with an answer 6 or 105 or an abandon answered 100,

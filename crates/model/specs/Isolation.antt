@@ -1,4 +1,4 @@
--- Demand 3, the claim: the committed transactions of a list of calls have snapshot and commit places such that each read before writing is the last commit's
+-- Demand 3, the claim: the committed transactions of a list of actions have snapshot and commit places such that each read before writing is the last commit's
 -- before the snapshot, or the starting value, and writers of one cell have spans that do not meet; a commit is the call with which all writer locks are held. And the same of code.
 use Prim.Native.Nat.{ℕ, suc, _≤_, _<_}
 use mathlib.Core.Path.{_≡_}
@@ -10,7 +10,8 @@ use lib.ListN.{length}
 use Rattle.model.specs.declared.Call.{Call}
 use Rattle.model.specs.declared.Answer.{Answer}
 use Rattle.model.specs.Buffers.{Store, lockAt}
-use Rattle.model.specs.History.{Event, event, run, events, Item, told, history, Name, transaction, isOpen, wrote, valueWritten, cellsWritten, readsBeforeWriting, snapshot, commit, committed, startingValue}
+use Rattle.model.specs.History.{Action, oneCall, manyReads, Event, event, readsEvent, run, events, Item, told, history, Name, transaction, isOpen, wrote, valueWritten, cellsWritten, readsBeforeWriting, snapshot, commit, committed, startingValue}
+use Rattle.model.specs.ManyReads.{Reads, readMany}
 use Rattle.model.specs.Step.{outcome, effect}
 use Rattle.model.specs.Told.{Told, seals, moves, ReadOf}
 
@@ -22,7 +23,7 @@ abbrev pub Any {ℓ} : {A : Type ℓ} → (A → Type 0) → List A → Type 0
 Any P [] = ⊥
 Any P (x ∷ xs) = P x ⊎ Any P xs
 
--- of the starting values and what a list of calls tells
+-- of the starting values and what a list of actions tells
 module _ (first : List ℕ) (h : List Item) where
   -- the transaction of a name, and that it is committed
   abbrev pub at : Name → List Item
@@ -69,14 +70,14 @@ module _ (first : List ℕ) (h : List Item) where
 abbrev pub Holds : Store → ℕ → ℕ → Type 0
 Holds σ s c = (lockAt (σ .lent .locks) c .claimant ≡ s) × (lockAt (σ .lent .locks) c .exclusive ≡ 1)
 
--- the first m calls of a list, which has the newest first
-unfoldable pub firsts : ℕ → List Call → List Call
+-- the first m actions of a list, which has the newest first
+unfoldable pub firsts : ℕ → List Action → List Action
 firsts m [] = []
 firsts m (k ∷ ks) = cond (leb (suc (length ks)) m) (k ∷ ks) (firsts m ks)
 
--- of what is told where a list of calls starts, the store there, and the list, the newest first; `at`, `Commits` and `commitOf` are those above, of these values
+-- of what is told where a list of actions starts, the store there, and the list, the newest first; `at`, `Commits` and `commitOf` are those above, of these values
 -- and items
-module _ (start : List Item) (σ : Store) (ks : List Call) where
+module _ (start : List Item) (σ : Store) (ks : List Action) where
   abbrev values : List ℕ
   values = σ .lent .values
 
@@ -90,7 +91,7 @@ module _ (start : List Item) (σ : Store) (ks : List Call) where
   pub record HoldsAtCommit : Type 0 where
     -- with its commit call a committed transaction holds all its writer locks
     pub withThis : (x : Name) → Commits values items x → HoldsAll (run σ (firsts (commitOf values items x) ks)) x
-    -- and not before: one that wrote a cell does not hold them all after any earlier call from its begin on (an earlier transaction of its session may have)
+    -- and not before: one that wrote a cell does not hold them all after any earlier action from its begin on (an earlier transaction of its session may have)
     pub notBefore : (x : Name) (m : ℕ) → Commits values items x → x .place ≤ m → m < commitOf values items x
         → (c : ℕ) → wrote (at values items x) c ≡ true → HoldsAll (run σ (firsts m ks)) x → ⊥
     -- one that is open, wrote a cell and is not committed does not hold them all in the store that the list leaves
@@ -99,23 +100,26 @@ module _ (start : List Item) (σ : Store) (ks : List Call) where
 
 -- ---- demand 3
 
--- of a list of calls, in the order of the calls, from a store where `start` is told; `demand3` proves it of what a set-up answered 100 left, with `[]`
-pub record Demand3 (start : List Item) (σ : Store) (calls : List Call) : Type 0 where
-  pub isolated : Isolated (σ .lent .values) (history start σ (reverse calls))
-  pub locks : HoldsAtCommit start σ (reverse calls)
+-- of a list of actions, in their order, from a store where `start` is told; `demand3` proves it of what a set-up answered 100 left, with `[]`
+pub record Demand3 (start : List Item) (σ : Store) (actions : List Action) : Type 0 where
+  pub isolated : Isolated (σ .lent .values) (history start σ (reverse actions))
+  pub locks : HoldsAtCommit start σ (reverse actions)
 
 -- ---- demand 3 of code
 
--- calls made one after the other by code that keeps its contract, the newest first: each was answered, and left, what `effect` says of what the call before left
-pub data Ran (σ : Store) : List Call → List Event → Store → Type 0 where
+-- actions taken one after the other by code that keeps its contract, the newest first: each was answered, and left, what `effect`, or `readMany` of many reads, says of
+-- what the one before left
+pub data Ran (σ : Store) : List Action → List Event → Store → Type 0 where
   none : Ran σ [] [] σ
-  then : {ks : List Call} {h : List Event} {x : Store} → Ran σ ks h x → (k : Call) (a : Answer) (y : Store) → outcome a y ≡ effect k x
-      → Ran σ (k ∷ ks) (event k a ∷ h) y
+  then : {ks : List Action} {h : List Event} {x : Store} → Ran σ ks h x → (k : Call) (a : Answer) (y : Store) → outcome a y ≡ effect k x
+      → Ran σ (oneCall k ∷ ks) (event k a ∷ h) y
+  thenMany : {ks : List Action} {h : List Event} {x : Store} → Ran σ ks h x → (s : ℕ) (cs : List ℕ) (words : ℕ) (r : Reads) → r ≡ readMany s cs words x
+      → Ran σ (manyReads s cs words ∷ ks) (readsEvent s cs words (r .values) (r .last) ∷ h) (r .store)
 
--- what code answered, and the store that it left, of a list of calls in their order: those of the model, and demand 3 holds of them; `demand3-of-code` proves
+-- what code answered, and the store that it left, of a list of actions in their order: those of the model, and demand 3 holds of them; `demand3-of-code` proves
 -- it of what a set-up answered 100 left
-pub record Demand3OfCode (σ : Store) (calls : List Call) (h : List Event) (τ : Store) : Type 0 where
-  pub events : h ≡ events σ (reverse calls)
-  pub left : τ ≡ run σ (reverse calls)
+pub record Demand3OfCode (σ : Store) (actions : List Action) (h : List Event) (τ : Store) : Type 0 where
+  pub events : h ≡ events σ (reverse actions)
+  pub left : τ ≡ run σ (reverse actions)
   pub isolated : Isolated (σ .lent .values) (told [] h)
-  pub locks : HoldsAtCommit [] σ (reverse calls)
+  pub locks : HoldsAtCommit [] σ (reverse actions)

@@ -4,13 +4,16 @@ pub mod Buffers
 pub mod Plans
 pub mod Effects
 pub mod Step
+pub mod ManyReads
 pub mod Told
 pub mod History
 pub mod Computing
 pub mod Isolation
+pub mod SingleReads
 pub mod Caps
 pub mod Serial
 pub mod Orders
+pub mod Rounds
 pub mod Cases
 pub mod SetUpCases
 pub mod Anomalies

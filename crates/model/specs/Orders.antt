@@ -1,4 +1,4 @@
--- The starred orders of document 01, "Orders to try": a row for each star. proofs/Orders.antt proves the table by computation.
+-- The starred orders of document 01, "Orders to try": a row for each star. proofs/Orders.antt proves the table by computation; Rounds.antt has orders with many reads.
 use Prim.Native.Nat.{ℕ}
 use mathlib.Core.List.{List, [], _∷_}
 use lib.ListN.{length, replicate}
@@ -23,19 +23,22 @@ pub record Result : Type 0 where
   pub answers : List Answer
   pub ends : List ℕ
 
--- the store handed to set-up: locks and logs with something left in them
-unfoldable pub given : Row → Store
-given r =
-    let n = length (r .values) in
+-- the store handed to set-up: values, classes, and locks and logs with something left in them
+abbrev pub handed : List ℕ → List ℕ → Store
+handed values classes =
+    let n = length values in
     record {
       lent = record {
-        values = r .values;
-        classes = r .classes;
+        values = values;
+        classes = classes;
         locks = record { readers = replicate n 5; claimants = replicate n 2; exclusives = replicate n 1 };
         logs = replicate 2048 7;
       };
       sessions = record { records = replicate 16 (record { phase = 3; count = 9; next = 1 }) };
     }
+
+unfoldable pub given : Row → Store
+given r = handed (r .values) (r .classes)
 
 unfoldable pub answersFrom : Store → List Call → List Answer
 answersFrom σ [] = []

@@ -6,10 +6,9 @@ use mathlib.Core.Bool.{true, false, cond}
 use mathlib.Core.List.{List, [], _∷_}
 use lib.Dec.{eqb}
 use lib.ListN.{getD, set}
-use Rattle.model.specs.declared.Call.{Call}
 use Rattle.model.specs.declared.Answer.{Answer}
 use Rattle.model.specs.Buffers.{Store}
-use Rattle.model.specs.History.{Event, tellsOf, run, events, Item, told, history, Name, transaction, isOpen}
+use Rattle.model.specs.History.{Action, Event, tellsOf, run, events, Item, told, history, Name, transaction, isOpen}
 use Rattle.model.specs.Isolation.{All}
 use Rattle.model.specs.Effects.{number}
 use Rattle.model.specs.Told.{Told, began, got, put, sealed, moved, ended, begins, WhereGot}
@@ -62,8 +61,8 @@ ReadsSerially first (e ∷ h) = ReadsSerially first h × All (WhereGot (λ c v. 
 abbrev pub Undisturbed : Answer → Type 0
 Undisturbed a = ((number a ≡ 6) → ⊥) × ((number a ≡ 104) → ⊥)
 
--- of a list of calls, the newest first, from the store σ; `serially-equal` proves it of what a set-up answered 100 left, where `OneAtATime` holds
-pub record SeriallyEqual (σ : Store) (ks : List Call) : Type 0 where
+-- of a list of actions, the newest first, from the store σ; `serially-equal` proves it of what a set-up answered 100 left, where `OneAtATime` holds
+pub record SeriallyEqual (σ : Store) (ks : List Action) : Type 0 where
   pub reads : ReadsSerially (σ .lent .values) (events σ ks)
   pub left : NoneOpen (history [] σ ks) → run σ ks .lent .values ≡ serial (σ .lent .values) (events σ ks) .values
   pub undisturbed : All (λ (e : Event). Undisturbed (e .answer)) (events σ ks)

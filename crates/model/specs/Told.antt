@@ -2,7 +2,7 @@
 -- answers, only what is told here. A call added later says here what it tells.
 use Prim.Native.Nat.{ℕ}
 use mathlib.Core.Bool.{Bool, true, false, cond, _||_}
-use mathlib.Core.List.{List, [], _∷_}
+use mathlib.Core.List.{List, [], _∷_, _++_}
 use lib.Dec.{eqb}
 use Rattle.model.specs.declared.Call.{Call}
 use Rattle.model.specs.declared.Call.the-variants.{Begin, Read, Write, Seal, Advance, Abandon, Peek}
@@ -32,6 +32,13 @@ tells (Seal s) a = cond (eqb (number a) 102) (sealed ∷ []) (cond (eqb (number 
 tells (Advance s) a = cond (eqb (number a) 103) (moved ∷ []) (ending a)
 tells (Abandon s) a = cond (eqb (number a) 100) (ended ∷ []) (ending a)
 tells (Peek s c) a = ending a
+
+-- what many reads of cells tell by the values that they obtained and their last answer, the newest first: as much as these reads would tell one by one, and nothing
+-- where the list was refused (`as-single-reads` and `refused-tell` in proofs/ManyReads.antt)
+unfoldable pub readsTell : List ℕ → List ℕ → Answer → List Told
+readsTell [] vs a = ending a
+readsTell (c ∷ cs) [] a = ending a
+readsTell (c ∷ cs) (v ∷ vs) a = readsTell cs vs a ++ got c v ∷ []
 
 -- ---- one test for each kind of thing told
 

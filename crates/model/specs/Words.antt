@@ -9,7 +9,7 @@ use Rattle.model.specs.declared.Call.the-variants.{Begin, Read, Write, S
 use Rattle.model.specs.declared.Answer.{Answer}
 use Rattle.model.specs.declared.Answer.the-variants.{Done, Value, Sealed, Moved, Waiting, Committed, Refused}
 use Rattle.model.specs.Buffers.{Store, idle}
-use Rattle.model.specs.History.{Event, event, Item, item, told, Name, name, transaction, isOpen, wrote, valueWritten, readsBeforeWriting, snapshot, commit, committed}
+use Rattle.model.specs.History.{Event, event, readsEvent, Item, item, told, Name, name, transaction, isOpen, wrote, valueWritten, readsBeforeWriting, snapshot, commit, committed}
 use Rattle.model.specs.Serial.{Serial, serial}
 use Rattle.model.specs.Told.{Told, began, got, put, sealed, moved, ended, ReadOf}
 
@@ -37,6 +37,28 @@ tellings =
     ∷ telling (Abandon 1) Done (ended ∷ []) ∷ telling (Abandon 1) (Refused 2) [] ∷ telling (Abandon 1) (Refused 6) (ended ∷ [])
     -- a peek gets nothing as read does
     ∷ telling (Peek 1 2) Done [] ∷ telling (Peek 1 2) (Refused 14) [] ∷ telling (Peek 1 2) (Refused 6) (ended ∷ [])
+    ∷ []
+
+-- ---- what many reads tell, by the cells, the values obtained and the last answer
+
+pub record ReadsTelling : Type 0 where
+  pub cells : List ℕ
+  pub values : List ℕ
+  pub answer : Answer
+  pub told : List Told
+
+abbrev readsTelling : List ℕ → List ℕ → Answer → List Told → ReadsTelling
+readsTelling cs vs a ws = record { cells = cs; values = vs; answer = a; told = ws }
+
+unfoldable pub readsTellings : List ReadsTelling
+readsTellings =
+    -- the newest first: the last cell's value, and before it the first's
+    readsTelling (2 ∷ 0 ∷ []) (7 ∷ 3 ∷ []) (Value 3) (got 0 3 ∷ got 2 7 ∷ []) ∷ readsTelling (1 ∷ []) (5 ∷ []) (Value 5) (got 1 5 ∷ [])
+    -- stopped by 6: the values, and after them the end; by 3 and by 5 no end
+    ∷ readsTelling (2 ∷ 0 ∷ 1 ∷ 3 ∷ []) (7 ∷ 3 ∷ []) (Refused 6) (ended ∷ got 0 3 ∷ got 2 7 ∷ []) ∷ readsTelling (2 ∷ 0 ∷ []) [] (Refused 6) (ended ∷ [])
+    ∷ readsTelling (2 ∷ 9 ∷ 1 ∷ []) (7 ∷ []) (Refused 3) (got 2 7 ∷ []) ∷ readsTelling (2 ∷ 0 ∷ []) (7 ∷ []) (Refused 5) (got 2 7 ∷ []) ∷ readsTelling (2 ∷ 0 ∷ []) [] (Refused 2) []
+    -- refused as a whole
+    ∷ readsTelling [] [] (Refused 15) [] ∷ readsTelling (replicate 33 2) [] (Refused 15) [] ∷ readsTelling (2 ∷ 0 ∷ []) [] (Refused 13) []
     ∷ []
 
 -- ---- what is read of a transaction
@@ -110,6 +132,16 @@ rows =
     -- each read counts, also after a write to another cell; a peek does not
     ∷ row (event (Begin 0) Done ∷ event (Read 0 1) (Value 5) ∷ event (Write 0 0 4) Done ∷ event (Peek 0 1) Done ∷ event (Read 0 1) (Value 7) ∷ []) (name 1 0)
     (word true true false 4 0 (read 1 7 ∷ read 1 5 ∷ []) 0 0 false)
+    -- the values of many reads are reads before writing, and have one place: the seal after them is at place 3
+    ∷ row (event (Begin 0) Done ∷ readsEvent 0 (0 ∷ 1 ∷ []) 2 (3 ∷ 5 ∷ []) (Value 5) ∷ event (Seal 0) Committed ∷ []) (name 1 0)
+    (word false false false 0 0 (read 1 5 ∷ read 0 3 ∷ []) 3 3 true)
+    -- but not that of a cell that it wrote
+    ∷ row (event (Begin 0) Done ∷ event (Write 0 0 4) Done ∷ readsEvent 0 (0 ∷ 1 ∷ 0 ∷ []) 3 (4 ∷ 5 ∷ 4 ∷ []) (Value 4) ∷ []) (name 1 0)
+    (word true true false 4 0 (read 1 5 ∷ []) 0 0 false)
+    -- an answer 6 to them ends it, after the values that were obtained; 3 does not, nor do another session's reads
+    ∷ row (event (Begin 0) Done ∷ readsEvent 0 (0 ∷ 1 ∷ []) 2 (3 ∷ []) (Refused 6) ∷ event (Write 0 1 4) Done ∷ []) (name 1 0) (word false false false 0 0 (read 0 3 ∷ []) 0 0 false)
+    ∷ row (event (Begin 0) Done ∷ readsEvent 0 (0 ∷ 2 ∷ []) 2 (3 ∷ []) (Refused 3) ∷ event (Write 0 1 4) Done ∷ readsEvent 1 (0 ∷ 1 ∷ []) 2 (7 ∷ []) (Refused 6) ∷ []) (name 1 0)
+    (word true false true 0 4 (read 0 3 ∷ []) 0 0 false)
     -- 104 does not count towards the commit, nor does an answer 103 after it change it; another session's calls are not its own
     ∷ row (event (Begin 0) Done ∷ event (Begin 1) Done ∷ event (Write 0 0 4) Done ∷ event (Write 1 1 2) Done ∷ event (Write 0 1 5) Done ∷ event (Seal 0) Sealed
     ∷ event (Advance 0) Waiting ∷ event (Advance 0) Moved ∷ event (Advance 1) Moved ∷ event (Advance 0) Moved ∷ event (Advance 0) Moved ∷ []) (name 1 0)
@@ -158,6 +190,9 @@ serialRows =
     -- an abandoned draft is gone with the next begin
     ∷ serialRow (event (Begin 0) Done ∷ event (Write 0 1 4) Done ∷ event (Abandon 0) Done ∷ event (Begin 1) Done ∷ event (Read 1 1) (Value 5)
     ∷ event (Seal 1) Committed ∷ []) (3 ∷ 5 ∷ []) (3 ∷ 5 ∷ [])
+    -- many reads leave both as they are, also those that a conflict stops
+    ∷ serialRow (event (Begin 0) Done ∷ event (Write 0 1 4) Done ∷ readsEvent 0 (1 ∷ 0 ∷ []) 2 (4 ∷ 3 ∷ []) (Value 3) ∷ []) (3 ∷ 5 ∷ []) (3 ∷ 4 ∷ [])
+    ∷ serialRow (event (Begin 0) Done ∷ event (Write 0 1 4) Done ∷ readsEvent 0 (1 ∷ 0 ∷ []) 2 (4 ∷ []) (Refused 6) ∷ []) (3 ∷ 5 ∷ []) (3 ∷ 4 ∷ [])
     ∷ []
 
 -- ---- histories and stores that a claim holds of, or does not

@@ -3,7 +3,7 @@
 ghost use mathlib.Core.Path.{_≡_};
 ghost use Prim.Native.Nat.{suc, _<_};
 ghost use lib.ListN.{replicate};
-ghost use Rattle.model.specs.Buffers.{idle, running, withEntry, moveTo};
+ghost use Rattle.model.specs.Buffers.{idle, running, withEntry, withEntries, moveTo};
 ghost use Rattle.model.specs.Effects.{number, valueOf};
 ghost use Rattle.model.specs.Step.{sessionOf};
 
@@ -154,6 +154,14 @@ pub struct SessionReply {
     pub session: Session,
 }
 
+// What many reads reply: the last answer's number, how many values were obtained, and the record.
+#[repr(C)]
+pub struct ReadManyReply {
+    pub number: u32,
+    pub count: u32,
+    pub session: Session,
+}
+
 // A call's answer and the records that it hands back.
 pub struct Reply {
     pub answer: Answer,
@@ -191,6 +199,17 @@ impl Session {
         Session {
             phase: self.phase,
             count: self.count + 1,
+            next: self.next,
+        }
+    }
+
+    // So many entries in all.
+    pub fn with_entries(self, count: u8) -> Session
+        ensures { λ r. ⌜ r ≡ withEntries count self ⌝ }
+    {
+        Session {
+            phase: self.phase,
+            count,
             next: self.next,
         }
     }

@@ -1,15 +1,17 @@
--- The claim judges: a lost update, a dirty read, a broken snapshot and a read ahead do not meet it; write skew does. Each is computed; the last is the theorem's.
+-- The claim judges: a lost update, a dirty read, a broken snapshot, a read ahead and a stale value among many reads do not meet it; write skew does. Each is
+-- computed; what is accepted is the theorem's.
 use Prim.Native.Nat.{_<_}
 use native.Mathlib.Omega.{arith}
-use mathlib.Core.Path.{_≡_, refl, ap}
+use mathlib.Core.Path.{_≡_, refl, ap, subst}
 use mathlib.Core.Logic.{_⊎_, inl, inr}
-use mathlib.Core.Bool.{Bool, true, false, not, _&&_}
-use mathlib.Core.List.{List, [], _∷_, reverse}
+use mathlib.Core.Bool.{Bool, true, false, not, _&&_, _||_}
+use mathlib.Core.List.{List, [], _∷_, _++_, reverse}
 use lib.Dec.{leb, eqb}
 use borrow.Author.Tests.{le-leb}
-use Rattle.model.specs.Anomalies.{lostUpdate, dirtyRead, brokenSnapshot, readAhead}
+use Rattle.model.specs.declared.Call.the-variants.{Begin, Write, Seal, Advance}
+use Rattle.model.specs.Anomalies.{lostUpdate, dirtyRead, brokenSnapshot, readAhead, readTogether}
 use Rattle.model.specs.Computing.{computing, counting}
-use Rattle.model.specs.History.{Item, told, history, Name, name, transaction, isOpen, wrote, valueWritten, snapshot, commit, committed}
+use Rattle.model.specs.History.{Action, oneCall, manyReads, asActions, Event, events, Item, told, history, Name, name, transaction, isOpen, wrote, valueWritten, snapshot, commit, committed}
 use Rattle.model.specs.Isolation.{Last, lastCommit, noCommit, Isolated}
 use Rattle.model.specs.Orders.{given, skew, skewUnsealed}
 use Rattle.model.specs.Step.{setUp}
@@ -17,7 +19,7 @@ use Rattle.model.proofs.Demand3.{demand3}
 use Rattle.model.proofs.Names.{committed-in}
 use Rattle.model.proofs.Tools.{clash}
 
--- ---- the four
+-- ---- four of single calls
 
 -- two writers of cell 0 whose spans meet
 pub lost-update-refused : Isolated (3 ∷ 5 ∷ []) (told [] lostUpdate) → ⊥
@@ -72,10 +74,38 @@ read-ahead-refused i = go (i .reads (name 1 0) refl .0)
         (not-both (wrote (transaction x (told [] readAhead)) 1) (leb (commit 2 (transaction x (told [] readAhead))) 7) (c .wrote)
         (le-leb (commit 2 (transaction x (told [] readAhead))) 7 (omega (arith, c .before))))
 
+-- ---- many reads
+
+-- of cell 1 the last commit's value is 6
+pub stale-together-refused : Isolated (3 ∷ 5 ∷ []) (told [] (readTogether 5)) → ⊥
+unfolding readTogether counting
+stale-together-refused i = go (i .reads (name 11 1) refl .0)
+  where
+    six : Name → Bool
+    six x = not (wrote (transaction x (told [] (readTogether 5))) 1) || eqb (valueWritten (transaction x (told [] (readTogether 5))) 1) 6
+
+    go : Last (3 ∷ 5 ∷ []) (told [] (readTogether 5)) 1 13 5 → ⊥
+    go (noCommit non _) = non (name 1 0) (record { commits = refl; wrote = refl; before = omega arith })
+    go (lastCommit x c _ e) = clash (six x) (committed-in 2 six (told [] (readTogether 5)) refl x (c .commits)) (rw (c .wrote, e))
+
+-- the store answers 6, and the claim holds
+abbrev pub inOneCall : List Action
+inOneCall =
+    asActions (Begin 0 ∷ Write 0 0 4 ∷ Write 0 1 6 ∷ Seal 0 ∷ Advance 0 ∷ Advance 0 ∷ Advance 0 ∷ Advance 0 ∷ Advance 0 ∷ Advance 0 ∷ Begin 1 ∷ [])
+    ++ manyReads 1 (0 ∷ 1 ∷ []) 2 ∷ oneCall (Seal 1) ∷ []
+
+pub answers-together : events (setUp (given skew)) (reverse inOneCall) ≡ readTogether 6
+unfolding readTogether skew given computing counting
+answers-together = refl
+
+pub together-accepted : Isolated (3 ∷ 5 ∷ []) (told [] (readTogether 6))
+together-accepted =
+    subst (λ (h : List Event). Isolated (3 ∷ 5 ∷ []) (told [] h)) answers-together (unfold skew given computing in demand3 (given skew) refl inOneCall .isolated)
+
 -- ---- write skew
 
 abbrev pub skewed : List Item
-skewed = history [] (setUp (given skew)) (reverse (skew .calls))
+skewed = history [] (setUp (given skew)) (reverse (asActions (skew .calls)))
 
 -- both transactions commit, with spans that meet
 pub skew-commits : (committed 2 (transaction (name 1 0) skewed) ≡ true) × (committed 2 (transaction (name 2 1) skewed) ≡ true)
@@ -87,12 +117,12 @@ skew-commits = (refl, refl, refl, refl, refl, refl)
 -- and the claim holds of them
 pub skew-accepted : Isolated (3 ∷ 5 ∷ []) skewed
 unfolding skew given computing
-skew-accepted = demand3 (given skew) refl (skew .calls) .isolated
+skew-accepted = demand3 (given skew) refl (asActions (skew .calls)) .isolated
 
 -- ---- a transaction that waits
 
 abbrev pub waited : List Item
-waited = history [] (setUp (given skewUnsealed)) (reverse (skewUnsealed .calls))
+waited = history [] (setUp (given skewUnsealed)) (reverse (asActions (skewUnsealed .calls)))
 
 -- it is open, has written cell 0 and is not committed: the claim says that it does not hold all its writer locks
 pub waiting-uncommitted : (isOpen (transaction (name 1 0) waited) ≡ true) × (committed 2 (transaction (name 1 0) waited) ≡ false)

@@ -12,7 +12,7 @@ use Rattle.model.specs.declared.Call.the-variants.{Begin, Read, Write, Seal, Ad
 use Rattle.model.specs.declared.Answer.the-variants.{Done, Value, Moved, Waiting, Refused}
 use Rattle.model.specs.Caps.{GotWithin, WithinCaps}
 use Rattle.model.specs.Computing.{computing, counting}
-use Rattle.model.specs.History.{event, Item, item, told, history, Name, name, transaction, wrote, valueWritten, cellsWritten, readsBeforeWriting}
+use Rattle.model.specs.History.{oneCall, manyReads, asActions, event, readsEvent, Item, item, told, history, Name, name, transaction, wrote, valueWritten, cellsWritten, readsBeforeWriting}
 use Rattle.model.specs.Isolation.{All, Commits, snapshotOf, commitOf, ToldAt, CommitsTo, Last, lastCommit, noCommit, Isolated, Holds, firsts, HoldsAtCommit, Demand3}
 use Rattle.model.specs.Serial.{serialStep, serial, NoneOpen, ReadsSerially, Undisturbed, SeriallyEqual}
 use Rattle.model.specs.Told.{began, got, put, sealed, moved, seals, moves, ReadOf}
@@ -135,16 +135,16 @@ unfolding midway computing
 holds-not = (λ h. eqb-false 0 1 refl (h .1), λ h. eqb-false 0 1 refl (h .0), λ h. eqb-false 16 1 refl (h .0))
 
 -- a commit without the claim, and one without the mark: the commit is an advance in phase 3
-pub commit-unclaimed : HoldsAtCommit toldSealed (midway 3 4 16 1) (Advance 1 ∷ []) → ⊥
+pub commit-unclaimed : HoldsAtCommit toldSealed (midway 3 4 16 1) (oneCall (Advance 1) ∷ []) → ⊥
 unfolding midway toldSealed firsts computing counting
 commit-unclaimed h = eqb-false 16 1 refl (h .withThis (name 0 1) refl 0 refl .0)
 
 -- the lock held later, when the same session runs again, does not count
-pub claimed-after-commit : HoldsAtCommit toldSealed (midway 3 4 16 1) (Advance 1 ∷ Seal 1 ∷ Write 1 0 4 ∷ Begin 1 ∷ Advance 1 ∷ Advance 1 ∷ []) → ⊥
+pub claimed-after-commit : HoldsAtCommit toldSealed (midway 3 4 16 1) (asActions (Advance 1 ∷ Seal 1 ∷ Write 1 0 4 ∷ Begin 1 ∷ Advance 1 ∷ Advance 1 ∷ [])) → ⊥
 unfolding midway toldSealed firsts computing counting
 claimed-after-commit h = eqb-false 16 1 refl (h .withThis (name 0 1) refl 0 refl .0)
 
-pub commit-unmarked : HoldsAtCommit toldSealed (midway 3 4 1 0) (Advance 1 ∷ []) → ⊥
+pub commit-unmarked : HoldsAtCommit toldSealed (midway 3 4 1 0) (oneCall (Advance 1) ∷ []) → ⊥
 unfolding midway toldSealed firsts computing counting
 commit-unmarked h = eqb-false 0 1 refl (h .withThis (name 0 1) refl 0 refl .1)
 
@@ -156,7 +156,7 @@ held-midway c w = subst (Holds (midway 2 4 1 1) 1) (eqb-true 0 c (only (eqb 0 c)
     only true h = refl
     only false h = h
 
-pub held-before-commit : HoldsAtCommit toldSealed (midway 2 4 1 1) (Advance 1 ∷ []) → ⊥
+pub held-before-commit : HoldsAtCommit toldSealed (midway 2 4 1 1) (oneCall (Advance 1) ∷ []) → ⊥
 unfolding midway toldSealed firsts computing counting
 held-before-commit h = h .notBefore (name 0 1) 0 refl (omega arith) (omega arith) 0 refl held-midway
 
@@ -167,16 +167,16 @@ held-uncommitted h = h .notUncommitted (name 0 1) refl refl 0 refl held-midway
 -- ---- demand 3
 
 -- what is told at the start counts: a value read there that is not the store's, by a transaction that then commits; and a commit without the claim
-pub read-at-start : Demand3 (toldRunning 9) (midway 1 4 16 0) (Seal 1 ∷ Advance 1 ∷ []) → ⊥
+pub read-at-start : Demand3 (toldRunning 9) (midway 1 4 16 0) (asActions (Seal 1 ∷ Advance 1 ∷ [])) → ⊥
 unfolding midway toldRunning computing counting
 read-at-start d = go (d .isolated .reads (name 0 1) refl .0)
   where
-    go : Last first (history (toldRunning 9) (midway 1 4 16 0) (Advance 1 ∷ Seal 1 ∷ [])) 0 1 9 → ⊥
+    go : Last first (history (toldRunning 9) (midway 1 4 16 0) (asActions (Advance 1 ∷ Seal 1 ∷ []))) 0 1 9 → ⊥
     go (noCommit _ e) = omega arith
     go (lastCommit x c _ _) =
-        omega (arith, c .before, ltb-true 0 (commitOf first (history (toldRunning 9) (midway 1 4 16 0) (Advance 1 ∷ Seal 1 ∷ [])) x) (c .commits))
+        omega (arith, c .before, ltb-true 0 (commitOf first (history (toldRunning 9) (midway 1 4 16 0) (asActions (Advance 1 ∷ Seal 1 ∷ []))) x) (c .commits))
 
-pub unclaimed-at-start : Demand3 toldSealed (midway 3 4 16 1) (Advance 1 ∷ []) → ⊥
+pub unclaimed-at-start : Demand3 toldSealed (midway 3 4 16 1) (oneCall (Advance 1) ∷ []) → ⊥
 unclaimed-at-start d = commit-unclaimed (d .locks)
 
 -- ---- caps
@@ -190,13 +190,17 @@ pub got-within-not : (GotWithin (midway 1 4 16 0) (item 3 0 (got 0 9)) → ⊥) 
 unfolding midway computing
 got-within-not = (λ l. let h : 9 ≤ 8 = l in omega arith, λ l. let h : 8 ≤ 6 = l in omega arith)
 
-pub stored-above : WithinCaps (midway 3 9 1 1) (Advance 1 ∷ []) → ⊥
+pub stored-above : WithinCaps (midway 3 9 1 1) (oneCall (Advance 1) ∷ []) → ⊥
 unfolding midway computing counting
 stored-above w = let h : 9 ≤ 8 = w .stored 0 in omega arith
 
-pub got-above : WithinCaps (midway 1 9 16 0) (Read 1 0 ∷ []) → ⊥
+pub got-above : WithinCaps (midway 1 9 16 0) (oneCall (Read 1 0) ∷ []) → ⊥
 unfolding midway computing counting
 got-above w = let h : 9 ≤ 8 = w .got .0 in omega arith
+
+pub got-above-many : WithinCaps (midway 1 9 16 0) (manyReads 1 (1 ∷ 0 ∷ []) 2 ∷ []) → ⊥
+unfolding midway computing counting
+got-above-many w = let h : 9 ≤ 8 = w .got .0 in omega arith
 
 -- ---- one after the other
 
@@ -219,16 +223,25 @@ pub reads-draft-not : ReadsSerially first (event (Read 0 0) (Value 3) ∷ event 
 unfolding counting serial serialStep
 reads-draft-not r = eqb-false 3 4 refl (r .1 .0)
 
+-- and so is each of many
+pub reads-draft-many : ReadsSerially first (readsEvent 0 (1 ∷ 0 ∷ []) 2 (5 ∷ 4 ∷ []) (Value 4) ∷ event (Write 0 0 4) Done ∷ event (Begin 0) Done ∷ [])
+unfolding counting serial serialStep
+reads-draft-many = (((tt, (tt, tt)), (tt, tt)), (refl, (refl, tt)))
+
+pub reads-draft-many-not : ReadsSerially first (readsEvent 0 (0 ∷ 1 ∷ []) 2 (3 ∷ 5 ∷ []) (Value 5) ∷ event (Write 0 0 4) Done ∷ event (Begin 0) Done ∷ []) → ⊥
+unfolding counting serial serialStep
+reads-draft-many-not r = eqb-false 3 4 refl (r .1 .1 .0)
+
 -- a value read that the serial store has not, an answer 6, and a value left that only an abandoned draft has
-pub reads-another : SeriallyEqual (midway 1 4 16 0) (Read 1 0 ∷ []) → ⊥
+pub reads-another : SeriallyEqual (midway 1 4 16 0) (oneCall (Read 1 0) ∷ []) → ⊥
 unfolding midway computing counting serial serialStep
 reads-another e = eqb-false 4 3 refl (e .reads .1 .0)
 
-pub disturbed : SeriallyEqual (midway 2 4 0 0) (Advance 1 ∷ []) → ⊥
+pub disturbed : SeriallyEqual (midway 2 4 0 0) (oneCall (Advance 1) ∷ []) → ⊥
 unfolding midway computing counting serial serialStep
 disturbed e = e .undisturbed .0 .0 refl
 
-pub leaves-another : SeriallyEqual (midway 3 4 16 1) (Advance 1 ∷ Abandon 0 ∷ Write 0 0 4 ∷ Begin 0 ∷ []) → ⊥
+pub leaves-another : SeriallyEqual (midway 3 4 16 1) (asActions (Advance 1 ∷ Abandon 0 ∷ Write 0 0 4 ∷ Begin 0 ∷ [])) → ⊥
 unfolding midway noneOpen computing counting serial serialStep
 leaves-another e =
     eqb-false 4 3 refl

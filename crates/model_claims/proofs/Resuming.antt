@@ -1,4 +1,4 @@
--- A start with transactions open. In every start each session is idle or runs; and whatever a list of calls leaves, if each session is idle or runs there,
+-- A start with transactions open. In every start each session is idle or runs; and whatever a list of actions leaves, if each session is idle or runs there,
 -- is again a start, with what its open transactions have told at place 0.
 use Prim.Native.Nat.{ℕ, zero, suc, _≤_, _<_}
 use native.Mathlib.Omega.{arith}
@@ -8,16 +8,15 @@ use mathlib.Core.List.{List, [], _∷_, _++_}
 use lib.Dec.{ltb, eqb}
 use lib.ListN.{length, List·getD-eq-default}
 use borrow.Author.Tests.{eq-eqb, ne-eqb, not-true, ltb-true, ltb-false}
-use Rattle.model.specs.declared.Call.{Call}
 use Rattle.model.specs.Buffers.{Store, idle, sessionAt}
-use Rattle.model.specs.History.{Item, item, run, history, Name, name, extend, transaction, isOpen, wrote, valueWritten, cellsWritten, readsBeforeWriting, snapshot, movesIn, moveNumber, commit, committed}
+use Rattle.model.specs.History.{Action, Item, item, run, history, Name, name, extend, transaction, isOpen, wrote, valueWritten, cellsWritten, readsBeforeWriting, snapshot, movesIn, moveNumber, commit, committed}
 use Rattle.model.specs.Isolation.{All, Demand3}
 use Rattle.model.specs.Search.{below}
 use Rattle.model.specs.Effects.{recordOf}
 use Rattle.model.specs.Told.{Told, seals, moves, ends}
 use Rattle.model.proofs.Demand3.{demand3-from}
 use Rattle.model.proofs.Effects.{idle-out, running-role}
-use Rattle.model.proofs.Invariant.{roleOf, role, latest, all-map, Running, Link, Shape, Inv}
+use Rattle.model.proofs.Invariant.{roleOf, role, latest, all-map, all-append, Running, Link, Shape, Inv}
 use Rattle.model.proofs.Laws.{below-is}
 use Rattle.model.proofs.Ledger.{Txn, Ledger}
 use Rattle.model.proofs.Matching.{name-is, cond-at, cond-off, Next, stays, grows, starts-here, next, In, Stands, Matches}
@@ -162,10 +161,6 @@ only x (i ∷ A) B e = same (i .session) (x .session)
     (λ s. own-step x i (A ++ B) s ∙ ap (extend (x .place) i) (only x A B e) ∙ sym (own-step x i A s))
     (λ d. other-step x i (A ++ B) d ∙ only x A B e ∙ sym (other-step x i A d))
 
-all-joined : (P : Item → Type 0) (A B : List Item) → All P A → All P B → All P (A ++ B)
-all-joined P [] B a b = b
-all-joined P (i ∷ A) B a b = (a .0, all-joined P A B (a .1) b)
-
 -- ---- each session idle or running
 
 -- past the sixteen a record reads as idle
@@ -240,7 +235,7 @@ module _ (h : List Item) (T : Ledger) where
   below-all : (P : Item → Type 0) → ((s : ℕ) → All P (openOf h T s)) → (k : ℕ) → All P (openBelow h T k)
   unfolding openBelow
   below-all P f zero = tt
-  below-all P f (suc s) = all-joined P (openOf h T s) (openBelow h T s) (f s) (below-all P f s)
+  below-all P f (suc s) = all-append P (openOf h T s) (openBelow h T s) (f s) (below-all P f s)
 
   of-own : (s : ℕ) → All (λ (i : Item). i .session ≡ s) (openOf h T s)
   of-own s =
@@ -386,8 +381,8 @@ module _ {first : List ℕ} {σ : Store} {T : Ledger} (I : Inv first σ T) (u : 
             ∙ ap (λ (x : Name). summary n (x .place) (transaction x (openItems h T))) (name-is 0 s x (sym e) refl))
             (λ l. absurd (clash (isOpen (transaction x (openItems h T))) o (rw (none-of h T x l))))
 
--- what calls leave of any start, where each session is idle or runs, is a start
-pub resumes : {φ : Store} {h₀ : List Item} {T₀ : Ledger} (R : Ready φ h₀ T₀) (ks : List Call) → NoneSealed (run φ ks)
+-- what actions leave of any start, where each session is idle or runs, is a start
+pub resumes : {φ : Store} {h₀ : List Item} {T₀ : Ledger} (R : Ready φ h₀ T₀) (ks : List Action) → NoneSealed (run φ ks)
     → Ready (run φ ks) (openItems (history h₀ φ ks) (ledger-of R ks)) (restart (ledger-of R ks))
 resumes {φ} {h₀} R ks u =
     let I = inv-run R ks in
@@ -399,7 +394,7 @@ resumes {φ} {h₀} R ks u =
       commits = refl;
     }
 
--- and demand 3 holds of every list of calls from there
-pub demand3-resumed : {φ : Store} {h₀ : List Item} {T₀ : Ledger} (R : Ready φ h₀ T₀) (ks : List Call) → NoneSealed (run φ ks)
-    → (calls : List Call) → Demand3 (openItems (history h₀ φ ks) (ledger-of R ks)) (run φ ks) calls
+-- and demand 3 holds of every list of actions from there
+pub demand3-resumed : {φ : Store} {h₀ : List Item} {T₀ : Ledger} (R : Ready φ h₀ T₀) (ks : List Action) → NoneSealed (run φ ks)
+    → (actions : List Action) → Demand3 (openItems (history h₀ φ ks) (ledger-of R ks)) (run φ ks) actions
 demand3-resumed R ks u = demand3-from (resumes R ks u)

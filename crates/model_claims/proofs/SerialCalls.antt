@@ -1,23 +1,25 @@
--- Each call meets the serial store's step: a call on a store whose ledger the serial store follows is answered as the serial store has it, and the
--- serial store goes on to follow. By the plan of the call: each plan's answer is one piece of news, and nobody else is in the way of any.
+-- Each action meets the serial store's step: an action on a store whose ledger the serial store follows is answered as the serial store has it, and the
+-- serial store goes on to follow. By the plan of each call: each plan's answer is one piece of news, and nobody else is in the way of any.
 use Prim.Native.Nat.{ℕ, suc, _<_}
 use native.Mathlib.Omega.{arith}
 use mathlib.Core.Path.{_≡_, refl, sym, _∙_}
 use mathlib.Core.Bool.{Bool, true, false, cond, not, _&&_, _||_}
 use mathlib.Core.Option.{none}
-use mathlib.Core.List.{List}
+use mathlib.Core.List.{List, [], _∷_}
 use lib.Dec.{leb, ltb, eqb}
 use lib.ListN.{length, getD}
 use borrow.Author.Tests.{eqb-true, eqb-false, eq-eqb, leb-true, not-true}
 use Rattle.model.specs.declared.Call.{Call}
 use Rattle.model.specs.declared.Call.the-variants.{Begin, Read, Write, Seal, Advance, Abandon, Peek}
 use Rattle.model.specs.declared.Answer.{Answer}
-use Rattle.model.specs.declared.Answer.the-variants.{Done, Value, Sealed, Moved, Committed}
+use Rattle.model.specs.declared.Answer.the-variants.{Done, Value, Sealed, Moved, Committed, Refused}
 use Rattle.model.specs.declared.Plan.{Plan}
 use Rattle.model.specs.declared.Plan.the-variants.{Refuse, Start, Enter, EnterUpdate, Cancel}
 use Rattle.model.specs.Buffers.{Store, size, entryAt, slotIn, targetIn, lockAt, cap}
+use Rattle.model.specs.History.{Action, oneCall, manyReads, actor, Event, event, readsEvent, tellsOf, eventOf}
 use Rattle.model.specs.Isolation.{All}
-use Rattle.model.specs.Serial.{Serial, serialStep, Undisturbed}
+use Rattle.model.specs.ManyReads.{readMany}
+use Rattle.model.specs.Serial.{Serial, drafted, draftedBy, serialStep, Undisturbed}
 use Rattle.model.specs.Readers.{otherReaders}
 use Rattle.model.specs.Search.{some?, tally}
 use Rattle.model.specs.Plans.{recordFits, guard, known, claimed, newCell, readSlot, writeSlot, writeCapped, sealTarget, promotePlan, advanceTarget, plan, admit}
@@ -26,10 +28,11 @@ use Rattle.model.specs.Step.{sessionOf, planOf, answerOf}
 use Rattle.model.specs.Told.{Told, ending, tells, begins, WhereGot}
 use Rattle.model.proofs.Advancing.{target-some}
 use Rattle.model.proofs.Effects.{slot-some}
-use Rattle.model.proofs.Invariant.{latest, Promoting, Finishing, Inv}
-use Rattle.model.proofs.Ledger.{closed, saw, sealedAt, advanced, Ledger, calm, starts, observe}
+use Rattle.model.proofs.Invariant.{latest, all-append, Promoting, Finishing, Inv}
+use Rattle.model.proofs.Ledger.{closed, saw, sealedAt, advanced, Ledger, calm, starts, hears, observe}
+use Rattle.model.proofs.ManyReads.{ByRead, value, end, read-by-read, reads-by-read}
 use Rattle.model.proofs.Passing.{choose, guarded, running-cell, cell-new}
-use Rattle.model.proofs.Preservation.{inside, inside-wrote, phase-le, runs, none-written}
+use Rattle.model.proofs.Preservation.{inside, inside-wrote, phase-le, runs, none-written, kept-with-inv}
 use Rattle.model.proofs.Quiet.{Quiet, refuses, peeks}
 use Rattle.model.proofs.Roles.{flip}
 use Rattle.model_claims.proofs.SerialLedger.{overlay, Follows, follows-tick, follows-calm, follows-rest, follows-start, follows-on, follows-commit, follows-end, follows-write}
@@ -37,24 +40,49 @@ use Rattle.model_claims.proofs.SerialLocks.{unlogged-out, no-readers, o
 use Rattle.model.proofs.Tools.{split, test, clash, both-l, both-r}
 use Rattle.model.proofs.View.{slot, look, target}
 
--- call k answered a, where the serial store z follows the ledger T: it goes on to follow, nobody was in the way, and a value got is the draft's
-pub record Serially (start : List ℕ) (T : Ledger) (z : Serial) (k : Call) (a : Answer) : Type 0 where
-  pub follows : Follows start (observe (length start) k a T) (serialStep (record { call = k; answer = a }) z)
-  pub undisturbed : Undisturbed a
-  pub read : All (WhereGot (λ c v. v ≡ getD (z .draft) c 0)) (tells k a)
+-- an event, where the serial store z follows the ledger T: it goes on to follow, nobody was in the way, and a value got is the draft's
+pub record Serially (start : List ℕ) (T : Ledger) (z : Serial) (e : Event) : Type 0 where
+  pub follows : Follows start (observe (length start) e T) (serialStep e z)
+  pub undisturbed : Undisturbed (e .answer)
+  pub read : All (WhereGot (λ c v. v ≡ getD (z .draft) c 0)) (tellsOf e)
 
 -- an answer neither 6 nor 104
 module _ {start : List ℕ} {T : Ledger} {z : Serial} (k : Call) (a : Answer) where
   answered : eqb (number a) 6 ≡ false → eqb (number a) 104 ≡ false → All (WhereGot (λ c v. v ≡ getD (z .draft) c 0)) (tells k a)
-      → Follows start (observe (length start) k a T) (serialStep (record { call = k; answer = a }) z) → Serially start T z k a
+      → Follows start (observe (length start) (event k a) T) (serialStep (event k a) z) → Serially start T z (event k a)
   answered x y r f = record { follows = f; undisturbed = (eqb-false (number a) 6 x, eqb-false (number a) 104 y); read = r }
+
+-- reads, which others may follow at their place: the ledger then, what they told, and the last answer
+record Reading (start : List ℕ) (U : Ledger) (z : Serial) (ws : List Told) (a : Answer) : Type 0 where
+  follows : Follows start U z
+  undisturbed : Undisturbed a
+  not-105 : eqb (number a) 105 ≡ false
+  read : All (WhereGot (λ c v. v ≡ getD (z .draft) c 0)) ws
+
+-- they leave the serial store as it is
+drafted-reads : (ws : List Told) (z : Serial) → All ByRead ws → draftedBy ws z ≡ z
+drafted-reads [] z a = refl
+drafted-reads (w ∷ ws) z a = single w (draftedBy ws z) (a .0) ∙ drafted-reads ws z (a .1)
+  where
+    single : (w : Told) (z : Serial) → ByRead w → drafted w z ≡ z
+    single w z (value c v) = refl
+    single w z end = refl
+
+reads-serially : {start : List ℕ} {T : Ledger} {z : Serial} (e : Event) → All ByRead (tellsOf e)
+    → Reading start (hears (length start) (actor (e .action)) (tellsOf e) (calm T)) z (tellsOf e) (e .answer) → Serially start T z e
+unfolding observe serialStep
+reads-serially {z} e b r =
+    record { follows = rw (r .not-105, drafted-reads (tellsOf e) z b) (follows-tick (r .follows)); undisturbed = r .undisturbed; read = r .read }
 
 module _ {start : List ℕ} {σ : Store} {T : Ledger} {z : Serial} (I : Inv start σ T) (F : Follows start T z) where
   G : Follows start (calm T) z
   G = follows-calm F
 
   abbrev Fine : Call → Plan → Type 0
-  Fine k p = Serially start T z k (answer (sessionOf k) p σ)
+  Fine k p = Serially start T z (event k (answer (sessionOf k) p σ))
+
+  abbrev ReadFine : ℕ → ℕ → Plan → Type 0
+  ReadFine s c p = let ws = tells (Read s c) (answer s p σ) in Reading start (hears (length start) s ws (calm T)) z ws (answer s p σ)
 
   -- ---- what tells nothing
 
@@ -71,12 +99,11 @@ module _ {start : List ℕ} {σ : Store} {T : Ledger} {z : Serial} (I : Inv star
   passing k fits p f =
       guarded (Fine k) (σ .lent) (sessionOf k) (recordOf σ (sessionOf k)) fits p (refused 7 refl k) (refused 1 refl k) (refused 9 refl k) (refused 2 refl k) f
 
-  on-cell : (k : Call) (c : ℕ) (p : Plan) → let s = sessionOf k in
-      (recordOf σ s .phase ≡ 1 → c < length start → Fine k p) → Fine k (admit (σ .lent) s (guard (size (σ .lent)) (logOf σ s) (recordOf σ s) (eqb (recordOf σ s .phase) 1) (known (size (σ .lent)) c p)))
+  on-cell : (P : Plan → Type 0) → ((r : ℕ) → (ltb r 100 && not (eqb r 6)) ≡ true → P (Refuse r)) → (s c : ℕ) (p : Plan)
+      → (recordOf σ s .phase ≡ 1 → c < length start → P p) → P (admit (σ .lent) s (guard (size (σ .lent)) (logOf σ s) (recordOf σ s) (eqb (recordOf σ s .phase) 1) (known (size (σ .lent)) c p)))
   unfolding size
-  on-cell k c p f =
-      running-cell (Fine k) (σ .lent) (sessionOf k) (recordOf σ (sessionOf k)) c p (refused 7 refl k) (refused 1 refl k) (refused 9 refl k) (refused 2 refl k)
-      (refused 3 refl k) (λ _ ph l. f ph (omega (arith, I .shape .values)))
+  on-cell P r s c p f =
+      running-cell P (σ .lent) s (recordOf σ s) c p (r 7 refl) (r 1 refl) (r 9 refl) (r 2 refl) (r 3 refl) (λ _ ph l. f ph (omega (arith, I .shape .values)))
 
   -- ---- one session has a transaction open
 
@@ -84,30 +111,37 @@ module _ {start : List ℕ} {σ : Store} {T : Ledger} {z : Serial} (I : Inv star
   alone s l u n = flip (T .mine u .live) (λ h. n (F .alone s u l h))
 
   -- a new cell of a running session: nobody claims it
-  on-new : (k : Call) (c : ℕ) (p : Plan) → let s = sessionOf k in
-      recordOf σ s .phase ≡ 1 → c < length start → slot σ s c ≡ none → Fine k p → Fine k (newCell (recordOf σ s) (lockAt (σ .lent .locks) c) p)
-  on-new k c p ph lc new f =
-      let s = sessionOf k in
+  on-new : (P : Plan → Type 0) → P (Refuse 5) → (s c : ℕ) (p : Plan)
+      → recordOf σ s .phase ≡ 1 → c < length start → slot σ s c ≡ none → P p → P (newCell (recordOf σ s) (lockAt (σ .lent .locks) c) p)
+  on-new P r5 s c p ph lc new f =
       let a = alone s (runs I s ph .live) in
-      cell-new (Fine k) (recordOf σ s) (lockAt (σ .lent .locks) c) p (refused 5 refl k)
+      cell-new P (recordOf σ s) (lockAt (σ .lent .locks) c) p r5
       (λ n. absurd (own-claim I s a c lc n .1 (unlogged-out σ s c new))) (λ _ _. f)
 
-  read-fine : (s c : ℕ) → Fine (Read s c) (planOf (Read s c) σ)
-  unfolding planOf plan readSlot answer observe tells ending serialStep slot
+  read-refused : (s c r : ℕ) → (ltb r 100 && not (eqb r 6)) ≡ true → ReadFine s c (Refuse r)
+  read-refused s c r small =
+      let q = refuses (Read s c) σ r small in
+      let a = answer s (Refuse r) σ in
+      record { follows = rw (q .told) G; undisturbed = (eqb-false (number a) 6 (q .not-6), eqb-false (number a) 104 (q .not-104)); not-105 = q .not-105; read = rw (q .told) tt }
+
+  read-fine : (s c : ℕ) → ReadFine s c (planOf (Read s c) σ)
+  unfolding planOf plan readSlot answer tells ending slot
   read-fine s c =
-      on-cell (Read s c) c (readSlot (logOf σ s) (recordOf σ s) (lockAt (σ .lent .locks) c) c (slotIn (logOf σ s) (recordOf σ s .count) c))
+      on-cell (ReadFine s c) (read-refused s c) s c (readSlot (logOf σ s) (recordOf σ s) (lockAt (σ .lent .locks) c) c (slotIn (logOf σ s) (recordOf σ s .count) c))
       (λ ph lc.
       let a = alone s (runs I s ph .live) in
-      choose (Fine (Read s c)) (readSlot (logOf σ s) (recordOf σ s) (lockAt (σ .lent .locks) c) c) (slot σ s c)
-      (λ p. on-new (Read s c) c (Enter c) ph lc p (told ph lc (getD (σ .lent .values) c 0) (reads-store I s a c lc ph p)))
+      choose (ReadFine s c) (readSlot (logOf σ s) (recordOf σ s) (lockAt (σ .lent .locks) c) c) (slot σ s c)
+      (λ p. on-new (ReadFine s c) (read-refused s c 5 refl) s c (Enter c) ph lc p (told ph lc (getD (σ .lent .values) c 0) (reads-store I s a c lc ph p)))
       (λ j p. told ph lc (entryAt (logOf σ s) j .current) (reads-entry I s a c lc ph (entryAt (logOf σ s) j) (slot-some σ s c p))))
     where
-      told : recordOf σ s .phase ≡ 1 → c < length start → (v : ℕ) → v ≡ overlay (T .mine s) (latest start (T .commits)) c → Serially start T z (Read s c) (Value v)
+      told : recordOf σ s .phase ≡ 1 → c < length start → (v : ℕ) → v ≡ overlay (T .mine s) (latest start (T .commits)) c → let ws = tells (Read s c) (Value v) in
+          Reading start (hears (length start) s ws (calm T)) z ws (Value v)
       told ph lc v e =
           let r = runs I s ph in
           record {
-            follows = follows-tick (follows-on G s (r .live) (saw c v) (r .live) refl refl (λ d. d));
+            follows = follows-on G s (r .live) (saw c v) (r .live) refl refl (λ d. d);
             undisturbed = (λ e. omega arith, λ e. omega arith);
+            not-105 = refl;
             read = (e ∙ sym (F .works s (r .live) .draft (r .open′) c lc), tt);
           }
 
@@ -115,16 +149,16 @@ module _ {start : List ℕ} {σ : Store} {T : Ledger} {z : Serial} (I : Inv star
   unfolding planOf plan writeCapped writeSlot answer observe tells ending serialStep slot
   write-fine s c v =
       let k = getD (σ .lent .classes) c 0 in
-      on-cell (Write s c v) c (cond (ltb k 16) (writeCapped (logOf σ s) (recordOf σ s) (lockAt (σ .lent .locks) c) c v (cap k)) (Refuse 8))
+      on-cell (Fine (Write s c v)) (λ r small. refused r small (Write s c v)) s c (cond (ltb k 16) (writeCapped (logOf σ s) (recordOf σ s) (lockAt (σ .lent .locks) c) c v (cap k)) (Refuse 8))
       (λ ph lc.
       split (Fine (Write s c v)) (ltb k 16)
       (λ _. split (Fine (Write s c v)) (leb v (cap k))
       (λ _. choose (Fine (Write s c v)) (writeSlot (recordOf σ s) (lockAt (σ .lent .locks) c) c v) (slot σ s c)
-      (λ p. on-new (Write s c v) c (EnterUpdate c v) ph lc p (wrote ph lc)) (λ j p. wrote ph lc))
+      (λ p. on-new (Fine (Write s c v)) (refused 5 refl (Write s c v)) s c (EnterUpdate c v) ph lc p (wrote ph lc)) (λ j p. wrote ph lc))
       (λ _. refused 4 refl (Write s c v)))
       (λ _. refused 8 refl (Write s c v)))
     where
-      wrote : recordOf σ s .phase ≡ 1 → c < length start → Serially start T z (Write s c v) Done
+      wrote : recordOf σ s .phase ≡ 1 → c < length start → Serially start T z (event (Write s c v) Done)
       wrote ph lc = let r = runs I s ph in answered (Write s c v) Done refl refl (tt, tt) (follows-tick (follows-write G s (r .live) c v lc (r .open′)))
 
   seal-fine : (s : ℕ) → Fine (Seal s) (planOf (Seal s) σ)
@@ -155,14 +189,14 @@ module _ {start : List ℕ} {σ : Store} {T : Ledger} {z : Serial} (I : Inv star
       let r : Promoting start (T .commits) (T .place) (recordOf σ s .next) (look σ s) (T .mine s) = rw ph at (I .link s) in
       gave-up (r .live) (r .open′)))
     where
-      gave-up : T .mine s .live ≡ true → T .mine s .done ≡ false → Serially start T z (Abandon s) Done
+      gave-up : T .mine s .live ≡ true → T .mine s .done ≡ false → Serially start T z (event (Abandon s) Done)
       gave-up l d = answered (Abandon s) Done refl refl (tt, tt) (follows-tick (follows-end G s l d))
 
   -- where a begin is told, no transaction is open
   abbrev Alone : List Told → Type 0
   Alone ws = All (λ (w : Told). begins w ≡ true → (u : ℕ) → T .mine u .live ≡ false) ws
 
-  begin-fine : (s : ℕ) → Alone (tells (Begin s) (answerOf (Begin s) σ)) → Serially start T z (Begin s) (answerOf (Begin s) σ)
+  begin-fine : (s : ℕ) → Alone (tells (Begin s) (answerOf (Begin s) σ)) → Serially start T z (event (Begin s) (answerOf (Begin s) σ))
   unfolding answerOf planOf plan answer observe tells ending starts serialStep
   begin-fine s =
       guarded (λ p. Alone (tells (Begin s) (answer s p σ)) → Fine (Begin s) p)
@@ -198,18 +232,35 @@ module _ {start : List ℕ} {σ : Store} {T : Ledger} {z : Serial} (I : Inv star
       let b = eqb-false (recordOf σ s .phase) 3 q′ in
       let ph : recordOf σ s .phase ≡ 4 = omega (arith, phase-le I s k) in
       let r : Finishing (T .mine s) = rw ph at (I .link s) in
-      split (Serially start T z (Advance s)) (some? (target σ s (suc c))) (λ _. moved (r .live))
+      split (λ (a : Answer). Serially start T z (event (Advance s) a)) (some? (target σ s (suc c))) (λ _. moved (r .live))
       (λ _. answered (Advance s) Committed refl refl (tt, tt) (follows-tick (follows-commit G s (r .live) closed refl refl refl (r .done))))))))
     where
-      moved : T .mine s .live ≡ true → Serially start T z (Advance s) Moved
+      moved : T .mine s .live ≡ true → Serially start T z (event (Advance s) Moved)
       moved l = answered (Advance s) Moved refl refl (tt, tt) (follows-tick (follows-on G s l (advanced (length start) (T .place)) l refl refl (λ d. rw d)))
 
-  pub serially : (k : Call) → Alone (tells k (answerOf k σ)) → Serially start T z k (answerOf k σ)
+  serially-call : (k : Call) → Alone (tells k (answerOf k σ)) → Serially start T z (event k (answerOf k σ))
   unfolding answerOf planOf
-  serially (Begin s) b = begin-fine s b
-  serially (Read s c) b = read-fine s c
-  serially (Write s c v) b = write-fine s c v
-  serially (Seal s) b = seal-fine s
-  serially (Advance s) b = advance-fine s
-  serially (Abandon s) b = abandon-fine s
-  serially (Peek s c) b = quiet (Peek s c) _ (peeks σ s c)
+  serially-call (Begin s) b = begin-fine s b
+  serially-call (Read s c) b = reads-serially (event (Read s c) _) (read-by-read s c _) (read-fine s c)
+  serially-call (Write s c v) b = write-fine s c v
+  serially-call (Seal s) b = seal-fine s
+  serially-call (Advance s) b = advance-fine s
+  serially-call (Abandon s) b = abandon-fine s
+  serially-call (Peek s c) b = quiet (Peek s c) _ (peeks σ s c)
+
+-- ---- the actions
+
+module _ {start : List ℕ} {σ : Store} {T : Ledger} {z : Serial} (I : Inv start σ T) (F : Follows start T z) where
+  pub serially : (k : Action) → Alone I F (tellsOf (eventOf k σ)) → Serially start T z (eventOf k σ)
+  unfolding answerOf
+  serially (oneCall k) b = serially-call I F k b
+  serially (manyReads s cs words) b =
+      let still : (a : Answer) → Undisturbed a → eqb (number a) 105 ≡ false → Reading start (calm T) z [] a = λ a u n. record { follows = follows-calm F; undisturbed = u; not-105 = n; read = tt } in
+      let r = readMany s cs words σ in
+      reads-serially (readsEvent s cs words (r .values) (r .last)) (reads-by-read cs (r .values) (r .last))
+      (kept-with-inv I s (λ ws a U. Reading start U z ws a)
+      (λ ws _ τ _ J H c.
+      let r = read-fine J (H .follows) s c in
+      let us = tells (Read s c) (answerOf (Read s c) τ) in
+      record { follows = r .follows; undisturbed = r .undisturbed; not-105 = r .not-105; read = all-append (WhereGot (λ c v. v ≡ getD (z .draft) c 0)) us ws (r .read) (H .read) })
+      cs words (still (Refused 15) (λ e. omega arith, λ e. omega arith) refl) (still (Refused 13) (λ e. omega arith, λ e. omega arith) refl) (still Done (λ e. omega arith, λ e. omega arith) refl) .1)

@@ -1,16 +1,15 @@
--- The claim of Serial.antt meets two lists of calls: a transaction that writes and one after it that reads, to which it applies, and the listing of
+-- The claim of Serial.antt meets two lists of actions: a transaction that writes and one after it that reads, to which it applies, and the listing of
 -- document 01, in which two transactions are open at a time. Whether one begins while another is open is a test, since none begins past the list's end.
 use mathlib.Core.Path.{_≡_, refl, _∙_}
 use mathlib.Core.Bool.{Bool, true, false, cond, _&&_}
-use mathlib.Core.List.{List, [], _∷_, map, reverse}
+use mathlib.Core.List.{List, [], _∷_, _++_, map, reverse}
 use lib.ListN.{replicate}
-use Rattle.model.specs.declared.Call.{Call}
 use Rattle.model.specs.declared.Call.the-variants.{Begin, Read, Write, Seal, Advance}
 use Rattle.model.specs.declared.Answer.{Answer}
 use Rattle.model.specs.declared.Answer.the-variants.{Done, Value, Sealed, Moved, Waiting, Committed, Refused}
 use Rattle.model.specs.Buffers.{Store, idle}
 use Rattle.model.specs.Computing.{computing, counting}
-use Rattle.model.specs.History.{Event, tellsOf, run, events, told}
+use Rattle.model.specs.History.{Action, oneCall, manyReads, asActions, Event, tellsOf, run, events, told}
 use Rattle.model.specs.Isolation.{All}
 use Rattle.model.specs.Serial.{serialStep, serial, OneAtATime, SeriallyEqual}
 use Rattle.model.specs.Effects.{number}
@@ -67,24 +66,25 @@ given =
       sessions = record { records = replicate 16 idle };
     }
 
-unfoldable pub made : List Call → List Event
-made calls = events (setUp given) (reverse calls)
+unfoldable pub made : List Action → List Event
+made actions = events (setUp given) (reverse actions)
 
--- session 0 reads and writes cell 0; then session 1 reads it
-unfoldable pub inTurn : List Call
-inTurn = Begin 0 ∷ Read 0 0 ∷ Write 0 0 4 ∷ Seal 0 ∷ Advance 0 ∷ Advance 0 ∷ Advance 0 ∷ Begin 1 ∷ Read 1 0 ∷ Seal 1 ∷ []
+-- session 0 reads and writes cell 0; then session 1 reads both cells in one call
+unfoldable pub inTurn : List Action
+inTurn = asActions (Begin 0 ∷ Read 0 0 ∷ Write 0 0 4 ∷ Seal 0 ∷ Advance 0 ∷ Advance 0 ∷ Advance 0 ∷ Begin 1 ∷ []) ++ manyReads 1 (0 ∷ 1 ∷ []) 2 ∷ oneCall (Seal 1) ∷ []
 
 -- the listing of document 01
-unfoldable pub atOnce : List Call
-atOnce = Begin 0 ∷ Begin 1 ∷ Read 0 0 ∷ Read 1 0 ∷ Write 0 0 4 ∷ Write 1 0 2 ∷ Seal 0 ∷ Seal 1 ∷ Advance 0 ∷ Advance 1 ∷ Advance 0 ∷ Advance 0 ∷ Advance 0 ∷ []
+unfoldable pub atOnce : List Action
+atOnce = asActions (Begin 0 ∷ Begin 1 ∷ Read 0 0 ∷ Read 1 0 ∷ Write 0 0 4 ∷ Write 1 0 2 ∷ Seal 0 ∷ Seal 1 ∷ Advance 0 ∷ Advance 1 ∷ Advance 0 ∷ Advance 0 ∷ Advance 0 ∷ [])
 
-answers : List Call → List Answer
-answers calls = reverse (map (λ (e : Event). e .answer) (made calls))
+answers : List Action → List Answer
+answers actions = reverse (map (λ (e : Event). e .answer) (made actions))
 
 record Computed : Type 0 where
   set-up : number (setUpAnswer (given .lent)) ≡ 100
   serial-list : oneAtATime (made inTurn) ≡ true
-  serial-answers : answers inTurn ≡ Done ∷ Value 3 ∷ Done ∷ Sealed ∷ Moved ∷ Moved ∷ Committed ∷ Done ∷ Value 4 ∷ Committed ∷ []
+  serial-answers : answers inTurn ≡ Done ∷ Value 3 ∷ Done ∷ Sealed ∷ Moved ∷ Moved ∷ Committed ∷ Done ∷ Value 5 ∷ Committed ∷ []
+  serial-values-read : map (λ (e : Event). e .values) (made inTurn) ≡ [] ∷ (4 ∷ 5 ∷ []) ∷ replicate 8 []
   serial-open : noneOpen (told [] (made inTurn)) ≡ true
   serial-values : serial (setUp given .lent .values) (made inTurn) .values ≡ 4 ∷ 5 ∷ []
   other-list : oneAtATime (made atOnce) ≡ false
@@ -93,7 +93,7 @@ record Computed : Type 0 where
 computed : Computed
 unfolding given made inTurn atOnce answers noneOpen beginsIf oneAtATime serialStep serial computing counting
 computed =
-    record { set-up = refl; serial-list = refl; serial-answers = refl; serial-open = refl; serial-values = refl; other-list = refl; other-answers = refl }
+    record { set-up = refl; serial-list = refl; serial-answers = refl; serial-values-read = refl; serial-open = refl; serial-values = refl; other-list = refl; other-answers = refl }
 
 -- the first list is one that the claim is about; none is open at its end, and the values left are the serial store's
 pub in-turn : SeriallyEqual (setUp given) (reverse inTurn)

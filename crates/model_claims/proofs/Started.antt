@@ -1,4 +1,4 @@
--- A start with a transaction open that has read and written: demand 3 holds of every list of calls from there, and in one of them, by computation, the
+-- A start with a transaction open that has read and written: demand 3 holds of every list of actions from there, and in one of them, by computation, the
 -- transaction commits. With another value told as read the same store is no start.
 use Prim.Native.Nat.{ℕ}
 use native.Mathlib.Omega.{arith}
@@ -6,13 +6,12 @@ use mathlib.Core.Path.{_≡_, refl, subst}
 use mathlib.Core.Bool.{Bool, true, not, _&&_}
 use mathlib.Core.List.{List, [], _∷_, map, reverse}
 use lib.ListN.{length, replicate}
-use Rattle.model.specs.declared.Call.{Call}
 use Rattle.model.specs.declared.Call.the-variants.{Begin, Read, Write, Seal, Advance}
 use Rattle.model.specs.declared.Answer.{Answer}
 use Rattle.model.specs.declared.Answer.the-variants.{Done, Value, Sealed, Moved, Waiting, Committed}
 use Rattle.model.specs.Buffers.{Store, idle, fresh}
 use Rattle.model.specs.Computing.{computing, counting}
-use Rattle.model.specs.History.{Event, run, events, Item, item, history, name, Name, transaction, wrote, readsBeforeWriting, snapshot, commit, committed}
+use Rattle.model.specs.History.{Action, asActions, Event, run, events, Item, item, history, name, Name, transaction, wrote, readsBeforeWriting, snapshot, commit, committed}
 use Rattle.model.specs.Isolation.{Last, lastCommit, noCommit, Demand3}
 use Rattle.model.specs.Search.{below}
 use Rattle.model.specs.Effects.{recordOf}
@@ -44,9 +43,9 @@ toldWith v = item 0 0 (put 0 4) ∷ item 0 0 (got 1 v) ∷ item 0 0 began ∷ []
 
 -- ---- it is a start
 
--- the calls that lead there from set-up, the newest first
-abbrev opening : List Call
-opening = Write 0 0 4 ∷ Read 0 1 ∷ Begin 0 ∷ []
+-- the actions that lead there from set-up, the newest first
+abbrev opening : List Action
+opening = asActions (Write 0 0 4 ∷ Read 0 1 ∷ Begin 0 ∷ [])
 
 abbrev setUpReady : Ready (fresh (given .lent)) [] blank
 setUpReady = ready (fresh (given .lent)) (inv-fresh (given .lent))
@@ -68,14 +67,14 @@ started-ready =
     (subst (λ (h : List Item). Ready (run (fresh (given .lent)) opening) h (restart T)) (led .items)
     (resumes setUpReady opening (by-sixteen (run (fresh (given .lent)) opening) (led .records) (led .sixteen))))
 
-pub started-demand3 : (calls : List Call) → Demand3 (toldWith 5) started calls
+pub started-demand3 : (actions : List Action) → Demand3 (toldWith 5) started actions
 started-demand3 = demand3-from started-ready
 
 -- ---- it commits
 
 -- session 1 reads the cell that session 0 has written, which waits for it
-unfoldable pub onward : List Call
-onward = Begin 1 ∷ Read 1 0 ∷ Seal 0 ∷ Advance 0 ∷ Seal 1 ∷ Advance 0 ∷ Advance 0 ∷ Advance 0 ∷ []
+unfoldable pub onward : List Action
+onward = asActions (Begin 1 ∷ Read 1 0 ∷ Seal 0 ∷ Advance 0 ∷ Seal 1 ∷ Advance 0 ∷ Advance 0 ∷ Advance 0 ∷ [])
 
 -- all that is told then
 abbrev pub toldAfter : ℕ → List Item

@@ -10,6 +10,7 @@ use Rattle.field.specs.declared.Reading.the-variants as reading
 use Rattle.field.specs.Field.{readingAt}
 use Rattle.model.specs.declared.Call.{Call}
 use Rattle.model.specs.declared.Call.the-variants as call
+use Rattle.model.specs.History.{Action, oneCall}
 use Rattle.text.specs.declared.Next.{Next}
 use Rattle.text.specs.declared.Next.the-variants as next
 
@@ -69,10 +70,10 @@ later (cell place class value ∷ items) = later items
 later (asked k ∷ items) = asked k ∷ items
 later (refused place number ∷ items) = refused place number ∷ items
 
--- ---- the calls of items, up to the first that is no call
+-- ---- the calls of items, up to the first that is no call, each an action
 
-unfoldable pub calls : List Item → List Call
+unfoldable pub calls : List Item → List Action
 calls [] = []
 calls (cell place class value ∷ items) = []
-calls (asked k ∷ items) = k ∷ calls items
+calls (asked k ∷ items) = oneCall k ∷ calls items
 calls (refused place number ∷ items) = []

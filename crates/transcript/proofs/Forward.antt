@@ -4,30 +4,22 @@ use mathlib.Core.Path.{_≡_, refl, _∙_, ap}
 use mathlib.Core.List.{List, [], _∷_, _++_, append-assoc, reverse, reverse-cons, reverse-append}
 use Rattle.model.specs.declared.Call.{Call}
 use Rattle.model.specs.Buffers.{Store}
-use Rattle.model.specs.History.{run, events}
+use Rattle.model.specs.History.{Action, oneCall, event, run, events}
 use Rattle.model.specs.Step.{step, answerOf}
+use Rattle.model.proofs.Firsts.{run-first, events-first}
 use Rattle.text.specs.Items.{Item, cell, asked, refused, calls}
 use Rattle.text.specs.Lines.{fieldLine, answerLine, answerLines, cellLines, endLine}
 use Rattle.transcript.specs.Transcript.{callsText}
 
 module _ (σ : Store) (k : Call) where
-  -- the first call of a list is the one that stands last in it
-  run-first : (ks : List Call) → run σ (ks ++ k ∷ []) ≡ run (step k σ) ks
-  unfolding run
-  run-first [] = refl
-  run-first (j ∷ ks) = ap (step j) (run-first ks)
+  -- a call, and those after it on what it leaves
+  run-asked : (ks : List Action) → run σ (reverse (oneCall k ∷ ks)) ≡ run (step k σ) (reverse ks)
+  run-asked ks = ap (run σ) (reverse-cons (oneCall k) ks) ∙ run-first σ (oneCall k) (reverse ks)
 
-  events-first : (ks : List Call) → events σ (ks ++ k ∷ []) ≡ events (step k σ) ks ++ (record { call = k; answer = answerOf k σ } ∷ [])
-  unfolding run events
-  events-first [] = refl
-  events-first (j ∷ ks) = rw (run-first ks, events-first ks)
-
-  run-asked : (ks : List Call) → run σ (reverse (k ∷ ks)) ≡ run (step k σ) (reverse ks)
-  run-asked ks = ap (run σ) (reverse-cons k ks) ∙ run-first (reverse ks)
-
-  events-asked : (ks : List Call) → reverse (events σ (reverse (k ∷ ks))) ≡ record { call = k; answer = answerOf k σ } ∷ reverse (events (step k σ) (reverse ks))
+  events-asked : (ks : List Action) → reverse (events σ (reverse (oneCall k ∷ ks))) ≡ event k (answerOf k σ) ∷ reverse (events (step k σ) (reverse ks))
   events-asked ks =
-      ap (λ (js : List Call). reverse (events σ js)) (reverse-cons k ks) ∙ ap reverse (events-first (reverse ks)) ∙ reverse-append (events (step k σ) (reverse ks)) _
+      ap (λ (js : List Action). reverse (events σ js)) (reverse-cons (oneCall k) ks) ∙ ap reverse (events-first σ (oneCall k) (reverse ks))
+      ∙ reverse-append (events (step k σ) (reverse ks)) _
 
   -- a call prints its line, and the rest follows from the store that it leaves
   pub text-asked : (i : ℕ) (items : List Item) → callsText i σ (asked k ∷ items) ≡ answerLine i (answerOf k σ) ++ callsText (suc i) (step k σ) items

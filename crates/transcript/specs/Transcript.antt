@@ -7,11 +7,10 @@ use mathlib.Core.List.{List, _++_, reverse}
 use lib.Dec.{leb, eqb}
 use lib.ListN.{length, replicate}
 use Rattle.model.specs.declared.Answer.{Answer}
-use Rattle.model.specs.declared.Call.{Call}
 use Rattle.model.specs.Buffers.{Store, idle}
 use Rattle.model.specs.Effects.{number}
 use Rattle.model.specs.Step.{setUpAnswer, setUp}
-use Rattle.model.specs.History.{run, events}
+use Rattle.model.specs.History.{Action, run, events}
 use Rattle.text.specs.Items.{Item, itemsAt, values, classes, later, calls}
 use Rattle.text.specs.Lines.{sizeLine, setUpLine, answerLines, cellLines, endLine}
 
@@ -54,7 +53,7 @@ transcript input = cond (leb (length input) 65536) (itemsText (itemsAt input 0))
 abbrev pub givenBy : List ℕ → Store
 givenBy input = given (values (itemsAt input 0)) (classes (itemsAt input 0))
 
-abbrev pub callsOf : List ℕ → List Call
+abbrev pub callsOf : List ℕ → List Action
 callsOf input = calls (later (itemsAt input 0))
 
 -- an input whose calls are printed: of up to 65,536 bytes, and set up with 100

@@ -1,7 +1,7 @@
 //! What the tests share: a store that is set up, and short names for calls.
 #![allow(dead_code)]
 
-use reference::store::{Answer, Buffers, Call};
+use reference::store::{Answer, Buffers, Call, ManyAnswer};
 
 /// A store of these classes and values, set up.
 pub fn store(cells: &[(u8, u32)]) -> Buffers {
@@ -29,6 +29,18 @@ pub fn run(buffers: &mut Buffers, calls: &[(Call, Answer)]) {
     for (index, (call, answer)) in calls.iter().enumerate() {
         assert_eq!(buffers.call(*call), *answer, "call {} of the list, {:?}", index + 1, call);
     }
+}
+
+/// A target as it is lent: words 90, 91 and on.
+pub fn lent_target(len: usize) -> Vec<u32> {
+    (90..).take(len).collect()
+}
+
+/// Many reads with a target of this length: the number, the count and the target afterwards.
+pub fn read_many(buffers: &mut Buffers, session: u8, cells: &[u32], target_len: usize) -> (u32, u32, Vec<u32>) {
+    let mut target = lent_target(target_len);
+    let ManyAnswer { number, count } = buffers.read_many(session, cells, &mut target);
+    (number, count, target)
 }
 
 pub fn begin(session: u8) -> Call {

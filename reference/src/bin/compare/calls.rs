@@ -1,18 +1,25 @@
-//! Single calls on arbitrary buffers, and single fields on arbitrary bytes, beside the libraries that are linked in.
+//! Calls on arbitrary buffers and in runs, and single fields on arbitrary bytes, beside the libraries that are linked in.
 
 use crate::{close, stop, Run};
 use reference::arbitrary::{self, Numbers, REQUIRED, REQUIRED_FIELDS};
 use reference::boundary::{Fields, Reference, Store};
+use reference::many_reads;
 use reference::random::Random;
-use reference::store::{Answer, Buffers, Call, Part};
+use reference::runs::{self, Next};
+use reference::store::{Answer, Buffers, Call, ManyAnswer, ManyReads, Part, MAX_LIST, SESSIONS, SHORT_TARGET, VALUE, WRONG_LIST};
+use std::fmt::Debug;
 use std::process::exit;
 
-/// The stores that are linked in.
+/// The stores that are linked in, at least one.
 fn linked_stores() -> Vec<Box<dyn Store>> {
-    vec![
+    let stores: Vec<Box<dyn Store>> = vec![
         #[cfg(feature = "plain")]
         Box::new(reference::plain::Plain),
-    ]
+    ];
+    if stores.is_empty() {
+        stop("no store is linked: build with --features plain");
+    }
+    stores
 }
 
 /// The field functions that are linked in.
@@ -23,23 +30,23 @@ fn linked_fields() -> Vec<Box<dyn Fields>> {
     ]
 }
 
-/// At least `count` single calls, a few on end on each set of buffers.
+/// At least `count` calls, a few on end on each set of buffers.
 pub fn compare_calls(run: &Run) {
     let mut stores = linked_stores();
-    if stores.is_empty() {
-        stop("no store is linked: build with --features plain");
-    }
     let mut numbers = Numbers::default();
     let mut made = 0;
     let mut case = run.from;
     while made < run.count {
         let random = Random::for_case(run.seed, case);
         let mut buffers = arbitrary::buffers(&random);
-        let own = random.below(16) as u8;
+        let own = random.below(SESSIONS) as u8;
         for _ in 0..random.range(1, 6) {
-            let call = arbitrary::call(&random, &buffers, own);
-            let number = compare_call(&mut stores, case, &mut buffers, call);
-            numbers.add(arbitrary::kind(call), number);
+            let next = if random.percent(16) {
+                Next::Many(many_reads::on_buffers(&random, &buffers, own))
+            } else {
+                Next::One(arbitrary::call(&random, &buffers, own))
+            };
+            compare_next(&mut stores, case, &mut buffers, next, &mut numbers);
             made += 1;
         }
         case += 1;
@@ -51,31 +58,111 @@ pub fn compare_calls(run: &Run) {
     close(run, numbers.missing(&REQUIRED));
 }
 
-/// One call on every store: the answer, the part and every lent word and record afterwards. Returns the answer's number.
-fn compare_call(stores: &mut [Box<dyn Store>], case: u64, buffers: &mut Buffers, call: Call) -> u32 {
+/// `count` runs, each from a store that is set up.
+pub fn compare_runs(run: &Run) {
+    let mut stores = linked_stores();
+    let mut numbers = Numbers::default();
+    let mut made = 0;
+    for case in run.cases() {
+        let random = Random::for_case(run.seed, case);
+        let (shape, mut buffers) = runs::start(&random);
+        for _ in 0..random.range(20, 150) {
+            let next = runs::next(&random, &shape, &buffers);
+            compare_next(&mut stores, case, &mut buffers, next, &mut numbers);
+            made += 1;
+        }
+    }
+    for store in &stores {
+        println!("reference beside {}: {} calls in {} runs", store.name(), made, run.count);
+    }
+    print!("{}", numbers);
+    close(run, numbers.missing(&runs::REQUIRED));
+}
+
+/// One call or many reads on every store, counted.
+fn compare_next(stores: &mut [Box<dyn Store>], case: u64, buffers: &mut Buffers, next: Next, numbers: &mut Numbers) {
+    match next {
+        Next::One(call) => numbers.add(arbitrary::kind(call), compare_call(stores, case, buffers, call).number),
+        Next::Many(many) => many_reads::count(numbers, &many, compare_many(stores, case, buffers, &many)),
+    }
+}
+
+/// One call on every store: the answer, the part and every lent word and record afterwards.
+fn compare_call(stores: &mut [Box<dyn Store>], case: u64, buffers: &mut Buffers, call: Call) -> Answer {
     let before = buffers.clone();
-    let expected = Reference.call(buffers, call);
+    let expected: (Answer, Part) = Reference.call(buffers, call);
     for store in stores {
         let mut other = before.clone();
         let got = store.call(&mut other, call);
         if got != expected || other != *buffers {
             println!("case {} differs on {:?} with {} cells", case, call, before.values.len());
-            show("before", None, &before, call);
-            show("reference", Some(expected), buffers, call);
-            show(&store.name(), Some(got), &other, call);
+            show("before", &"", &before, session_of(call));
+            show("reference", &expected, buffers, session_of(call));
+            show(&store.name(), &got, &other, session_of(call));
             exit(1);
         }
     }
-    expected.0.number
+    expected.0
+}
+
+/// Many reads on every store: the answer, every lent word, record and word of the target afterwards, and the word after it. Each store's own
+/// single reads must give the same.
+fn compare_many(stores: &mut [Box<dyn Store>], case: u64, buffers: &mut Buffers, many: &ManyReads) -> ManyAnswer {
+    let before = buffers.clone();
+    let mut after = many.clone();
+    let expected = Reference.read_many(buffers, &mut after);
+    for store in stores {
+        for single in [false, true] {
+            let (mut other, mut words) = (before.clone(), many.clone());
+            let got =
+                if single { single_reads(&mut **store, &mut other, &mut words) } else { store.read_many(&mut other, &mut words) };
+            if got != expected || other != *buffers || words != after {
+                let name = if single { store.name() + ", single reads" } else { store.name() };
+                println!("case {} differs on {:?} with {} cells", case, many, before.values.len());
+                show("before", &"", &before, Some(many.session));
+                show("reference", &(expected, after.words), buffers, Some(many.session));
+                show(&name, &(got, words.words), &other, Some(many.session));
+                exit(1);
+            }
+        }
+    }
+    expected
+}
+
+/// What many reads stand for, by single reads of the same store.
+fn single_reads(store: &mut dyn Store, buffers: &mut Buffers, many: &mut ManyReads) -> ManyAnswer {
+    let length = many.cells.len();
+    if length == 0 || length > MAX_LIST {
+        return ManyAnswer { number: WRONG_LIST, count: 0 };
+    }
+    if many.lent < length {
+        return ManyAnswer { number: SHORT_TARGET, count: 0 };
+    }
+    for index in 0..length {
+        let (answer, _) = store.call(buffers, Call::Read { session: many.session, cell: many.cells[index] });
+        if answer.number != VALUE {
+            return ManyAnswer { number: answer.number, count: index as u32 };
+        }
+        many.words[index] = answer.value;
+    }
+    ManyAnswer { number: VALUE, count: length as u32 }
+}
+
+/// The session that calls, but at set-up.
+fn session_of(call: Call) -> Option<u8> {
+    match call {
+        Call::SetUp => None,
+        Call::Begin { session } | Call::Seal { session } | Call::Advance { session } | Call::Abandon { session } => Some(session),
+        Call::Read { session, .. } | Call::Write { session, .. } | Call::Peek { session, .. } => Some(session),
+    }
 }
 
 /// Prints the session's record and log, and the locks and values of the cells in it, as far as they are there.
-fn show(name: &str, outcome: Option<(Answer, Part)>, buffers: &Buffers, call: Call) {
+fn show(name: &str, outcome: &dyn Debug, buffers: &Buffers, session: Option<u8>) {
     println!("{}: {:?}", name, outcome);
-    let session = match call {
-        Call::SetUp => return,
-        Call::Begin { session } | Call::Seal { session } | Call::Advance { session } | Call::Abandon { session } => session,
-        Call::Read { session, .. } | Call::Write { session, .. } | Call::Peek { session, .. } => session,
+    let session = match session {
+        Some(session) => session,
+        None => return,
     };
     let record = match buffers.sessions.get(session as usize) {
         Some(record) => record,

@@ -11,6 +11,7 @@ const USAGE: &str = "compare replays --program PATH [--mode spawn|batch] [--agai
 compare answers [--seed N] [--count N] [--from CASE]
 compare write --to DIRECTORY [--seed N] [--count N] [--from CASE]
 compare calls [--seed N] [--count N] [--from CASE]
+compare runs [--seed N] [--count N] [--from CASE]
 compare fields [--seed N] [--count N] [--from CASE]";
 
 /// The random cases of one run. Each has numbers of its own, so that `--from CASE --count 1` repeats it alone.
@@ -45,6 +46,7 @@ fn main() {
         "answers" => replays::answers(&run),
         "write" => replays::write_inputs(&run, &options),
         "calls" => calls::compare_calls(&run),
+        "runs" => calls::compare_runs(&run),
         "fields" => calls::compare_fields(&run),
         _ => stop(USAGE),
     }
