@@ -26,7 +26,8 @@ use Rattle.log.proofs.Targets.{slot-some}
 use Rattle.calls.specs.Pieces.{dueAt, dueOn, dueCell, DueFits, advanceOn, duePlan}
 use Rattle.calls.specs.declared.Due.{Due}
 use Rattle.calls.specs.declared.Due.the-variants.{Refused, Slot}
-use Rattle.calls.proofs.Ways.{target-slot, Entries, entries-of}
+use Rattle.model.proofs.Passing.{Entries, entries-of}
+use Rattle.calls.proofs.Ways.{target-slot}
 
 pub lengths-agree : (B : Buffers)
     → lengthsMatch (size B) (length (B .classes)) (length (B .locks .readers)) (length (B .locks .claimants)) (length (B .locks .exclusives)) (length (B .logs)) ≡ lengthsFit B

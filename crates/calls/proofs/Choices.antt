@@ -18,7 +18,7 @@ use Rattle.model.specs.declared.Plan.the-variants.{Refuse, Tell, Enter, Update,
 use Rattle.model.proofs.Tools.{test, which}
 use Rattle.log.proofs.Targets.{slot-some}
 use Rattle.locks.proofs.Tags.{tag, Passed, Passes, passed, clashes}
-use Rattle.calls.proofs.Ways.{Entries, record-entries}
+use Rattle.model.proofs.Passing.{Entries, record-entries}
 
 -- p is decided as if nobody were claimant, q with the lock l: both refuse; both are that of entry k in the log; or the cell is new
 pub data Choice (n : ℕ) (log : List ℕ) (x : Session) (l : Lock) (c : ℕ) (known : ℕ → Plan) (new p q : Plan) : Type 0 where

@@ -6,8 +6,8 @@ use mathlib.Core.List.{List}
 use Prim.Native.Nat.{ℕ, suc, _+_, _*_, _<_, _≤_}
 use native.Mathlib.Numerals.{add-one}
 use native.Mathlib.Omega.{arith}
-use borrow.Author.Tests.{lt-ltb, le-ltb, lt-leb, le-leb, eq-eqb, ne-eqb, eqb-true, eqb-false, leb-true}
-use lib.Dec.{ltb, leb, eqb}
+use borrow.Author.Tests.{lt-ltb, le-ltb, lt-leb, le-leb, eq-eqb, ne-eqb, eqb-true, eqb-false}
+use lib.Dec.{ltb, eqb}
 use lib.ListN.{length, getD}
 use Rattle.model.specs.Search.{some?, below}
 use Rattle.model.specs.Readers.{otherReaders}
@@ -19,7 +19,8 @@ use Rattle.model.specs.declared.Lock.{Lock}
 use Rattle.model.specs.declared.Answer.the-variants.{Moved, Committed}
 use Rattle.model.specs.declared.Plan.{Plan}
 use Rattle.model.specs.declared.Plan.the-variants.{Refuse, Start, Tell, Enter, Update, EnterUpdate, RollBack, CommitReads, BeginPromotion, Wait, Acquire, Publish, Release, ShowStore, ShowLog}
-use Rattle.model.proofs.Tools.{test, which, clash, both-l, both-r, and-false}
+use Rattle.model.proofs.Passing.{Entries, entries-of, record-entries}
+use Rattle.model.proofs.Tools.{test, which, clash, and-false}
 use Rattle.log.specs.Slots.{found, slotOf, targetSlot, isMore}
 use Rattle.log.proofs.Targets.{written-first, slot-some, target-some}
 use Rattle.calls.specs.Pieces.{tested, dueAt, dueOn, advanceOn, handledBy}
@@ -83,22 +84,7 @@ turned true false r p e h = ap Refuse e
 turned false true r p e h = ap Refuse e
 turned false false r p e h = ap Refuse e
 
--- a session's entries past phase 0: at most 32, each of a cell below n
-pub record Entries (n : ℕ) (log : List ℕ) (x : Session) : Type 0 where
-  pub count : x .count ≤ 32
-  pub cells : below n (cellAt log) (x .count) ≡ true
-
 module _ (n : ℕ) (log : List ℕ) (x : Session) where
-  pub entries-of : entriesFit n log x ≡ true → (x .phase ≡ 0 → ⊥) → Entries n log x
-  unfolding entriesFit
-  entries-of h ne =
-      let r : (leb (x .count) 32 && below n (cellAt log) (x .count)) ≡ true = rw (ne-eqb (x .phase) 0 ne) at (both-r (leb (x .phase) 4) _ h) in
-      record { count = leb-true (x .count) 32 (both-l (leb (x .count) 32) _ r); cells = both-r (leb (x .count) 32) _ r }
-
-  pub record-entries : recordFits n log x ≡ true → (x .phase ≡ 0 → ⊥) → Entries n log x
-  unfolding recordFits
-  record-entries h ne = entries-of (both-l (entriesFit n log x) _ h) ne
-
   pub entries-idle : x .phase ≡ 0 → true ≡ entriesFit n log x
   unfolding entriesFit
   entries-idle e = simp (eq-eqb (x .phase) 0 e, le-leb (x .phase) 4 (omega arith))
@@ -136,7 +122,7 @@ module _ (n : ℕ) (log : List ℕ) (x : Session) where
 
       module _ (l : 2 ≤ x .phase) where
         pub listed : Entries n log x
-        listed = entries-of (sym e ∙ h) (omega arith)
+        listed = entries-of n log x (sym e ∙ h) (omega arith)
 
         -- k is the place that the search for the lowest written cell answered
         module _ (k : ℕ) (t : found (x .count) k ≡ targetSlot log (x .count) (x .next)) where
@@ -211,7 +197,7 @@ module _ (n : ℕ) (log : List ℕ) (x : Session) where
     runs = passes (recordFits n log x) _ (run-passes t e z) .1
 
     pub few : x .count ≤ 32
-    few = let one = eqb-true (x .phase) 1 runs in record-entries whole (omega arith) .count
+    few = let one = eqb-true (x .phase) 1 runs in record-entries n log x whole (omega arith) .count
 
     -- entries lie in the log
     pub room : length log ≡ 128 → 4 * x .count ≤ length log

@@ -7,8 +7,8 @@ use mathlib.Core.List.{List}
 use borrow.Author.Tests.{lt-ltb, le-leb, ltb-true}
 use lib.Dec.{ltb, eqb}
 use lib.ListN.{length, getD, set}
-use lib.Seq.{getD-set-same, set-getD, set-set}
-use Rattle.model.specs.Buffers.{Locks, Buffers, Store, size, idle, sessionAt, withSession, logIn, onLog, slotIn, appended, lockAt, setLock, onLock, join, lengthsFit}
+use lib.Seq.{getD-set-same, set-set}
+use Rattle.model.specs.Buffers.{Locks, Buffers, Store, size, idle, sessionAt, withSession, logIn, onLog, slotIn, appended, lockAt, onLock, join, lengthsFit}
 use Rattle.model.specs.Effects.{number, valueOf, answer, after, rolledBack}
 use Rattle.model.specs.Plans.{recordFits, entriesFit, guard, known, claimed, newCell, readSlot, readPlan, plan}
 use Rattle.model.specs.Readers.{withReader}
@@ -16,6 +16,8 @@ use Rattle.model.specs.Step.{planOf, step, answerOf}
 use Rattle.model.specs.declared.Session.{Session}
 use Rattle.model.specs.declared.Sessions.{Sessions}
 use Rattle.model.specs.declared.Lock.{Lock}
+use Rattle.model.specs.Turns.{changed}
+use Rattle.model.specs.declared.Change.the-variants.{Join}
 use Rattle.model.specs.declared.Call.the-variants.{Read}
 use Rattle.model.specs.declared.Plan.{Plan}
 use Rattle.model.specs.declared.Plan.the-variants.{Refuse, Tell, Enter, RollBack}
@@ -23,6 +25,8 @@ use Rattle.model.proofs.Carried.{over}
 use Rattle.model.proofs.Laws.{log-same, length-on}
 use Rattle.model.proofs.Tools.{test, which}
 use Rattle.locks.specs.Sweeps.{locksOf}
+use Rattle.locks.specs.Changes.{oneOf}
+use Rattle.locks.proofs.Changes.{joins}
 use Rattle.locks.proofs.Sweeps.{lock-here}
 use Rattle.turns.proofs.Lengths.{Admitted}
 use Rattle.many_reads.specs.Cells.{Fits, CellRead, cellRead, newRead, slotRead, readCell}
@@ -99,8 +103,8 @@ module _ (B : Buffers) (s : ℕ) (z : Admitted B s) (ss : Sessions) (next : ℕ)
     rolls c e = rw (plan-is c, e) (refl, refl, rw (record-is, log-is, twice idle))
 
     joined : (c : ℕ) → onLock c (join s) (locksWith R) ≡ locksWith (set R c (withReader s (getD R c 0)))
-    unfolding onLock lockAt setLock join
-    joined c = rw (set-getD (B .locks .claimants) c 16, set-getD (B .locks .exclusives) c 0)
+    unfolding changed oneOf
+    joined c = sym (joins (Join c) s R (B .locks .claimants) (B .locks .exclusives) c refl (withReader s (getD R c 0)) refl)
 
     entered : (c v : ℕ) → onLog s (λ log. appended log k c v) (onLog s (λ log. W) (B .logs)) ≡ onLog s (λ log. appended W k c v) (B .logs)
     entered c v = sym (over s (record { lent = B; sessions = ss }) (z .low) (z .lengths .logs) (λ log. W) (λ log. appended log k c v) (f .words))

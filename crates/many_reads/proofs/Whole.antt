@@ -23,7 +23,8 @@ use Rattle.model.proofs.Carried.{same-log, same-record}
 use Rattle.model.proofs.Laws.{log-length, log-same}
 use Rattle.model.proofs.Tools.{test, both-l, both-r}
 use Rattle.calls.specs.Pieces.{admission, tested}
-use Rattle.calls.proofs.Ways.{passes, record-entries, run-passes, run-refused}
+use Rattle.model.proofs.Passing.{record-entries}
+use Rattle.calls.proofs.Ways.{passes, run-passes, run-refused}
 use Rattle.locks.specs.Sweeps.{locksOf, Swept}
 use Rattle.turns.proofs.Lengths.{Admitted, plan-refused-by}
 use Rattle.turns.proofs.Whole.{is-plan}

@@ -1,17 +1,19 @@
 -- What a call that is not turned down has passed: a claim of a plan by cases on the tests, for any claim.
-use Prim.Native.Nat.{ℕ, _<_}
+use Prim.Native.Nat.{ℕ, _<_, _≤_}
 use mathlib.Core.Path.{_≡_, refl}
-use mathlib.Core.Bool.{Bool, true, not}
+use mathlib.Core.Bool.{Bool, true, not, _&&_}
 use mathlib.Core.Option.{Option, none, some}
-use lib.Dec.{ltb, eqb}
-use borrow.Author.Tests.{eqb-true, eqb-false, ltb-true, not-true, not-false}
+use mathlib.Core.List.{List}
+use lib.Dec.{leb, ltb, eqb}
+use borrow.Author.Tests.{ne-eqb, eqb-true, eqb-false, ltb-true, leb-true, not-true, not-false}
 use Rattle.model.specs.declared.Session.{Session}
 use Rattle.model.specs.declared.Lock.{Lock}
 use Rattle.model.specs.declared.Plan.{Plan}
 use Rattle.model.specs.declared.Plan.the-variants.{Refuse, RollBack}
-use Rattle.model.specs.Buffers.{Buffers, size, lengthsFit, logIn}
-use Rattle.model.specs.Plans.{recordFits, guard, known, claimed, newCell, admit}
-use Rattle.model.proofs.Tools.{split}
+use Rattle.model.specs.Buffers.{Buffers, size, lengthsFit, logIn, cellAt}
+use Rattle.model.specs.Plans.{entriesFit, recordFits, guard, known, claimed, newCell, admit}
+use Rattle.model.specs.Search.{below}
+use Rattle.model.proofs.Tools.{split, both-l, both-r}
 
 -- an option, with what it came to, under a function that matches on it
 pub choose {ℓ κ μ} : {A : Type ℓ} {B : Type κ} (P : B → Type μ) (F : Option A → B) (o : Option A) → (o ≡ none → P (F none)) → ((a : A) → o ≡ some a → P (F (some a))) → P (F o)
@@ -48,3 +50,19 @@ cell-new P x l p r5 r6 f =
     (λ n. split P (not (eqb (l .claimant) 16)) (λ q. r6 (eqb-false (l .claimant) 16 (not-true (eqb (l .claimant) 16) q)))
     (λ q. f (ltb-true (x .count) 32 n) (eqb-true (l .claimant) 16 (not-false (eqb (l .claimant) 16) q))))
     (λ _. r5)
+
+-- a session's entries past phase 0, where its record fits: at most 32, each of a cell below n
+pub record Entries (n : ℕ) (log : List ℕ) (x : Session) : Type 0 where
+  pub count : x .count ≤ 32
+  pub cells : below n (cellAt log) (x .count) ≡ true
+
+module _ (n : ℕ) (log : List ℕ) (x : Session) where
+  pub entries-of : entriesFit n log x ≡ true → (x .phase ≡ 0 → ⊥) → Entries n log x
+  unfolding entriesFit
+  entries-of h ne =
+      let r : (leb (x .count) 32 && below n (cellAt log) (x .count)) ≡ true = rw (ne-eqb (x .phase) 0 ne) at (both-r (leb (x .phase) 4) _ h) in
+      record { count = leb-true (x .count) 32 (both-l (leb (x .count) 32) _ r); cells = both-r (leb (x .count) 32) _ r }
+
+  pub record-entries : recordFits n log x ≡ true → (x .phase ≡ 0 → ⊥) → Entries n log x
+  unfolding recordFits
+  record-entries h ne = entries-of (both-l (entriesFit n log x) _ h) ne

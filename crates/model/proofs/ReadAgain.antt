@@ -3,10 +3,10 @@
 use Prim.Native.Nat.{ℕ, suc, _<_}
 use native.Mathlib.Omega.{arith}
 use mathlib.Core.Path.{_≡_, refl, sym, _∙_, ap}
-use mathlib.Core.Bool.{true, _&&_}
+use mathlib.Core.Bool.{true}
 use mathlib.Core.Option.{none, some}
 use mathlib.Core.List.{List}
-use lib.Dec.{leb, ltb, eqb}
+use lib.Dec.{ltb, eqb}
 use lib.ListN.{length, getD, length-set}
 use borrow.Author.Tests.{eqb-true, le-leb, lt-ltb, ltb-true}
 use Rattle.model.specs.declared.Session.{Session}
@@ -22,8 +22,8 @@ use Rattle.model.specs.Step.{planOf, step, answerOf}
 use Rattle.model.proofs.Carried.{length-appended}
 use Rattle.model.proofs.Caps.{logs-long}
 use Rattle.model.proofs.Laws.{log-length, log-same, length-on, grown-word, appended-below, grown-find, session-same}
-use Rattle.model.proofs.Passing.{guarded, cell-known, cell-new}
-use Rattle.model.proofs.Tools.{test, which, both-l, both-r}
+use Rattle.model.proofs.Passing.{guarded, cell-known, cell-new, record-entries}
+use Rattle.model.proofs.Tools.{test, which}
 
 module _ (s c : ℕ) where
   -- what a read answered 101 has passed
@@ -111,17 +111,10 @@ module _ (s c : ℕ) where
         rw (length-set (L .readers) c (l .readers), length-set (L .claimants) c (l .claimant), length-set (L .exclusives) c (l .exclusive), length-on s (σ .lent .logs) lt long grow grown-whole)
         (p .lengths)
 
-    -- the entries so far are of cells below n
-    entries-before : below (size (σ .lent)) (cellAt (logOf σ s)) m ≡ true
-    unfolding entriesFit recordFits
-    entries-before =
-        let n = size (σ .lent) in
-        let w = below n (cellAt (logOf σ s)) m in
-        let f : ((leb m 32 && w) && true) ≡ true = rw (eqb-true (recordOf σ s .phase) 1 (p .runs)) at (p .fits) in
-        both-r (leb m 32) w (both-l (leb m 32 && w) true f)
-
+    -- with the new entry all are of cells below n
     entries-kept : below (size (σ .lent)) (cellAt (grow (logOf σ s))) (suc m) ≡ true
-    entries-kept = appended-below (logOf σ s) m c v room whole (size (σ .lent)) (ltb-true c (size (σ .lent)) (p .cell)) entries-before
+    entries-kept = appended-below (logOf σ s) m c v room whole (size (σ .lent)) (ltb-true c (size (σ .lent)) (p .cell))
+        (record-entries (size (σ .lent)) (logOf σ s) (recordOf σ s) (p .fits) (let e = eqb-true (recordOf σ s .phase) 1 (p .runs) in λ z. omega arith) .cells)
 
     size-is : size (τ .lent) ≡ size (σ .lent)
     unfolding after size

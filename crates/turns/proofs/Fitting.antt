@@ -1,14 +1,14 @@
 -- The change of the locks that each call's turn hands back can be carried out: its cell has a lock, or its entries can be swept.
 use mathlib.Core.Path.{_≡_, refl, sym}
-use mathlib.Core.Bool.{Bool, true, cond, not, _&&_, _||_}
+use mathlib.Core.Bool.{Bool, true, not, _&&_, _||_}
 use mathlib.Core.Option.{Option, none, some}
 use mathlib.Core.List.{List}
-use Prim.Native.Nat.{ℕ, _*_, _<_, _≤_}
+use Prim.Native.Nat.{ℕ, _<_, _≤_}
 use native.Mathlib.Omega.{arith}
 use borrow.Author.Tests.{eqb-true}
 use lib.Dec.{eqb, ltb}
 use lib.ListN.{length}
-use Rattle.model.specs.Buffers.{cellAt, entryAt, slotIn, targetIn}
+use Rattle.model.specs.Buffers.{entryAt, slotIn, targetIn}
 use Rattle.model.specs.Readers.{otherReaders}
 use Rattle.model.specs.Plans.{claimed, promotePlan, recordFits, guard, known, sealTarget, sealPlan, peekSlot, peekPlan, plan}
 use Rattle.model.specs.Turns.{turnOf}
@@ -24,7 +24,7 @@ use Rattle.locks.specs.Changes.{ChangeFits}
 use Rattle.calls.specs.Pieces.{dueOn, dueCell, advanceOn, duePlan}
 use Rattle.calls.specs.declared.Due.{Due}
 use Rattle.calls.specs.declared.Due.the-variants.{Refused, Slot}
-use Rattle.calls.proofs.Ways.{Entries, record-entries}
+use Rattle.model.proofs.Passing.{Entries, record-entries}
 use Rattle.turns.proofs.Guards.{guarded}
 use Rattle.calls.proofs.Agree.{Advancing, due-known, advance-agree}
 use Rattle.calls.proofs.Choices.{Choice, refuses, knows, enters, read-choice, write-choice}

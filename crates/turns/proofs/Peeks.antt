@@ -12,7 +12,7 @@ use base.Fml.{GName}
 use denote.Ref.{RefT}
 use lib.Dec.{T, ltb, eqb}
 use lib.ListN.{length, take, drop, replicate, getD-replicate, length-take, length-drop}
-use Rattle.model.specs.Buffers.{Buffers, Store, size, idle, sessionAt, withSession, entryAt, slotIn, lengthsFit}
+use Rattle.model.specs.Buffers.{Buffers, Store, size, idle, sessionAt, entryAt, slotIn, lengthsFit}
 use Rattle.model.specs.Plans.{recordFits, guard, known, peekSlot, plan}
 use Rattle.model.specs.Effects.{recordOf, shown, answer, after, logOf}
 use Rattle.model.specs.Slices.{PartOf, IsPart}
@@ -28,7 +28,7 @@ use Rattle.model.proofs.Laws.{find-some}
 use Rattle.model.proofs.Carried.{same-record}
 use Rattle.locks.proofs.Tags.{tag, Passed, passed, clashes}
 use Rattle.turns.proofs.Lengths.{lengths-of, refuses}
-use Rattle.calls.proofs.Ways.{record-entries}
+use Rattle.model.proofs.Passing.{record-entries}
 
 -- ---- what a plan p of a peek can be
 
