@@ -35,7 +35,7 @@ static void expect(int holds, const char *what)
     }
 }
 
-/* The cells and the value of transaction k: two different cells, and a value that depends on what was read. */
+/* The cells and the value of transaction k: two different cells, and a value that depends on what was read and is not the one found. */
 static uint32_t first_of(uint32_t k)
 {
     return (k * 7919u) % CELLS;
@@ -48,7 +48,7 @@ static uint32_t second_of(uint32_t k)
 
 static uint32_t value_of(uint32_t a, uint32_t b, uint32_t k)
 {
-    return a + b + k;
+    return b + ((a + k) | 1);
 }
 
 /* ---- the proved store */

@@ -1,6 +1,7 @@
 /* The same list of calls on the proved store and on the plain C store, in one process: answers compared, then nanoseconds a call.
    Under callgrind the counts of each call's function are read off the profile (benches/instructions).
    usage: store_bench WORKLOAD ENTRIES CELLS SESSIONS CYCLES
+   Every value that `commit` and `update` write is a change; `written-back` reads ENTRIES cells, writes the same values and seals, which commits.
    The workloads `many` and `singles` read a session's ENTRIES cells as new ones, by one call for many reads and by a loop of single reads, which counts
    as one call here; `many-known` and `singles-known` read them when they are in the log. */
 #include "plain_store.h"
@@ -173,6 +174,12 @@ __attribute__((noinline)) static uint32_t proved_run(size_t n)
     return up.number;
 }
 
+/* A cell's value at the start of a round: none that a workload changes it to. */
+static uint32_t start_of(uint32_t cell)
+{
+    return 1000 + cell;
+}
+
 /* Cells of a session's transaction: spread over the store, each session its own, in an order that is neither up nor down. */
 static uint32_t cell_of(uint32_t s, uint32_t i, uint32_t n, uint32_t sessions, uint32_t entries)
 {
@@ -219,6 +226,12 @@ static void workload(const char *name, uint32_t entries, uint32_t n, uint32_t se
                 add(write ? WRITE : READ, s, cell_of(s, i, n, sessions, entries), k & 0xff);
             }
         }
+        for (uint32_t i = 0; !strcmp(name, "written-back") && i < entries; i++) {
+            for (uint32_t s = 0; s < sessions; s++) {
+                uint32_t cell = cell_of(s, i, n, sessions, entries);
+                add(WRITE, s, cell, start_of(cell));
+            }
+        }
         if (!strcmp(name, "known")) {
             for (uint32_t i = 0; i < 4 * entries; i++) {
                 for (uint32_t s = 0; s < sessions; s++) {
@@ -226,16 +239,14 @@ static void workload(const char *name, uint32_t entries, uint32_t n, uint32_t se
                 }
             }
         }
-        if (!strcmp(name, "commit") || !strcmp(name, "update") || !strcmp(name, "reads")) {
+        if (!strcmp(name, "commit") || !strcmp(name, "update") || !strcmp(name, "reads") || !strcmp(name, "written-back")) {
+            uint32_t changed = !strcmp(name, "commit") ? entries / 2 : !strcmp(name, "update") ? entries : 0;
             for (uint32_t s = 0; s < sessions; s++) {
                 add(SEAL, s, 0, 0);
             }
-            if (strcmp(name, "reads")) {
-                uint32_t dirty = !strcmp(name, "commit") ? entries / 2 : entries;
-                for (uint32_t i = 0; i < 3 * dirty; i++) {
-                    for (uint32_t s = 0; s < sessions; s++) {
-                        add(ADVANCE, s, 0, 0);
-                    }
+            for (uint32_t i = 0; i < 3 * changed; i++) {
+                for (uint32_t s = 0; s < sessions; s++) {
+                    add(ADVANCE, s, 0, 0);
                 }
             }
         } else {
@@ -261,11 +272,13 @@ int main(int argc, char **argv)
     uint32_t n = (uint32_t)atoi(argv[3]);
     for (uint32_t i = 0; i < n; i++) {
         classes[i] = 15;
-        values[0][i] = values[1][i] = i;
     }
     workload(argv[1], (uint32_t)atoi(argv[2]), n, (uint32_t)atoi(argv[4]), (uint32_t)atoi(argv[5]));
     double best[2] = {1e18, 1e18};
     for (int k = 0; k < 5; k++) {
+        for (uint32_t i = 0; i < n; i++) {
+            values[0][i] = values[1][i] = start_of(i);
+        }
         double a = now();
         uint32_t p = proved_run(n);
         double b = now();

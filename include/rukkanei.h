@@ -1,4 +1,4 @@
-/* Rukkanei for C99 and C++: the call fields and the store of document 01, and the many reads of document 02. One archive has every function of
+/* Rukkanei for C99 and C++: the call fields and the store of document 01, with Papers 1 and 2 of document 02. One archive has every function of
  * this file: link librukkanei.a, which scripts/install puts beside this header. It needs memcpy and memset of the C library at most.
  *
  * Every function answers for every number and every content of what it is lent. None keeps a pointer, allocates, or calls anything of yours.
@@ -24,8 +24,8 @@ extern "C" {
 /* Good answers. */
 #define RUKKANEI_DONE 100          /* done: of a field too */
 #define RUKKANEI_VALUE 101         /* read, and the value is beside it */
-#define RUKKANEI_SEALED 102        /* sealed, with written cells to promote */
-#define RUKKANEI_MOVED 103         /* one written cell further */
+#define RUKKANEI_SEALED 102        /* sealed, with changed cells to promote */
+#define RUKKANEI_MOVED 103         /* one changed cell further */
 #define RUKKANEI_WAITING 104       /* others read the cell that is to be promoted */
 #define RUKKANEI_COMMITTED 105     /* the transaction is over, and the session idle */
 #define RUKKANEI_END_OF_FIELDS 106 /* no bytes are left at the place */
@@ -36,7 +36,7 @@ extern "C" {
 #define RUKKANEI_WRONG_LENGTHS 7   /* n outside 1 to 1,024, classes or locks not n long, logs not 2,048 words */
 #define RUKKANEI_NO_SUCH_SESSION 1 /* session above 15 */
 #define RUKKANEI_DAMAGED_RECORD 9  /* phase above 4; in phases 1 to 4 a count above 32 or an entered cell not below n;
-                                      in phases 2 to 4 no written cell at or above next */
+                                      in phases 2 to 4 no changed cell at or above next */
 #define RUKKANEI_WRONG_PHASE 2     /* the call does not fit the session's phase */
 #define RUKKANEI_NO_SUCH_CELL 3    /* cell not below n */
 #define RUKKANEI_NO_SUCH_CLASS 8   /* class above 15; at set-up also a value above its cap */
@@ -118,6 +118,9 @@ uint8_t rukkanei_field_write(uint8_t *target, size_t target_len, uint8_t tag, ui
  * reply; the caller puts it in its place, whatever the number. A record belongs to its session's number: what is promised of a list of calls is of
  * a list in which each session is passed the record that set-up or its own last call handed back.
  *
+ * A session has changed a cell if it wrote it and the value that it wrote last is not the one that it found there when the cell was entered in its
+ * log. From the seal on a cell that it wrote and did not change counts as read: writing back the value found collides with nobody.
+ *
  * In a reply `number` is one of the answers above, and `value` is 0 except with 101. A refusal other than 6 leaves everything as before and hands the
  * record back as it came; 6 has rolled the session back. Of many reads this holds of the read that was refused: what the reads before it left stays.
  * A session above 15 has no record, so do not look one up: pass any, and it comes back as it came, with 1 (or with what is tested first). */
@@ -191,17 +194,17 @@ rukkanei_read_many_reply rukkanei_read_many(rukkanei_session record, const uint3
                                             size_t exclusives_len, uint32_t *logs, size_t logs_len, uint8_t session, const uint32_t *cells,
                                             size_t cells_len, uint32_t *target, size_t target_len);
 
-/* A running session writes a cell, into its log. 100; a new cell is locked and entered as by read. */
+/* A running session writes a cell, into its log, also where the value is the one found. 100; a new cell is locked and entered as by read. */
 rukkanei_reply rukkanei_write(rukkanei_session record, const uint32_t *values, size_t values_len, const uint8_t *classes, size_t classes_len,
                               uint16_t *readers, size_t readers_len, uint8_t *claimants, size_t claimants_len, uint8_t *exclusives,
                               size_t exclusives_len, uint32_t *logs, size_t logs_len, uint8_t session, uint32_t cell, uint32_t written);
 
-/* A running session takes its snapshot: it leaves the readers of what it only read. 105 where it wrote nothing, and it is idle; else 102. */
+/* A running session takes its snapshot: it leaves the readers of each cell that it did not change. 105 where it changed none, and it is idle; else 102. */
 rukkanei_reply rukkanei_seal(rukkanei_session record, const uint32_t *values, size_t values_len, const uint8_t *classes, size_t classes_len,
                              uint16_t *readers, size_t readers_len, const uint8_t *claimants, size_t claimants_len, const uint8_t *exclusives,
                              size_t exclusives_len, const uint32_t *logs, size_t logs_len, uint8_t session);
 
-/* A sealed session goes one written cell further: promotes, publishes or releases it. 103; 104 while others read the cell; 105 at the end. */
+/* A sealed session goes one changed cell further: promotes, publishes or releases it. 103; 104 while others read the cell; 105 at the end. */
 rukkanei_reply rukkanei_advance(rukkanei_session record, uint32_t *values, size_t values_len, const uint8_t *classes, size_t classes_len,
                                 uint16_t *readers, size_t readers_len, uint8_t *claimants, size_t claimants_len, uint8_t *exclusives,
                                 size_t exclusives_len, const uint32_t *logs, size_t logs_len, uint8_t session);
@@ -223,7 +226,7 @@ rukkanei_reply rukkanei_peek_number(rukkanei_session record, const uint32_t *val
 #define RUKKANEI_IN_LOGS 2
 
 /* The word that a running session's peek shows, in place of the part that a peek hands back: the store's own, `values[*index]`, of a cell that
-   it has not written, or the log's own, `logs[*index]`, of one that it has. 0, with *index as before, where the peek is refused;
+   it has not written, or the log's own, `logs[*index]`, of one that it has, whatever the value. 0, with *index as before, where the peek is refused;
    rukkanei_peek_number tells why. */
 uint8_t rukkanei_peek_place(rukkanei_session record, const uint32_t *values, size_t values_len, const uint8_t *classes, size_t classes_len,
                             const uint16_t *readers, size_t readers_len, const uint8_t *claimants, size_t claimants_len,

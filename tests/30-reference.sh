@@ -7,6 +7,7 @@ cd "$(dirname "$0")/.."
 seed=${SEED:-1}
 work=$PWD/target/reference-tests
 . tests/check.sh
+examples="listing skew mixed written_back"
 
 # refused STATUS WORDS COMMAND...: the command ends with this status, writes nothing, and says these words on standard error.
 refused() {
@@ -57,15 +58,39 @@ shows() {
     grep -qF ">$2</text>" "$work/$1.svg"
 }
 
+# marks NAME WORD PLACES: these are the places of the calls that the picture labels with the word.
+marks() {
+    awk -v label=">$2</text>" '/<title>/ { place = $1; gsub(/[^0-9]/, "", place) } /^<\/g>/ { place = "" } place && index($0, label) { print place }' \
+        "$work/$1.svg" | xargs | diff <(echo "$3") -
+}
+
+# The marks of dropped writes, each a hollow square, and the one of the legend.
+hollow() {
+    [ "$(grep -c '^<rect .* fill="white" stroke=' "$work/$1.svg")" -eq "$2" ]
+}
+
+# The tool follows random replays to their end, and by that tells each value found.
+random_pictures() {
+    local file count=0
+    rm -rf "$work/random" && mkdir "$work/random" && "$compare" write --to "$work/random" --seed "$seed" --count 80 || return 1
+    for file in "$work/random"/*.bin; do
+        "$replay_reference" <"$file" >"$work/random.out" && tools/timeline "$file" "$work/random.out" >"$work/random.svg" || { echo "$file"; return 1; }
+        count=$((count + $(grep -c '>dropped</text>' "$work/random.svg")))
+    done
+    echo "$count dropped writes"
+    [ "$count" -gt 0 ]
+}
+
+# foreign_output NAME EDIT: the time line of an example's input with an edited output.
 foreign_output() {
-    sed "$1" examples/listing.expected >"$work/foreign"
-    tools/timeline "$work/listing.bin" "$work/foreign"
+    sed "$2" "examples/$1.expected" >"$work/foreign"
+    tools/timeline "$work/$1.bin" "$work/foreign"
 }
 
 build_plain
 
 echo "-- examples"
-for name in listing skew mixed; do
+for name in $examples; do
     check "$name on the second program" example "$name" "$replay_reference"
     check "$name on the plain C replay" example "$name" "$plain_replay"
     check "$name to fields and back" decoded "$name"
@@ -83,15 +108,28 @@ check "a zero byte" refused 1 "line 2: a zero byte" encode_text 'begin 0\nseal\0
 check "a refused field" decode_refused
 
 echo "-- the time line"
-for name in listing skew mixed; do
+for name in $examples; do
     check "$name without overlapping labels" picture "$name"
 done
 check "a commit is shown" shows listing "commit"
 check "a roll-back is shown" shows listing "rolled back"
 check "a wait is shown" shows listing "for 1"
 check "a stored value is shown" shows listing "= 4"
-check "a wrong cell line is refused" refused 1 "from line 14 on, the cells are not those that the calls leave" foreign_output 's/^c 0 4$/c 0 3/'
-check "a missing answer is refused" refused 1 "line 13 is not the answer of call 13" foreign_output '/^13 /d'
+check "a wrong cell line is refused" refused 1 "from line 14 on, the cells are not those that the calls leave" foreign_output listing 's/^c 0 4$/c 0 3/'
+check "a missing answer is refused" refused 1 "line 13 is not the answer of call 13" foreign_output listing '/^13 /d'
+check "a value that the cell has not is refused" refused 1 "call 3 reads 7 where the cell has 3" foreign_output listing 's/^3 101 3$/3 101 7/'
+check "a roll-back past the last lock is refused" refused 1 "call 13 is answered 6 with no cell left to lock" foreign_output listing 's/^13 105$/13 6/'
+check "a cell written back has no reader from the seal on" marks written_back "for 1" 23
+check "dropped writes are counted" shows written_back "3 cells, 40 calls, 7 transactions, 7 committed, 2 waits, 6 writes dropped"
+check "dropped writes are marked, and no others" marks written_back "dropped" "5 6 14 16 17 39"
+check "a dropped write is a hollow square" hollow written_back 7
+check "commits go by the cells that are changed" marks written_back "commit" "7 8 24 25 26 35 40"
+check "a seal that drops nothing is refused" refused 1 "call 7 is answered 102 with 0 cells changed" foreign_output written_back 's/^7 105$/7 102/'
+check "a seal that drops a change is refused" refused 1 "call 22 is answered 105 with 1 cell changed" foreign_output written_back 's/^22 102$/22 105/'
+check "an advance for a dropped write is refused" refused 1 "call 30 is answered 103, advance 3 of 1 cell changed" \
+    foreign_output written_back 's/^30 105$/30 103/'
+check "an end with a cell left is refused" refused 1 "call 28 is answered 105, advance 2 of 1 cell changed" foreign_output written_back 's/^28 103$/28 105/'
+check "random replays" random_pictures
 
 echo "-- the proved fields, seed $seed"
 check "the proved fields are built" proved_fields

@@ -36,7 +36,7 @@ corpus() {
 # The lists of the benchmark: the same answers and buffers on the proved store and on plain C.
 benchmark() {
     bash benches/build || return 1
-    for list in known reads write commit update; do
+    for list in known reads write commit update written-back; do
         for entries in 2 32; do
             target/bench/store_bench $list $entries 1024 16 20 || return 1
         done
@@ -55,7 +55,7 @@ check "the replay on the fuzzer's corpus" shown corpus
 check "the proved replay on random files" shown "$compare" replays --program "$PWD/target/bin/replay" --mode spawn --seed "$seed" --count "$replays"
 
 # What stands on the archive for C comes last: it may still be in the making.
-for name in listing skew mixed; do
+for name in listing skew mixed written_back; do
     check "the replay of $name" example $name
 done
 check "the calls for C are built" calls_for_c

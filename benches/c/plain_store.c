@@ -1,4 +1,4 @@
-/* A plain C store with the steps of document 01 and the many reads of document 02. Every call judges its lent buffers and its session's record anew. */
+/* A plain C store with the steps of document 01 and Papers 1 and 2 of document 02. Every call judges its lent buffers and its session's record anew. */
 #include "plain_store.h"
 
 #include <string.h>
@@ -47,21 +47,27 @@ static inline uint32_t find(const uint32_t *log, uint32_t count, uint32_t cell)
     return i;
 }
 
-/* What an advance handles: the entry of the lowest dirty cell not below next, and whether a higher dirty cell is left. */
+/* Whether an entry counts as written from the seal on: it is dirty, and its value is not the one found. Not `&&`: a branch for each costs more. */
+static inline int publishes(const uint32_t *entry)
+{
+    return (entry[DIRTY] & 1) & (entry[CURRENT_VALUE] != entry[SNAPSHOT_VALUE]);
+}
+
+/* What an advance handles: the entry of the lowest cell not below next that publishes, and whether a higher one is left. */
 typedef struct {
     uint32_t entry;
     int more;
-} dirty_step;
+} publishing_step;
 
 /* The step from `from` on; its entry is `count` if there is none. */
-static inline dirty_step lowest_dirty(const uint32_t *log, uint32_t count, uint32_t from)
+static inline publishing_step lowest_publishing(const uint32_t *log, uint32_t count, uint32_t from)
 {
-    dirty_step step = {count, 0};
+    publishing_step step = {count, 0};
     uint32_t lowest = UINT32_MAX;
     for (uint32_t i = 0; i < count; i++) {
-        uint32_t cell = log[PLAIN_ENTRY_WORDS * i + CELL];
-        uint32_t dirty = log[PLAIN_ENTRY_WORDS * i + DIRTY] & 1;
-        if (!dirty || cell < from || cell == lowest || (cell > lowest && step.more) || !is_first(log, i)) {
+        const uint32_t *entry = log + PLAIN_ENTRY_WORDS * i;
+        uint32_t cell = entry[CELL];
+        if (!publishes(entry) || cell < from || cell == lowest || (cell > lowest && step.more) || !is_first(log, i)) {
             continue;
         }
         step.more = step.entry < count;
@@ -81,7 +87,7 @@ static inline int lengths_fit(const plain_lent *lent)
 }
 
 /* Refusals 7, 1 and 9, or 0. In phases 2 to 4 `step` becomes what an advance handles. */
-static inline uint32_t judge(const plain_lent *lent, const plain_session *sessions, uint8_t session, dirty_step *step)
+static inline uint32_t judge(const plain_lent *lent, const plain_session *sessions, uint8_t session, publishing_step *step)
 {
     if (!lengths_fit(lent)) {
         return 7;
@@ -109,7 +115,7 @@ static inline uint32_t judge(const plain_lent *lent, const plain_session *sessio
         return 9;
     }
     if (record.phase >= PROMOTING) {
-        *step = lowest_dirty(log, record.count, record.next);
+        *step = lowest_publishing(log, record.count, record.next);
         if (step->entry == record.count) {
             return 9;
         }
@@ -120,7 +126,7 @@ static inline uint32_t judge(const plain_lent *lent, const plain_session *sessio
 /* Refusals 7, 1, 9 and 2, or 0, of a call that fits one phase. */
 static inline uint32_t admit(const plain_lent *lent, const plain_session *sessions, uint8_t session, uint8_t phase)
 {
-    dirty_step step;
+    publishing_step step;
     uint32_t refused = judge(lent, sessions, session, &step);
     if (refused) {
         return refused;
@@ -320,21 +326,22 @@ plain_answer plain_seal(const plain_lent *lent, plain_session *sessions, uint8_t
     plain_session *record = &sessions[session];
     const uint32_t *log = entry_at(lent, session, 0);
     uint64_t seen[PLAIN_MAX_CELLS / 64] = {0};
-    int any_dirty = 0;
+    int any = 0;
     for (uint32_t i = 0; i < record->count; i++) {
-        uint32_t cell = log[PLAIN_ENTRY_WORDS * i + CELL];
+        const uint32_t *entry = log + PLAIN_ENTRY_WORDS * i;
+        uint32_t cell = entry[CELL];
         uint64_t bit = UINT64_C(1) << (cell % 64);
         if (seen[cell / 64] & bit) {
             continue;
         }
         seen[cell / 64] |= bit;
-        if (log[PLAIN_ENTRY_WORDS * i + DIRTY] & 1) {
-            any_dirty = 1;
+        if (publishes(entry)) {
+            any = 1;
         } else {
             leave(lent, session, cell);
         }
     }
-    if (!any_dirty) {
+    if (!any) {
         go_idle(record);
         return answer(105);
     }
@@ -345,7 +352,7 @@ plain_answer plain_seal(const plain_lent *lent, plain_session *sessions, uint8_t
 
 plain_answer plain_advance(const plain_lent *lent, plain_session *sessions, uint8_t session)
 {
-    dirty_step step = {0, 0};
+    publishing_step step = {0, 0};
     uint32_t refused = judge(lent, sessions, session, &step);
     if (refused) {
         return answer(refused);
@@ -389,7 +396,7 @@ plain_answer plain_advance(const plain_lent *lent, plain_session *sessions, uint
 
 plain_answer plain_abandon(const plain_lent *lent, plain_session *sessions, uint8_t session)
 {
-    dirty_step step;
+    publishing_step step;
     uint32_t refused = judge(lent, sessions, session, &step);
     if (refused) {
         return answer(refused);

@@ -4,11 +4,12 @@ use crate::field::Field;
 use crate::many_reads::{MANY, MANY_AFTER_A_VALUE, MANY_AND_A_CELL_AGAIN};
 use crate::random::Random;
 use crate::store::{Buffers, Call, Session, CAPS, LOG_WORDS, MAX_ENTRIES, NOBODY, SESSIONS};
+use crate::written_back;
 use std::collections::BTreeMap;
 use std::fmt;
 
 /// The numbers that each call must be seen to answer over a run on arbitrary buffers.
-pub const REQUIRED: [(&str, &[u32]); 11] = [
+pub const REQUIRED: [(&str, &[u32]); 17] = [
     ("set-up", &[7, 8, 100]),
     ("begin", &[1, 2, 7, 9, 100]),
     ("read", &[1, 2, 3, 5, 6, 7, 9, 101]),
@@ -20,6 +21,12 @@ pub const REQUIRED: [(&str, &[u32]); 11] = [
     ("advance", &[1, 2, 6, 7, 9, 103, 104, 105]),
     ("abandon", &[1, 2, 7, 9, 100]),
     ("peek", &[1, 2, 3, 7, 9, 14, 100]),
+    (written_back::PEEK, &[100]),
+    (written_back::SEAL_DROPPED_BY_THE_FIRST, &[102, 105]),
+    (written_back::SEAL_KEPT_BY_THE_FIRST, &[102]),
+    (written_back::PROMOTING_NOTHING, &[9]),
+    (written_back::PUBLISHING_NOTHING, &[9]),
+    (written_back::RELEASING_NOTHING, &[9]),
 ];
 
 /// The numbers that the field reader and the field writer must be seen to answer.
@@ -86,7 +93,7 @@ pub fn buffers(random: &Random) -> Buffers {
     };
     for session in 0..SESSIONS {
         buffers.sessions[session] = record(random, n);
-        log(random, n, &mut buffers.logs);
+        log(random, &buffers.values, &mut buffers.logs);
     }
     if random.percent(5) {
         misfit(random, &mut buffers);
@@ -142,8 +149,11 @@ fn record(random: &Random, n: usize) -> Session {
     Session { phase, count, next }
 }
 
-/// Appends one session's 128 words: few different cells, so that a cell often has several entries; now and then one not below n.
-fn log(random: &Random, n: usize, logs: &mut Vec<u32>) {
+/// Appends one session's 128 words: few different cells, so that a cell often has several entries; now and then one not below n. In some logs
+/// most entries have the value that they found, in others few.
+fn log(random: &Random, values: &[u32], logs: &mut Vec<u32>) {
+    let n = values.len();
+    let back = random.pick(&[2, 5, 30, 60, 95]);
     let pool = random.pick(&[n, n, n.min(3), n.min(8)]);
     let first = random.below(n - pool + 1);
     let stray = if random.percent(12) { Some(random.below(MAX_ENTRIES)) } else { None };
@@ -151,8 +161,18 @@ fn log(random: &Random, n: usize, logs: &mut Vec<u32>) {
     for index in 0..MAX_ENTRIES {
         let cell = if stray == Some(index) { stray_cell(random, n) } else { (first + random.below(pool)) as u32 };
         let dirty = random.pick(&[0, 1, random.word(), 2, 3, u32::MAX]);
-        logs.extend_from_slice(&[cell, random.word(), random.word(), if clean { dirty & !1 } else { dirty }]);
+        let (snapshot, current) = entry_values(random, values.get(cell as usize).copied().unwrap_or(0), back);
+        logs.extend_from_slice(&[cell, snapshot, current, if clean { dirty & !1 } else { dirty }]);
     }
+}
+
+/// The value found and the current one, equal so many times in a hundred, else often different in one bit. Either may be the store's.
+fn entry_values(random: &Random, stored: u32, back: usize) -> (u32, u32) {
+    let snapshot = random.pick(&[stored, random.word()]);
+    if random.percent(back) {
+        return (snapshot, snapshot);
+    }
+    (snapshot, random.pick(&[stored, snapshot ^ 1 << random.below(32), random.word()]))
 }
 
 /// Gives one buffer a wrong length, or all of them a length that no store has.
@@ -202,7 +222,8 @@ pub fn call(random: &Random, buffers: &Buffers, own: u8) -> Call {
         random.below(n) as u32
     };
     let cap = buffers.classes.get(cell as usize).and_then(|class| CAPS.get(*class as usize)).copied().unwrap_or(0);
-    let value = random.pick(&[0, cap, cap.wrapping_add(1), random.word()]);
+    let found = buffers.found(own, cell).unwrap_or(0);
+    let value = random.pick(&[0, cap, cap.wrapping_add(1), random.word(), found]);
     match random.weighted(&[2, 8, 20, 24, 10, 24, 4, 8]) {
         0 => Call::SetUp,
         1 => Call::Begin { session },

@@ -12,6 +12,8 @@ pub struct Shape {
     pub hot: usize,
     /// Read new cells one after the other, so that logs fill up.
     pub sweeping: bool,
+    /// Of a hundred writes, those that put back the value found.
+    pub back: usize,
 }
 
 /// The input of one case.
@@ -70,6 +72,7 @@ pub fn set_up(random: &Random, bytes: &mut Vec<u8>) -> (Shape, Buffers) {
         sessions: if sweeping { random.range(1, 3) } else { random.pick(&[1, 2, 2, 2, 3, 3, 4, 6, 16]) },
         hot: random.range(1, n.min(4)),
         sweeping,
+        back: random.pick(&[2, 10, 40, 85]),
     };
     (shape, buffers)
 }
@@ -116,7 +119,8 @@ pub fn next_call(random: &Random, shape: &Shape, buffers: &Buffers) -> Field {
     };
     let tag = tags[random.weighted(&weights)];
     let cell = choose_cell(random, shape, buffers, session);
-    let value = choose_value(random, buffers, cell);
+    let value = if random.percent(shape.back) { buffers.found(session, cell as u32) } else { None };
+    let value = value.unwrap_or_else(|| choose_value(random, buffers, cell));
     carried(tag, session, cell, value)
 }
 
@@ -143,15 +147,13 @@ pub fn choose_cell(random: &Random, shape: &Shape, buffers: &Buffers, session: u
 }
 
 fn choose_value(random: &Random, buffers: &Buffers, cell: u16) -> u32 {
-    let (value, class) = match buffers.values.get(cell as usize) {
-        Some(value) => (*value, buffers.classes[cell as usize]),
+    let class = match buffers.classes.get(cell as usize) {
+        Some(class) => *class,
         None => return random.word(),
     };
-    let cap = CAPS[class as usize];
-    match random.weighted(&[80, 6, 8, 6]) {
+    match random.weighted(&[86, 8, 6]) {
         0 => value_within(random, class),
-        1 => value,
-        2 => cap.saturating_add(1),
+        1 => CAPS[class as usize].saturating_add(1),
         _ => random.word(),
     }
 }

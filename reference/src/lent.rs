@@ -92,6 +92,19 @@ pub enum Call {
     Peek { session: u8, cell: u32 },
 }
 
+impl Call {
+    /// The session that calls, but at set-up.
+    pub fn session(self) -> Option<u8> {
+        match self {
+            Call::SetUp => None,
+            Call::Begin { session } | Call::Seal { session } | Call::Advance { session } | Call::Abandon { session } => {
+                Some(session)
+            }
+            Call::Read { session, .. } | Call::Write { session, .. } | Call::Peek { session, .. } => Some(session),
+        }
+    }
+}
+
 /// Many reads in one call. Its target is the first `lent` of the words: what comes after them is not lent, and must stay.
 #[derive(Clone, Debug, PartialEq, Eq)]
 pub struct ManyReads {
@@ -132,5 +145,13 @@ impl Buffers {
             logs: vec![0; LOG_WORDS],
             sessions: [Session::default(); SESSIONS],
         }
+    }
+
+    /// The value that a session's first entry for a cell found, or else the store's: what a write of it puts back. Of any contents and lengths.
+    pub fn found(&self, session: u8, cell: u32) -> Option<u32> {
+        let log = self.logs.get(SESSION_WORDS * session as usize..).unwrap_or(&[]);
+        let count = self.sessions.get(session as usize).map_or(0, |record| record.count as usize).min(MAX_ENTRIES);
+        let entry = log.chunks_exact(ENTRY_WORDS).take(count).find(|entry| entry[0] == cell);
+        entry.map(|entry| entry[1]).or(self.values.get(cell as usize).copied())
     }
 }

@@ -62,7 +62,7 @@ pub fn replay(input: &[u8]) -> Vec<u8> {
 }
 
 /// The buffers of the leading 08 fields, however many, and the place after them.
-fn starting_cells(input: &[u8]) -> (Buffers, usize) {
+pub fn starting_cells(input: &[u8]) -> (Buffers, usize) {
     let mut values = Vec::new();
     let mut classes = Vec::new();
     let mut place = 0;

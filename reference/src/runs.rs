@@ -7,9 +7,10 @@ use crate::many_reads::{self, MANY, MANY_AFTER_A_VALUE, MANY_AND_A_CELL_AGAIN};
 use crate::random::Random;
 use crate::replay::call_of;
 use crate::store::{Buffers, Call, ManyReads, RUNNING, SESSIONS};
+use crate::written_back;
 
 /// The numbers that each call must be seen to answer over the runs: every one that it can give on a store that is set up.
-pub const REQUIRED: [(&str, &[u32]); 10] = [
+pub const REQUIRED: [(&str, &[u32]); 11] = [
     ("begin", &[1, 2, 100]),
     ("read", &[1, 2, 3, 5, 6, 101]),
     (MANY, &[1, 2, 3, 5, 6, 13, 15, 101]),
@@ -20,6 +21,7 @@ pub const REQUIRED: [(&str, &[u32]); 10] = [
     ("advance", &[1, 2, 6, 103, 104, 105]),
     ("abandon", &[1, 2, 100]),
     ("peek", &[1, 2, 3, 14, 100]),
+    (written_back::PEEK, &[100]),
 ];
 
 /// A call of a run.

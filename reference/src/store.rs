@@ -1,34 +1,48 @@
-//! The store's calls: document 01, 'The steps' and 'When a call is turned down', and document 02, Paper 1.
+//! The store's calls: document 01, 'The steps' and 'When a call is turned down', and document 02, Papers 1 and 2.
 //! Every call is total: it says what happens for any contents and any lengths of the lent buffers.
 
 pub use crate::lent::*;
 
 /// One log entry and the index of its first word in all the logs.
 #[derive(Clone, Copy)]
-struct Entry {
-    at: usize,
-    cell: u32,
-    current: u32,
-    dirty: bool,
+pub struct Entry {
+    pub at: usize,
+    pub cell: u32,
+    pub snapshot: u32,
+    pub current: u32,
+    /// Written, whatever the value: peek goes by this.
+    pub dirty: bool,
+}
+
+impl Entry {
+    /// What counts as written from the seal on: dirty, and with another value than the one found.
+    pub fn publishes(&self) -> bool {
+        self.dirty && self.current != self.snapshot
+    }
+
+    /// Dirty, and yet with the value found: from the seal on the same as read.
+    pub fn written_back(&self) -> bool {
+        self.dirty && self.current == self.snapshot
+    }
 }
 
 /// The entries of the calling session, judged: at most 32, every cell in the store.
-struct Entries(Vec<Entry>);
+pub struct Entries(pub Vec<Entry>);
 
 impl Entries {
     /// The entry that counts for a cell: of several, the first.
-    fn find(&self, cell: u32) -> Option<Entry> {
+    pub fn find(&self, cell: u32) -> Option<Entry> {
         self.0.iter().copied().find(|entry| entry.cell == cell)
     }
 
     /// The entries that count, one for each entered cell.
-    fn counting(&self) -> impl Iterator<Item = Entry> + '_ {
+    pub fn counting(&self) -> impl Iterator<Item = Entry> + '_ {
         self.0.iter().copied().filter(move |entry| self.find(entry.cell).map(|first| first.at) == Some(entry.at))
     }
 
-    /// The lowest dirty cell not below `next`.
-    fn lowest_dirty(&self, next: u32) -> Option<Entry> {
-        self.counting().filter(|entry| entry.dirty && entry.cell >= next).min_by_key(|entry| entry.cell)
+    /// The lowest cell not below `next` that publishes.
+    pub fn lowest_publishing(&self, next: u32) -> Option<Entry> {
+        self.counting().filter(|entry| entry.publishes() && entry.cell >= next).min_by_key(|entry| entry.cell)
     }
 }
 
@@ -145,10 +159,10 @@ impl Buffers {
             Ok(entries) => entries,
             Err(number) => return refuse(number),
         };
-        for entry in entries.counting().filter(|entry| !entry.dirty) {
+        for entry in entries.counting().filter(|entry| !entry.publishes()) {
             self.leave(session, entry.cell);
         }
-        if entries.lowest_dirty(0).is_none() {
+        if entries.lowest_publishing(0).is_none() {
             self.go_idle(session);
             return good(COMMITTED);
         }
@@ -164,7 +178,7 @@ impl Buffers {
             Err(number) => return refuse(number),
         };
         let record = self.sessions[session as usize];
-        let entry = entries.lowest_dirty(record.next as u32).expect("judged");
+        let entry = entries.lowest_publishing(record.next as u32).expect("judged");
         let cell = entry.cell as usize;
         match record.phase {
             PROMOTING => {
@@ -240,8 +254,22 @@ impl Buffers {
             && self.logs.len() == LOG_WORDS
     }
 
-    /// Refusals 7, 1, 9 and 2, in this order; otherwise the session's entries. An idle session has none, whatever its count.
+    /// Refusals 7, 1, 9 and 2, in this order; otherwise the session's entries.
     fn judge(&self, session: u8, phases: &[u8]) -> Result<Entries, u32> {
+        let entries = self.sound_entries(session)?;
+        let record = self.sessions[session as usize];
+        if record.phase >= PROMOTING && entries.lowest_publishing(record.next as u32).is_none() {
+            return Err(DAMAGED);
+        }
+        if !phases.contains(&record.phase) {
+            return Err(WRONG_PHASE);
+        }
+        Ok(entries)
+    }
+
+    /// Refusals 7, 1 and 9, this one without the cause that sealed sessions alone have; otherwise the session's entries. An idle session has none,
+    /// whatever its count.
+    pub fn sound_entries(&self, session: u8) -> Result<Entries, u32> {
         if !self.lengths_fit() {
             return Err(WRONG_LENGTH);
         }
@@ -261,12 +289,6 @@ impl Buffers {
             if entries.0.iter().any(|entry| entry.cell as usize >= self.values.len()) {
                 return Err(DAMAGED);
             }
-            if record.phase >= PROMOTING && entries.lowest_dirty(record.next as u32).is_none() {
-                return Err(DAMAGED);
-            }
-        }
-        if !phases.contains(&record.phase) {
-            return Err(WRONG_PHASE);
         }
         Ok(entries)
     }
@@ -277,7 +299,8 @@ impl Buffers {
         let start = SESSION_WORDS * session as usize;
         let entry = |index: usize| {
             let at = start + ENTRY_WORDS * index;
-            Entry { at, cell: self.logs[at], current: self.logs[at + 2], dirty: self.logs[at + 3] % 2 == 1 }
+            let words = &self.logs[at..at + ENTRY_WORDS];
+            Entry { at, cell: words[0], snapshot: words[1], current: words[2], dirty: words[3] % 2 == 1 }
         };
         Entries((0..count).map(entry).collect())
     }
@@ -307,7 +330,7 @@ impl Buffers {
     fn handled(&mut self, session: u8, cell: u32, entries: &Entries) -> Answer {
         let record = &mut self.sessions[session as usize];
         record.next = cell as u16 + 1;
-        if entries.lowest_dirty(cell + 1).is_some() {
+        if entries.lowest_publishing(cell + 1).is_some() {
             return good(MOVED);
         }
         if record.phase == RELEASING {

@@ -1,7 +1,11 @@
 //! Counts what a run met: each answer, each refused field and set-up, and the events that make a run worth its time.
 
+use crate::arbitrary::Numbers;
 use crate::field;
-use std::collections::{BTreeMap, BTreeSet};
+use crate::replay::{call_of, starting_cells};
+use crate::store::{Buffers, Call, Entry};
+use crate::written_back;
+use std::collections::BTreeMap;
 use std::fmt;
 
 /// The answers of calls that every run must meet.
@@ -20,6 +24,7 @@ pub struct Tally {
     pub field: BTreeMap<u32, u64>,
     pub calls: BTreeMap<u32, u64>,
     pub events: BTreeMap<&'static str, u64>,
+    pub written_back: Numbers,
 }
 
 impl Tally {
@@ -39,7 +44,7 @@ impl Tally {
                 "c" => (),
                 _ => {
                     *self.calls.entry(number(1)).or_default() += 1;
-                    if let Some(event) = walk.step(number(1)) {
+                    if let Some(event) = walk.step(number(1), &mut self.written_back) {
                         *self.events.entry(event).or_default() += 1;
                     }
                 }
@@ -61,6 +66,7 @@ impl Tally {
         if self.size == 0 {
             missing.push("size".to_string());
         }
+        missing.extend(self.written_back.missing(&written_back::REQUIRED));
         missing
     }
 }
@@ -74,7 +80,7 @@ impl fmt::Display for Tally {
         for (event, times) in &self.events {
             writeln!(f, "  {}: {}", event, times)?;
         }
-        Ok(())
+        write!(f, "{}", self.written_back)
     }
 }
 
@@ -86,50 +92,51 @@ fn line(f: &mut fmt::Formatter, kind: &str, counts: &BTreeMap<u32, u64>) -> fmt:
     writeln!(f)
 }
 
-/// Follows the calls of an input beside their answers.
+/// Follows the calls of an input beside their answers, with a store that runs along.
 struct Walk<'a> {
     input: &'a [u8],
     place: usize,
-    written: BTreeMap<u8, BTreeSet<u16>>,
+    buffers: Buffers,
 }
 
 impl<'a> Walk<'a> {
     fn new(input: &'a [u8]) -> Walk<'a> {
-        let mut place = 0;
-        loop {
-            let reading = field::read_field(input, place);
-            if reading.number != field::GOOD || reading.field.tag != field::CELL {
-                return Walk { input, place, written: BTreeMap::new() };
+        let (mut buffers, place) = starting_cells(input);
+        buffers.set_up();
+        Walk { input, place, buffers }
+    }
+
+    /// The event of the next call, given its answer; what it is of Paper 2 is counted.
+    fn step(&mut self, answer: u32, numbers: &mut Numbers) -> Option<&'static str> {
+        let reading = field::read_field(self.input, self.place);
+        self.place += reading.length;
+        let call = call_of(&reading.field)?;
+        for kind in written_back::kinds(&self.buffers, call) {
+            numbers.add(kind, answer);
+        }
+        let event = self.event(call, answer);
+        self.buffers.call(call);
+        event
+    }
+
+    fn event(&self, call: Call, answer: u32) -> Option<&'static str> {
+        match (call, answer) {
+            (Call::Advance { session }, 105) => {
+                Some(if self.published(session) > 1 { "commits of several cells" } else { "commits of one cell" })
             }
-            place += reading.length;
+            (Call::Seal { .. }, 105) => Some("commits of no cell"),
+            (Call::Read { .. }, 6) => Some("roll-backs on a read"),
+            (Call::Write { .. }, 6) => Some("roll-backs on a write"),
+            (Call::Advance { .. }, 6) => Some("roll-backs on an advance"),
+            (Call::Abandon { .. }, 100) => Some("roll-backs on an abandon"),
+            (Call::Advance { .. }, 104) => Some("waits"),
+            (Call::Read { .. }, 5) | (Call::Write { .. }, 5) => Some("full logs"),
+            _ => None,
         }
     }
 
-    /// The event of the next call, given its answer.
-    fn step(&mut self, answer: u32) -> Option<&'static str> {
-        let reading = field::read_field(self.input, self.place);
-        self.place += reading.length;
-        let called = reading.field;
-        let written = self.written.entry(called.session).or_default();
-        match (called.tag, answer) {
-            (field::BEGIN, 100) => {
-                written.clear();
-                None
-            }
-            (field::WRITE, 100) => {
-                written.insert(called.cell);
-                None
-            }
-            (field::ADVANCE, 105) if written.len() > 1 => Some("commits of several cells"),
-            (field::ADVANCE, 105) => Some("commits of one cell"),
-            (field::SEAL, 105) => Some("commits of no cell"),
-            (field::READ, 6) => Some("roll-backs on a read"),
-            (field::WRITE, 6) => Some("roll-backs on a write"),
-            (field::ADVANCE, 6) => Some("roll-backs on an advance"),
-            (field::ABANDON, 100) => Some("roll-backs on an abandon"),
-            (field::ADVANCE, 104) => Some("waits"),
-            (field::READ, 5) | (field::WRITE, 5) => Some("full logs"),
-            _ => None,
-        }
+    /// How many cells the session publishes.
+    fn published(&self, session: u8) -> usize {
+        self.buffers.sound_entries(session).map_or(0, |entries| entries.counting().filter(Entry::publishes).count())
     }
 }

@@ -5,31 +5,7 @@ mod common;
 
 use common::*;
 use reference::boundary::located;
-use reference::store::{Buffers, Call, Part, Session};
-
-/// Session 3 in this phase with these entries (cell, snapshot value, current value, dirty) in a store of three cells.
-fn entered(phase: u8, entries: &[[u32; 4]]) -> Buffers {
-    let mut buffers = store_of(3);
-    buffers.sessions[3] = Session { phase, count: entries.len() as u8, next: 0 };
-    for (index, entry) in entries.iter().enumerate() {
-        buffers.logs[128 * 3 + 4 * index..128 * 3 + 4 * index + 4].copy_from_slice(entry);
-    }
-    buffers
-}
-
-/// Every call of session 3 but set-up.
-fn every_call() -> [Call; 7] {
-    [begin(3), read(3, 0), write(3, 0, 1), seal(3), advance(3), abandon(3), peek(3, 0)]
-}
-
-/// Asserts that every call gets this refusal and leaves everything as before.
-fn all_refused(buffers: &Buffers, refusal: u32) {
-    for call in every_call() {
-        let mut after = buffers.clone();
-        assert_eq!(after.call(call), number(refusal), "{:?}", call);
-        assert_eq!(&after, buffers, "{:?}", call);
-    }
-}
+use reference::store::{Part, Session};
 
 #[test]
 fn a_wrong_length_is_7_before_all_else() {
@@ -87,7 +63,7 @@ fn a_phase_above_4_is_9_on_every_call() {
 fn a_count_above_32_is_9_in_phases_1_to_4() {
     for phase in 1..=4 {
         for count in [33, 34, 255] {
-            let mut buffers = entered(phase, &[[0, 0, 0, 1]]);
+            let mut buffers = entered(phase, &[[0, 0, 1, 1]]);
             buffers.sessions[3].count = count;
             all_refused(&buffers, 9);
         }
@@ -98,21 +74,21 @@ fn a_count_above_32_is_9_in_phases_1_to_4() {
 fn an_entered_cell_not_below_n_is_9_in_phases_1_to_4() {
     for phase in 1..=4 {
         for cell in [3, 4, 65_536, u32::MAX] {
-            all_refused(&entered(phase, &[[0, 0, 0, 1], [cell, 0, 0, 0]]), 9);
+            all_refused(&entered(phase, &[[0, 0, 1, 1], [cell, 0, 0, 0]]), 9);
         }
     }
 }
 
 #[test]
 fn words_past_the_count_are_not_judged() {
-    let mut buffers = entered(1, &[[0, 3, 3, 0], [u32::MAX, 0, 0, 1]]);
+    let mut buffers = entered(1, &[[0, 3, 3, 0], [u32::MAX, 0, 1, 1]]);
     buffers.sessions[3].count = 1;
     run(&mut buffers, &[(read(3, 0), value(3)), (seal(3), number(105))]);
 }
 
 #[test]
 fn an_idle_session_is_judged_by_its_phase_alone() {
-    let mut buffers = entered(0, &[[u32::MAX, 0, 0, 1]]);
+    let mut buffers = entered(0, &[[u32::MAX, 0, 1, 1]]);
     buffers.sessions[3] = Session { phase: 0, count: 255, next: 65_535 };
     for call in [read(3, 0), write(3, 0, 1), seal(3), advance(3), abandon(3), peek(3, 0)] {
         assert_eq!(buffers.call(call), number(2));
@@ -125,8 +101,8 @@ fn an_idle_session_is_judged_by_its_phase_alone() {
 fn no_written_cell_at_or_above_next_is_9_in_phases_2_to_4() {
     for phase in 2..=4 {
         all_refused(&entered(phase, &[]), 9);
-        all_refused(&entered(phase, &[[0, 0, 0, 0], [1, 0, 0, 2]]), 9);
-        let mut past = entered(phase, &[[0, 0, 0, 1], [1, 0, 0, 1]]);
+        all_refused(&entered(phase, &[[0, 0, 1, 0], [1, 0, 1, 2]]), 9);
+        let mut past = entered(phase, &[[0, 0, 1, 1], [1, 0, 1, 1]]);
         for next in [2, 3, 65_535] {
             past.sessions[3].next = next;
             all_refused(&past, 9);
@@ -140,7 +116,7 @@ fn no_written_cell_at_or_above_next_is_9_in_phases_2_to_4() {
 #[test]
 fn written_is_judged_by_the_first_entry_of_a_cell() {
     for phase in 2..=4 {
-        all_refused(&entered(phase, &[[1, 0, 0, 0], [1, 0, 0, 1]]), 9);
+        all_refused(&entered(phase, &[[1, 0, 1, 0], [1, 0, 1, 1]]), 9);
     }
     let mut buffers = entered(3, &[[1, 0, 7, 1], [1, 0, 8, 1], [1, 0, 9, 0]]);
     run(&mut buffers, &[(advance(3), number(103))]);
@@ -150,9 +126,9 @@ fn written_is_judged_by_the_first_entry_of_a_cell() {
 
 #[test]
 fn nine_comes_before_two() {
-    let buffers = entered(2, &[[5, 0, 0, 1]]);
+    let buffers = entered(2, &[[5, 0, 1, 1]]);
     all_refused(&buffers, 9);
-    let mut fitting = entered(2, &[[0, 0, 0, 1]]);
+    let mut fitting = entered(2, &[[0, 0, 1, 1]]);
     run(&mut fitting, &[(begin(3), number(2)), (read(3, 0), number(2)), (read(3, 9), number(2)), (peek(3, 9), number(2))]);
 }
 

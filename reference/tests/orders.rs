@@ -207,9 +207,3 @@ fn nothing_is_published_before_the_last_promotion_or_freed_before_the_last_publi
     ];
     assert_eq!(seen, expected);
 }
-
-#[test]
-fn an_equal_value_counts_as_written() {
-    let mut buffers = store_of(1);
-    run(&mut buffers, &[(begin(0), number(100)), (read(0, 0), value(3)), (write(0, 0, 3), number(100)), (seal(0), number(102))]);
-}

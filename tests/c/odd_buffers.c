@@ -1,5 +1,5 @@
-/* Calls on buffers that no run leaves, through the calls for C: numbers 9 and 14, duplicate entries, any fourth word, any claimant byte, any record;
-   and many reads, numbers 15 and 13 among them. Two cells of class 2, values 3 and 5; the session is passed the record; session 0's log begins with the
+/* Calls on buffers that no run leaves, through the calls for C: numbers 9 and 14, duplicate entries, any fourth word, any claimant byte, any record,
+   values written back; and many reads, numbers 15 and 13 among them. Two cells of class 2, values 3 and 5; the session is passed the record; session 0's log begins with the
    words. Prints a line for each row, with the record that came back. */
 #include "rukkanei.h"
 
@@ -49,6 +49,20 @@ static const row rows[] = {
     {"phase 9 abandons", 9, 1, 0, {0, 3, 4, 1}, {1, 0}, {0, 16}, 'n', 0, 0, 0},
     {"phase 9 peeks", 9, 1, 0, {0, 3, 4, 1}, {1, 0}, {16, 16}, 'p', 0, 0, 0},
     {"a record of another session's number", 2, 1, 0, {0, 3, 4, 1}, {3, 0}, {16, 16}, 'a', 1, 0, 0},
+    {"a value written back", 1, 1, 0, {0, 4, 4, 1}, {3, 0}, {16, 16}, 's', 0, 0, 0},
+    {"the store's value, and not the one found", 1, 1, 0, {0, 4, 3, 1}, {3, 0}, {16, 16}, 's', 0, 0, 0},
+    {"one of two written back", 1, 2, 0, {0, 4, 4, 7, 1, 4, 6, 7}, {1, 1}, {16, 16}, 's', 0, 0, 0},
+    {"the first entry written back, the second not", 1, 2, 0, {0, 4, 4, 1, 0, 4, 6, 1}, {1, 0}, {16, 16}, 's', 0, 0, 0},
+    {"the second entry written back, the first not", 1, 2, 0, {0, 4, 6, 1, 0, 4, 4, 1}, {1, 0}, {16, 16}, 's', 0, 0, 0},
+    {"another value without the written bit", 1, 1, 0, {0, 4, 6, 2}, {1, 0}, {16, 16}, 's', 0, 0, 0},
+    {"a written-back cell peeked", 1, 1, 0, {0, 4, 4, 1}, {1, 0}, {16, 16}, 'p', 0, 0, 0},
+    {"the value found written to a new cell", 1, 0, 0, {0}, {0, 0}, {16, 16}, 'w', 0, 0, 3},
+    {"nothing but a written-back cell to promote", 2, 1, 0, {0, 4, 4, 1}, {1, 0}, {16, 16}, 'a', 0, 0, 0},
+    {"nothing but a written-back cell to abandon", 2, 1, 0, {0, 4, 4, 1}, {1, 0}, {16, 16}, 'n', 0, 0, 0},
+    {"a written-back cell not promoted", 2, 2, 0, {0, 4, 4, 1, 1, 4, 6, 1}, {1, 1}, {3, 16}, 'a', 0, 0, 0},
+    {"a written-back cell not published", 3, 2, 0, {0, 4, 4, 1, 1, 4, 6, 1}, {0, 1}, {16, 0}, 'a', 0, 0, 0},
+    {"a written-back cell not released", 4, 2, 0, {0, 4, 4, 1, 1, 4, 6, 1}, {1, 1}, {0, 0}, 'a', 0, 0, 0},
+    {"a written-back cell above the last to release", 4, 2, 0, {1, 4, 4, 1, 0, 4, 6, 1}, {1, 1}, {0, 0}, 'a', 0, 0, 0},
 };
 
 /* Many reads: the list, and how long the target is. */

@@ -13,7 +13,8 @@ FLAGS = ["-O1", "-std=c99", "-fPIC", "-I" + os.path.join(ROOT, "benches/c"), "-I
 
 REPLAY, RUN, BUFFERS = "on replays", "in runs", "on arbitrary buffers"
 
-# Each wrong store: its name, where it must show, and the edit. Those that show on replays or in runs must show on arbitrary buffers too.
+# Each wrong store: its name, where it must show, and the edit, an old text and a new one or several such pairs. Those that show on replays or in runs
+# must show on arbitrary buffers too.
 EDITS = [
     ("reader locks dropped after each read", REPLAY,
      "    lent->readers[cell] |= (uint16_t)(1u << session);\n", ""),
@@ -35,7 +36,7 @@ EDITS = [
      "        const uint32_t *log = entry_at(lent, session, 0);\n"
      "        for (uint32_t i = 0; record->next == 0 && i < record->count; i++) {\n"
      "            const uint32_t *e = entry_at(lent, session, i);\n"
-     "            if (e[DIRTY] & 1 && is_first(log, i)) {\n"
+     "            if (publishes(e) && is_first(log, i)) {\n"
      "                lent->values[e[CELL]] = e[CURRENT_VALUE];\n"
      "            }\n"
      "        }\n"
@@ -55,8 +56,6 @@ EDITS = [
     ("a wait without a claim", REPLAY,
      "        lent->claimants[cell] = session;\n        if (lent->readers[cell] & ~(1u << session)) {\n            return answer(104);\n        }\n",
      "        if (lent->readers[cell] & ~(1u << session)) {\n            return answer(104);\n        }\n        lent->claimants[cell] = session;\n"),
-    ("an equal value not counted as written", REPLAY,
-     "    entry[DIRTY] = 1;\n", "    entry[DIRTY] = entry[SNAPSHOT_VALUE] != value;\n"),
     ("a claim kept over a roll-back", REPLAY,
      "            lent->claimants[cell] = PLAIN_NOBODY;\n            lent->exclusives[cell] = 0;\n        }\n    }\n    go_idle",
      "            lent->exclusives[cell] = 0;\n        }\n    }\n    go_idle"),
@@ -66,14 +65,14 @@ EDITS = [
      "    if (i == PLAIN_MAX_ENTRIES) {", "    if (i >= PLAIN_MAX_ENTRIES - 1) {"),
     ("a full log told after the claim", BUFFERS,
      "    if (i == PLAIN_MAX_ENTRIES) {", "    if (i == PLAIN_MAX_ENTRIES && lent->claimants[cell] == PLAIN_NOBODY) {"),
-    ("any dirty entry counted, not the first of its cell", BUFFERS,
+    ("any entry that publishes counted, not the first of its cell", BUFFERS,
      " || !is_first(log, i)) {", ") {"),
     ("the next written cell in the order of the log", REPLAY,
      "        if (cell < lowest) {\n", "        if (!step.more) {\n"),
     ("later entries of a cell judged at the seal", BUFFERS,
      "            continue;\n        }\n        seen", "            ;\n        }\n        seen"),
     ("the fourth word judged whole", BUFFERS,
-     "        if (log[PLAIN_ENTRY_WORDS * i + DIRTY] & 1) {", "        if (log[PLAIN_ENTRY_WORDS * i + DIRTY]) {"),
+     "    return (entry[DIRTY] & 1) & ", "    return entry[DIRTY] && "),
     ("the own bit counted among the readers", BUFFERS,
      "        if (lent->readers[cell] & ~(1u << session)) {",
      "        uint32_t all = lent->readers[cell];\n        if (all & (all - 1)) {"),
@@ -99,6 +98,97 @@ EDITS = [
      "    memset(lent->logs, 0, PLAIN_LOG_WORDS * sizeof lent->logs[0]);\n", ""),
     ("lengths of the marks not judged", BUFFERS,
      " && lent->exclusives_len == n", ""),
+    ("written back: counted as written", REPLAY,
+     "    return (entry[DIRTY] & 1) & (entry[CURRENT_VALUE] != entry[SNAPSHOT_VALUE]);\n", "    return entry[DIRTY] & 1;\n"),
+    ("written back: another value counted without the written bit", BUFFERS,
+     "    return (entry[DIRTY] & 1) & (", "    return ("),
+    ("written back: half of each value compared", BUFFERS,
+     "(entry[CURRENT_VALUE] != entry[SNAPSHOT_VALUE]);\n", "((uint16_t)entry[CURRENT_VALUE] != (uint16_t)entry[SNAPSHOT_VALUE]);\n"),
+    ("written back: only a larger value counted", REPLAY,
+     "(entry[CURRENT_VALUE] != entry[SNAPSHOT_VALUE]);\n", "(entry[CURRENT_VALUE] > entry[SNAPSHOT_VALUE]);\n"),
+    ("written back: compared with the store's value at the seal", BUFFERS,
+     "        if (publishes(entry)) {\n", "        if ((entry[DIRTY] & 1) && entry[CURRENT_VALUE] != lent->values[cell]) {\n"),
+    ("written back: compared with the store's value on an advance", REPLAY,
+     "lowest_publishing(const uint32_t *log, ", "lowest_publishing(const uint32_t *values, const uint32_t *log, ",
+     "        if (!publishes(entry) || ", "        if (!(entry[DIRTY] & 1) || entry[CURRENT_VALUE] == values[cell] || ",
+     "lowest_publishing(log, ", "lowest_publishing(lent->values, log, "),
+    ("written back: compared with the value before the write", REPLAY,
+     "    entry[CURRENT_VALUE] = value;\n    entry[DIRTY] = 1;\n", "    entry[DIRTY] = entry[CURRENT_VALUE] != value;\n    entry[CURRENT_VALUE] = value;\n"),
+    ("written back: the first write of a new cell taken for the value found", REPLAY,
+     "    uint32_t *entry;\n    refused = enter(lent, &sessions[session], session, cell, &entry);\n    if (refused) {\n        return answer(refused);\n    }\n"
+     "    entry[CURRENT_VALUE] = value;\n",
+     "    uint32_t *entry;\n    uint8_t count = sessions[session].count;\n    refused = enter(lent, &sessions[session], session, cell, &entry);\n"
+     "    if (refused) {\n        return answer(refused);\n    }\n"
+     "    if (sessions[session].count > count) {\n        entry[SNAPSHOT_VALUE] = value;\n    }\n"
+     "    entry[CURRENT_VALUE] = value;\n"),
+    ("written back: dropped for good, though another value comes after it", REPLAY,
+     "    entry[DIRTY] = 1;\n", "    entry[DIRTY] = value == entry[SNAPSHOT_VALUE] ? 3 : entry[DIRTY] | 1;\n",
+     "    return (entry[DIRTY] & 1) & ", "    return ((entry[DIRTY] & 3) == 1) & "),
+    ("written back: the write ignored, so that a change before it stays", REPLAY,
+     "    entry[CURRENT_VALUE] = value;\n    entry[DIRTY] = 1;\n",
+     "    if (value != entry[SNAPSHOT_VALUE]) {\n        entry[CURRENT_VALUE] = value;\n    }\n    entry[DIRTY] = 1;\n"),
+    ("written back: a new cell not entered", REPLAY,
+     "    if (value > caps[class]) {\n        return answer(4);\n    }\n",
+     "    if (value > caps[class]) {\n        return answer(4);\n    }\n"
+     "    uint32_t count = sessions[session].count;\n"
+     "    if (value == lent->values[cell] && find(entry_at(lent, session, 0), count, cell) == count && lent->claimants[cell] == PLAIN_NOBODY &&\n"
+     "        count < PLAIN_MAX_ENTRIES) {\n        return answer(100);\n    }\n"),
+    ("written back: no written bit set", RUN,
+     "    entry[DIRTY] = 1;\n", "    entry[DIRTY] = entry[SNAPSHOT_VALUE] != value;\n"),
+    ("written back: the written bit cleared at the seal", RUN,
+     "        } else {\n            leave(lent, session, cell);\n",
+     "        } else {\n            entry_at(lent, session, i)[DIRTY] = 0;\n            leave(lent, session, cell);\n"),
+    ("written back: the reader lock kept where another cell is changed", REPLAY,
+     "        } else {\n            leave(lent, session, cell);\n        }\n    }\n    if (!any) {\n",
+     "        } else if (!(entry[DIRTY] & 1)) {\n            leave(lent, session, cell);\n        }\n    }\n    if (!any) {\n"
+     "        for (uint32_t i = 0; i < record->count; i++) {\n            leave(lent, session, log[PLAIN_ENTRY_WORDS * i + CELL]);\n        }\n"),
+    ("written back: let go by the old rule, answered by the new one", REPLAY,
+     "        } else {\n            leave(lent, session, cell);\n", "        } else if (!(entry[DIRTY] & 1)) {\n            leave(lent, session, cell);\n"),
+    ("written back: let go by the new rule, answered by the old one", REPLAY,
+     "            any = 1;\n        } else {\n", "            any = 1;\n        } else {\n            any |= entry[DIRTY] & 1;\n"),
+    ("written back: passed by but in the promotion", REPLAY,
+     "uint32_t count, uint32_t from)\n", "uint32_t count, uint32_t from, uint8_t phase)\n",
+     "        if (!publishes(entry) || ", "        if (!(phase == PROMOTING ? entry[DIRTY] & 1 : (uint32_t)publishes(entry)) || ",
+     "record.count, record.next)", "record.count, record.next, record.phase)"),
+    ("written back: passed by but in the publication", REPLAY,
+     "uint32_t count, uint32_t from)\n", "uint32_t count, uint32_t from, uint8_t phase)\n",
+     "        if (!publishes(entry) || ", "        if (!(phase == PUBLISHING ? entry[DIRTY] & 1 : (uint32_t)publishes(entry)) || ",
+     "record.count, record.next)", "record.count, record.next, record.phase)"),
+    ("written back: passed by but in the release", REPLAY,
+     "uint32_t count, uint32_t from)\n", "uint32_t count, uint32_t from, uint8_t phase)\n",
+     "        if (!publishes(entry) || ", "        if (!(phase == RELEASING ? entry[DIRTY] & 1 : (uint32_t)publishes(entry)) || ",
+     "record.count, record.next)", "record.count, record.next, record.phase)"),
+    ("written back: passed by below the cell and not above it", REPLAY,
+     "        if (cell < lowest) {\n            step.entry = i;\n            lowest = cell;\n        }\n    }\n",
+     "        if (cell < lowest) {\n            step.entry = i;\n            lowest = cell;\n        }\n    }\n"
+     "    for (uint32_t i = 0; step.entry < count && i < count; i++) {\n"
+     "        step.more |= log[PLAIN_ENTRY_WORDS * i + CELL] > lowest && (log[PLAIN_ENTRY_WORDS * i + DIRTY] & 1) && is_first(log, i);\n"
+     "    }\n"),
+    ("written back: 9 by the old rule", BUFFERS,
+     "        if (step->entry == record.count) {\n",
+     "        int left = 0;\n"
+     "        for (uint32_t i = 0; i < record.count; i++) {\n"
+     "            const uint32_t *entry = log + PLAIN_ENTRY_WORDS * i;\n"
+     "            left |= (entry[DIRTY] & 1) && entry[CELL] >= record.next && is_first(log, i);\n"
+     "        }\n"
+     "        if (!left) {\n",
+     "    if (record->phase < PROMOTING) {\n", "    if (record->phase < PROMOTING || step.entry == record->count) {\n"),
+    ("written back: the last entry of a cell judged at the seal", BUFFERS,
+     "        if (publishes(entry)) {\n",
+     "        for (uint32_t j = i + 1; j < record->count; j++) {\n"
+     "            entry = log[PLAIN_ENTRY_WORDS * j + CELL] == cell ? log + PLAIN_ENTRY_WORDS * j : entry;\n"
+     "        }\n"
+     "        if (publishes(entry)) {\n"),
+    ("written back: a cell's first changed entry taken on an advance", BUFFERS,
+     " || !is_first(log, i)) {\n            continue;\n        }\n",
+     ") {\n            continue;\n        }\n"
+     "        int again = 0;\n"
+     "        for (uint32_t j = 0; j < i; j++) {\n"
+     "            again |= log[PLAIN_ENTRY_WORDS * j + CELL] == cell && (publishes(log + PLAIN_ENTRY_WORDS * j) || !(log[PLAIN_ENTRY_WORDS * j + DIRTY] & 1));\n"
+     "        }\n"
+     "        if (again) {\n            continue;\n        }\n"),
+    ("written back: peeked in the store", RUN,
+     "    part.words = entry[DIRTY] & 1 ? ", "    part.words = publishes(entry) ? "),
     ("many reads: one more after a refusal", RUN,
      "            return many_answer(3, got);\n",
      "            if (got + 1 < cells_len) {\n"
@@ -225,11 +315,14 @@ def main():
     environment = dict(os.environ, LD_LIBRARY_PATH=target)
     source = os.path.join(target, "store.c")
     passed = failed = 0
-    for name, shows, old, new in EDITS:
-        if right.count(old) != 1:
-            sys.exit(f"the edit '{name}' fits {right.count(old)} places, not one")
+    for name, shows, *pairs in EDITS:
+        wrong = right
+        for old, new in zip(pairs[::2], pairs[1::2]):
+            if wrong.count(old) != 1:
+                sys.exit(f"the edit '{name}' fits {wrong.count(old)} places, not one")
+            wrong = wrong.replace(old, new)
         with open(source, "w", encoding="ascii") as file:
-            file.write(right.replace(old, new))
+            file.write(wrong)
         build(target, source)
         told = {BUFFERS: tells([compare, "calls", "--seed", seed, "--count", "100000"], environment)}
         if shows == RUN:

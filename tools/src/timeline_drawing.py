@@ -17,6 +17,7 @@ GOOD, WAIT, BAD = "#1d8a4e", "#b87400", "#c8302b"
 LEGEND = [
     ("read", "read: value found"),
     ("write", "write"),
+    ("dropped", "write dropped: value as found"),
     ("seal", "seal: snapshot"),
     ("lock", "lock taken"),
     ("wait", "waits for readers"),
@@ -66,6 +67,8 @@ class Canvas:
             self.add(f'<circle cx="{x}" cy="{y}" r="6" fill="white" stroke="{INK}" stroke-width="2"/>')
         elif kind == "write":
             self.add(f'<rect x="{x - 6}" y="{y - 6}" width="12" height="12" fill="{INK}"/>')
+        elif kind == "dropped":
+            self.add(f'<rect x="{x - 6}" y="{y - 6}" width="12" height="12" fill="white" stroke="{MUTED}" stroke-width="1.5" stroke-dasharray="3 2"/>')
         elif kind == "seal":
             self.add(f'<path d="M{x} {y - 9}L{x + 9} {y}L{x} {y + 9}L{x - 9} {y}Z" fill="white" stroke="{SPAN}" stroke-width="3"/>')
         elif kind == "lock":
@@ -208,7 +211,7 @@ def draw_call(canvas, row, call, y):
     x = row.centres[call.place]
     canvas.add(f"<g><title>{escape(f'{call.place}: {call.name}, session {call.session}, answer {call.number}')}</title>")
     canvas.mark(call.kind, x, y)
-    colour = {"rollback": BAD, "wait": WAIT, "refused": MUTED, "abandon": MUTED}.get(call.kind, INK)
+    colour = {"rollback": BAD, "wait": WAIT, "refused": MUTED, "abandon": MUTED, "dropped": MUTED}.get(call.kind, INK)
     for index, line in enumerate(call.lines):
         strong = line == "commit" or call.kind == "rollback" and index == 0
         canvas.text(x, y + 24 + 13 * index, line, colour=GOOD if line == "commit" else colour, weight="bold" if strong else "normal")

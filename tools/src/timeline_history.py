@@ -1,6 +1,7 @@
 """A replay's input and output as a history: for each call what it did, and for each transaction its snapshot and its commit.
 
-All of it is read off the starting figures, the calls and their answers, as document 01's 'What demand 3 counts' does."""
+All of it is read off the starting figures, the calls and their answers, as document 01's 'What demand 3 counts' does; so is the value that a
+transaction found in a cell, which no answer need show (document 02, Paper 2): it is the store's when the cell is entered."""
 
 HEAD = 3
 BODY = {1: 1, 2: 3, 3: 7, 4: 1, 5: 1, 6: 1, 8: 5}
@@ -29,7 +30,10 @@ class Transaction:
 
     def __init__(self, session, place):
         self.session, self.begin = session, place
-        self.entered, self.wrote = set(), {}
+        # The value found in each cell entered, the value last written to each cell, and the calls that wrote.
+        self.found, self.wrote, self.writes = {}, {}, []
+        # The cells that it changed, in order: known at its seal.
+        self.changed = []
         self.snapshot = self.commit = self.end = None
         self.outcome = "open"
         self.moved = 0
@@ -93,17 +97,27 @@ class History:
 
     def do_read(self, call, transaction):
         self.enter(call, transaction)
+        held = transaction.wrote.get(call.cell, transaction.found[call.cell])
+        if call.got != held:
+            raise Mismatch(f"call {call.place} reads {call.got} where the cell has {held}")
         call.kind, call.lines = "read", [f"c{call.cell} = {call.got}"]
 
     def do_write(self, call, transaction):
         self.enter(call, transaction)
         transaction.wrote[call.cell] = call.value
+        transaction.writes.append(call)
         call.kind, call.lines = "write", [f"c{call.cell} \u2190 {call.value}"]
 
     def do_seal(self, call, transaction):
         transaction.snapshot = call.place
-        for cell in transaction.entered - set(transaction.wrote):
+        transaction.changed = sorted(cell for cell, value in transaction.wrote.items() if value != transaction.found[cell])
+        if call.number != (102 if transaction.changed else 105):
+            raise Mismatch(f"call {call.place} is answered {call.number} with {several(len(transaction.changed), 'cell')} changed")
+        for cell in transaction.found.keys() - set(transaction.changed):
             self.readers[cell].discard(call.session)
+        for write in transaction.writes:
+            if write.cell not in transaction.changed:
+                write.kind, write.lines = "dropped", write.lines + ["dropped"]
         if call.number == 105:
             transaction.commit = call.place
             self.close(call, "committed")
@@ -112,9 +126,11 @@ class History:
             call.kind, call.lines = "seal", ["seal", "snapshot"]
 
     def do_advance(self, call, transaction):
-        wrote = sorted(transaction.wrote)
-        phase, index = divmod(transaction.moved, len(wrote))
-        cell = wrote[index]
+        changed = transaction.changed
+        if not changed:
+            raise Mismatch(f"call {call.place} is answered {call.number} before a seal answered 102")
+        phase, index = divmod(transaction.moved, len(changed))
+        cell = changed[index]
         if phase == 0:
             self.claimant[cell] = call.session
         if call.number == 104:
@@ -124,8 +140,10 @@ class History:
             transaction.waits.append((call.place, None))
             return
         transaction.moved += 1
+        if (call.number == 105) != (transaction.moved == 3 * len(changed)):
+            raise Mismatch(f"call {call.place} is answered {call.number}, advance {transaction.moved} of {several(len(changed), 'cell')} changed")
         call.kind, call.lines = PHASES[phase], [f"{PHASES[phase]} c{cell}"]
-        if phase == 0 and transaction.moved == len(wrote):
+        if phase == 0 and transaction.moved == len(changed):
             transaction.commit = call.place
             call.kind, call.lines = "commit", [f"lock c{cell}", "commit"]
         if phase == 1:
@@ -145,14 +163,16 @@ class History:
         call.kind, call.lines = "abandon", ["abandon"]
 
     def enter(self, call, transaction):
-        transaction.entered.add(call.cell)
+        transaction.found.setdefault(call.cell, self.values[call.cell])
         self.readers.setdefault(call.cell, set()).add(call.session)
 
     def roll_back(self, call):
         transaction = self.running[call.session]
         cell = call.cell
         if call.name == "advance":
-            cell = sorted(transaction.wrote)[transaction.moved]
+            if transaction.moved >= len(transaction.changed):
+                raise Mismatch(f"call {call.place} is answered 6 with no cell left to lock")
+            cell = transaction.changed[transaction.moved]
         call.kind, call.lines = "rollback", ["rolled back", f"c{cell} is claimed", f"by {self.claimant.get(cell, '?')}"]
         self.release(call.session)
         self.close(call, "rolled back")
@@ -169,13 +189,15 @@ class History:
 
     def summary(self):
         outcomes = [transaction.outcome for transaction in self.transactions]
-        waits = sum(call.kind == "wait" for call in self.calls)
+        waits, dropped = (sum(call.kind == kind for call in self.calls) for kind in ("wait", "dropped"))
         parts = [several(len(self.cells), "cell"), several(len(self.calls), "call"), several(len(outcomes), "transaction")]
         for outcome in ("committed", "rolled back", "abandoned", "open"):
             if outcome in outcomes:
                 parts.append(f"{outcomes.count(outcome)} {outcome}")
         if waits:
             parts.append(several(waits, "wait"))
+        if dropped:
+            parts.append(f"{several(dropped, 'write')} dropped")
         return ", ".join(parts)
 
 

@@ -5,12 +5,13 @@ use mathlib.Core.Path.{_≡_, refl, sym, ap}
 use mathlib.Core.List.{List, [], _∷_, map, reverse}
 use lib.ListN.{length, take}
 use Rattle.model.specs.Buffers.{Store}
-use Rattle.model.specs.History.{Action, Event, event, readsEvent}
+use Rattle.model.specs.History.{Action, Event, event, withFound, readsEvent}
 use Rattle.model.specs.Isolation.{Ran}
 use Rattle.model.specs.ManyReads.{ReadsOutcome, readMany, readManyEffect}
 use Rattle.model.specs.Isolation as list
 use Rattle.model.specs.Effects.{number, valueOf}
 use Rattle.model.specs.Step.{Outcome, outcome, effect, setUpEffect}
+use Rattle.model.specs.Told.{foundBy}
 use Rattle.model.proofs.Demand3.{ran-many, demand3-of-code}
 use Rattle.c_api.specs.InNumbers.{NumberOutcome, replied, inNumbers, Heard, heard, Called, none, then, thenMany, Demand3InNumbers}
 
@@ -33,7 +34,7 @@ answered-all σ (then {x = x} r k n v y e) =
     let v′ : v ≡ valueOf (effect k x .answer) = ap (λ (s : NumberOutcome). s .value) e in
     let t = i .told in
     record {
-      events = event k (effect k x .answer) ∷ i .events;
+      events = withFound (foundBy k y) (event k (effect k x .answer)) ∷ i .events;
       told = cc;
       ran = list.then (i .ran) k (effect k x .answer) y (answered n v y (effect k x) e);
     }

@@ -7,7 +7,7 @@ use Prim.Native.Nat.{ℕ, suc, _+_, _*_, _<_, _≤_}
 use native.Mathlib.Numerals.{add-one}
 use native.Mathlib.Omega.{arith}
 use borrow.Author.Tests.{lt-ltb, le-ltb, lt-leb, le-leb, eq-eqb, ne-eqb, eqb-true, eqb-false}
-use lib.Dec.{ltb, eqb}
+use lib.Dec.{eqb}
 use lib.ListN.{length, getD}
 use Rattle.model.specs.Search.{some?, below}
 use Rattle.model.specs.Readers.{otherReaders}
@@ -20,8 +20,8 @@ use Rattle.model.specs.declared.Answer.the-variants.{Moved, Committed}
 use Rattle.model.specs.declared.Plan.{Plan}
 use Rattle.model.specs.declared.Plan.the-variants.{Refuse, Start, Tell, Enter, Update, EnterUpdate, RollBack, CommitReads, BeginPromotion, Wait, Acquire, Publish, Release, ShowStore, ShowLog}
 use Rattle.model.proofs.Passing.{Entries, entries-of, record-entries}
-use Rattle.model.proofs.Tools.{test, which, clash, and-false}
-use Rattle.log.specs.Slots.{found, slotOf, targetSlot, isMore}
+use Rattle.model.proofs.Tools.{test, clash, and-false}
+use Rattle.log.specs.Slots.{found, targetSlot, isMore}
 use Rattle.log.proofs.Targets.{written-first, slot-some, target-some}
 use Rattle.calls.specs.Pieces.{tested, dueAt, dueOn, advanceOn, handledBy}
 use Rattle.calls.specs.declared.Due.the-variants.{Refused, Slot}
@@ -44,16 +44,6 @@ target-slot log m from {c} e =
     let k = written-first log m c (target-some log m from e .1) in
     let s = slot-some log m c (k .1) in
     (k .0, k .1, s .0, s .1)
-
--- so a written cell is there where its place is one of m
-found-test : (m k : ℕ) → ltb k m ≡ some? (found m k)
-unfolding found
-found-test m k = test (ltb k m) (λ h. rw h) (λ h. rw h)
-
-pub target-there : (log : List ℕ) (m from k : ℕ) → found m k ≡ targetSlot log m from → ltb k m ≡ some? (targetIn log m from)
-unfolding targetSlot slotOf
-target-there log m from k e =
-    found-test m k ∙ ap some? e ∙ which (targetIn log m from) (λ p. rw p) (λ c p. rw (p, target-slot log m from p .1))
 
 -- a seal with a written cell, and with none
 seal-some : (o : Option ℕ) → some? o ≡ true → BeginPromotion ≡ sealTarget o
@@ -124,12 +114,12 @@ module _ (n : ℕ) (log : List ℕ) (x : Session) where
         pub listed : Entries n log x
         listed = entries-of n log x (sym e ∙ h) (omega arith)
 
+        pub record-late : (w : Bool) → w ≡ some? (targetIn log (x .count) (x .next)) → w ≡ recordFits n log x
+        unfolding recordFits
+        record-late w t = simp (sym e ∙ h, lt-leb (x .phase) 1 l) t
+
         -- k is the place that the search for the lowest written cell answered
         module _ (k : ℕ) (t : found (x .count) k ≡ targetSlot log (x .count) (x .next)) where
-          pub record-late : ltb k (x .count) ≡ recordFits n log x
-          unfolding recordFits
-          record-late = simp (sym e ∙ h, lt-leb (x .phase) 1 l) (target-there log (x .count) (x .next) k t)
-
           pub due-none : x .count ≤ k → Refused 9 ≡ dueOn n log x
           unfolding dueOn dueAt
           due-none i = simp (sym e ∙ h, le-leb 2 (x .phase) l, found-nowhere (x .count) k _ t i)

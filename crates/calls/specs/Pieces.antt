@@ -53,7 +53,7 @@ unfoldable pub duePlan : ℕ → List ℕ → Session → Lock → Due → Plan
 duePlan s log x l (Refused r) = Refuse r
 duePlan s log x l (Slot k more) = advanceOn log x l s k
 
--- the record once cell c is handled, and the answer, by whether a written cell is left above it: before phase 4 the answer is 103
+-- the record once cell c is handled, and the answer, by whether a cell that publishes is left above it: before phase 4 the answer is 103
 unfoldable pub handledBy : Bool → Session → ℕ → Handled
 handledBy more x c =
     record {

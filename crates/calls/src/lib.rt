@@ -161,7 +161,7 @@ fn entries_fit(log: &[u32], n: usize, x: Session) -> bool
     log::all_below(log, count as usize, n as u32)
 }
 
-// The same, and in phases 2 to 4 a written cell not below next.
+// The same, and in phases 2 to 4 a cell not below next that publishes.
 fn record_fits(log: &[u32], n: usize, x: Session) -> bool
     requires { ⌜ (length (now log) ≡ 128) × (n ≤ 1024) ⌝ }
     ensures { λ r. ⌜ r ≡ recordFits n (now (log .entry)) x ⌝ }
@@ -175,7 +175,7 @@ fn record_fits(log: &[u32], n: usize, x: Session) -> bool
     if phase < 2 {
         return true;
     }
-    log::target(log, count, n as u32, next) < count
+    log::any_publishes(log, count, next)
 }
 
 // 9, or 2 where the call does not fit the phase, or 0.
@@ -408,7 +408,7 @@ pub fn take_write(
 
 // ---- seal
 
-// Seal: running only. The session leaves the readers of each cell entered but not written. 105 with nothing written, else 102.
+// Seal: running only. The session leaves the readers of each cell entered that it does not publish. 105 where it publishes none, else 102.
 pub fn take_seal(log: &[u32], n: usize, x: Session) -> Turn
     requires { ⌜ (length (now log) ≡ 128) × (n ≤ 1024) ⌝ }
     ensures { λ r. ⌜ TurnsLog (sealPlan n (now (log .entry)) x) log x r ⌝ }
@@ -418,7 +418,7 @@ pub fn take_seal(log: &[u32], n: usize, x: Session) -> Turn
     if !runs(log, n, x) {
         return keeps(Answer::Refused(tests(log, n, x, phase == 1)), x);
     }
-    if log::any_publishes(log, count) {
+    if log::any_publishes(log, count, 0) {
         let y = x.sealed();
         return Turn {
             answer: Answer::Sealed,
@@ -436,13 +436,13 @@ pub fn take_seal(log: &[u32], n: usize, x: Session) -> Turn
 
 // ---- advance: the entry that is due, then the turn, with the lock of its cell
 
-// The entry that an advance handles, with whether a written cell is left above its cell; or the refusal.
+// The entry that an advance handles, with whether a cell that publishes is left above its cell; or the refusal.
 pub enum Due {
     Refused(u8),
     Slot(u32, bool),
 }
 
-// The first entry of the lowest written cell not below next, or 9 or 2.
+// The first entry of the lowest cell not below next that publishes, or 9 or 2.
 pub fn due_slot(log: &[u32], n: usize, x: Session) -> Due
     requires { ⌜ (length (now log) ≡ 128) × (n ≤ 1024) ⌝ }
     ensures { λ r. ⌜ r ≡ dueOn n (now (log .entry)) x ⌝ }
@@ -493,7 +493,7 @@ pub struct Handled {
     pub answer: Answer,
 }
 
-// Next is one above the cell; where no written cell is left there the phase rises and next is 0, and out of phase 4 the session is idle.
+// Next is one above the cell; where no cell that publishes is left there the phase rises and next is 0, and out of phase 4 the session is idle.
 fn handle(x: Session, cell: u32, more: bool) -> Handled
     requires { ⌜ (x .phase ≤ 4) × (cell < 1024) ⌝ }
     ensures { λ r. ⌜ r ≡ handledBy more x cell ⌝ }
@@ -571,7 +571,7 @@ fn take_entry(
     }
 }
 
-// Advance: phases 2 to 4. One written cell is promoted, published or released. 103, 104, 105, or 6.
+// Advance: phases 2 to 4. One cell that the session publishes is promoted, published or released. 103, 104, 105, or 6.
 pub fn take_advance(
     values: &mut [u32],
     log: &[u32],

@@ -54,7 +54,7 @@ fn entry_cell(logs: &[u32], session: u8, i: usize) -> usize
     log::cell_at(log::of_session(logs, session), i) as usize
 }
 
-// The same, or 1,024 where the cell is written: of m entries the cell's first counts.
+// The same, or 1,024 where the cell publishes: of m entries the cell's first counts.
 fn unwritten_cell(logs: &[u32], session: u8, m: u8, i: usize) -> usize
     requires { ⌜ (session < 16) × (m ≤ 32) × (i < m) × (length (now logs) ≡ 2048) ⌝ }
     ensures { λ r. ⌜ r ≡ cellOf (now (logs .entry)) (Leave session m) i ⌝ }
@@ -480,7 +480,7 @@ pub fn write(
     )
 }
 
-// Seal: running only. The session leaves the readers of each cell entered but not written. 105 with nothing written, else 102.
+// Seal: running only. The session leaves the readers of each cell entered that it does not publish. 105 where it publishes none, else 102.
 pub fn seal(
     sessions: Sessions,
     values: &mut [u32],
@@ -494,7 +494,7 @@ pub fn seal(
     step(Call::Seal(session), sessions, values, classes, locks, logs)
 }
 
-// Advance: phases 2 to 4. One written cell is promoted, published or released. 103, 104, 105, or 6.
+// Advance: phases 2 to 4. One cell that the session publishes is promoted, published or released. 103, 104, 105, or 6.
 pub fn advance(
     sessions: Sessions,
     values: &mut [u32],

@@ -1,4 +1,4 @@
-// Runs document 01's listing and a short mixed list on number slices (crate store) and on a run of lock records (crate lock_records). Compared are
+// Runs document 01's listing, a short mixed list and one with values written back on number slices (crate store) and on a run of lock records (crate lock_records). Compared are
 // set-up's answers and records, and after each call the answers, the records, and every value, lock and log word.
 // It writes each list as the replay does, with a line for a peek's number too; last, whether the two forms agreed throughout.
 ghost use Rattle.lock_records.specs.Lent.{TakesRun, SetsUpRun};
@@ -46,9 +46,10 @@ fn step_on(
     RunReply { reply, locks: run }
 }
 
-// ---- the two lists, of 13 calls each, on two cells of class 2
+// ---- the three lists, of 13 calls each, on two cells of class 2
 
-// From 0 document 01's listing; from 13 a mixed list: every kind of call, every phase, the refusals 4 and 6.
+// From 0 document 01's listing; from 13 a mixed list: every kind of call, every phase, the refusals 4 and 6; from 26 values written back: a seal that lets one go of
+// two cells, and one that lets go all.
 fn call_at(i: u32) -> Call {
     match i {
         0 => Call::Begin(0),
@@ -73,6 +74,17 @@ fn call_at(i: u32) -> Call {
         21 => Call::Begin(1),
         22 => Call::Read(1, 0),
         23 => Call::Abandon(1),
+        24..=25 => Call::Advance(0),
+        26 => Call::Begin(0),
+        27 => Call::Begin(1),
+        28 => Call::Read(1, 0),
+        29 => Call::Write(0, 0, 3),
+        30 => Call::Write(0, 1, 6),
+        31 => Call::Write(1, 0, 3),
+        32 => Call::Seal(0),
+        33 => Call::Seal(1),
+        34 => Call::Begin(1),
+        35 => Call::Write(1, 0, 4),
         _ => Call::Advance(0),
     }
 }
@@ -273,7 +285,8 @@ fn run_both(first: u8) -> bool {
 fn main() {
     let listing = run_both(0);
     let mixed = run_both(13);
-    if listing & mixed {
+    let written_back = run_both(26);
+    if listing & mixed & written_back {
         io::write_all(STDOUT_FILENO, b"both forms agree\n");
     } else {
         io::write_all(STDOUT_FILENO, b"the forms differ\n");

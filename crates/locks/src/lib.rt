@@ -206,7 +206,7 @@ pub fn put_mark(cells: &mut [u64; 16], cell: u32)
     cells[w] = word | (1u64 << (cell % 64));
 }
 
-// ---- the readers of the cells that are not written
+// ---- the readers of the cells that do not publish
 
 // The session leaves the readers of one cell.
 fn leave_at(readers: &mut [u16], cell: u32, session: u8)
@@ -251,7 +251,7 @@ fn drop_unwritten(log: &[u32], count: usize, readers: &mut [u16], session: u8) -
     i
 }
 
-// Sealing: the session leaves the readers of each cell entered but not written. Where nothing is written no cell need be marked.
+// Sealing: the session leaves the readers of each cell entered that does not publish. Where none does no cell need be marked.
 pub fn drop_reads(log: &[u32], count: usize, readers: &mut [u16], session: u8)
     requires { ⌜ (Swept session (now log) count (length (now readers))) × (length (now readers) ≤ 1024) ⌝ }
     ensures { λ _. ⌜ DropsReads (now (log .entry)) count session (now (readers .entry)) (now (readers .exit)) ⌝ }

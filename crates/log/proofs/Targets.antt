@@ -213,32 +213,34 @@ module _ (log : List ℕ) where
 
   -- ---- whether there is a target
 
-  module _ (m : ℕ) where
-    pub any-here : (i : ℕ) → i < m → firstPublishes log i ≡ true → true ≡ some? (targetIn log m 0)
+  module _ (m from : ℕ) where
+    pub any-here : (i : ℕ) → i < m → firstPublishes log i from ≡ true → true ≡ some? (targetIn log m from)
     unfolding firstPublishes slotIn
     any-here i l h =
         let c = cellAt log i in
-        let a = both-l (publishes (entryAt log i)) (not (some? (slotIn log i c))) h in
-        let b = both-r (publishes (entryAt log i)) (not (some? (slotIn log i c))) h in
+        let p = publishes (entryAt log i) in
+        let a = both-l (leb from c && p) (not (some? (slotIn log i c))) h in
+        let b = both-r (leb from c && p) (not (some? (slotIn log i c))) h in
         which (slotIn log i c)
         (λ e.
         let s = find-up (cellAt log) c (suc i) m (omega arith) (find-here (cellAt log) c i e refl) in
-        which (targetIn log m 0) (λ t. absurd (target-none m 0 t c (omega arith) (first-judges m c s ∙ a))) (λ d t. rw t))
+        which (targetIn log m from) (λ t. absurd (target-none m from t c (leb-true from c (both-l (leb from c) p a)) (first-judges m c s ∙ both-r (leb from c) p a))) (λ d t. rw t))
         (λ k e. absurd (clash false (rw e at b) refl))
 
-    pub any-nowhere : ((j : ℕ) → j < m → firstPublishes log j ≡ false) → false ≡ some? (targetIn log m 0)
+    pub any-nowhere : ((j : ℕ) → j < m → firstPublishes log j from ≡ false) → false ≡ some? (targetIn log m from)
     unfolding firstPublishes slotIn
     any-nowhere h =
-        which (targetIn log m 0) (λ t. rw t)
+        which (targetIn log m from) (λ t. rw t)
         (λ c t.
-        let k = written-first m c (target-some m 0 t .1) in
+        let g = target-some m from t in
+        let k = written-first m c (g .1) in
         let s = slot-some m c (k .1) in
         let b = find-before (cellAt log) c m (k .1) in
-        absurd (clash true refl (simp (s .1, b, k .2) at (h (k .0) (s .0)))))
+        absurd (clash true refl (simp (s .1, b, k .2, le-leb from c (g .0)) at (h (k .0) (s .0)))))
 
-  pub first-found : (i r : ℕ) → found i r ≡ slotIn log i (cellAt log i) → publishes (entryAt log i) ≡ true → leb i r ≡ firstPublishes log i
+  pub first-found : (i r from : ℕ) → found i r ≡ slotIn log i (cellAt log i) → (leb from (cellAt log i) && publishes (entryAt log i)) ≡ true → leb i r ≡ firstPublishes log i from
   unfolding firstPublishes
-  first-found i r f p =
+  first-found i r from f p =
       which (found i r)
       (λ e. rw (p, ← f, e) (le-leb i r (found-none i r e)))
       (λ k e. rw (p, ← f, e) (lt-leb i r (found-some i r e .0)))

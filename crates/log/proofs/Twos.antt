@@ -3,8 +3,7 @@
 use Prim.Native.Nat.{ℕ, suc, _+_, _<_, _≤_}
 use mathlib.Core.Bool.{Bool, true, false}
 use mathlib.Core.List.{List}
-use mathlib.Core.Option.{Option, none, some}
-use mathlib.Core.Path.{_≡_, refl, sym, ap, _∙_}
+use mathlib.Core.Path.{_≡_, sym, ap, _∙_}
 use native.Mathlib.Omega.{arith}
 use lib.Dec.{ltb}
 use borrow.Author.Tests.{lt-ltb, le-ltb, ltb-true, ltb-false}
@@ -100,13 +99,13 @@ module _ (log : List ℕ) where
     unfolding found isMore
     next-none k l h = record { slot-is = h; more-is = rw (← h, le-ltb k m l) }
 
-    pub next-some : (k j : ℕ) (b : Bool) → k < m → found m k ≡ targetSlot log m from → found m j ≡ targetSlot log m (suc (cellAt log k)) → ltb j m ≡ b
-        → IsNext log m from k b
+    pub next-some : (k : ℕ) (b : Bool) → k < m → found m k ≡ targetSlot log m from → b ≡ some? (targetIn log m (suc (cellAt log k))) → IsNext log m from k b
     unfolding found isMore
-    next-some k j b l h g t = record {
-      slot-is = h;
-      more-is = rw (← h, lt-ltb k m l) (sym t ∙ sym (found-there m j) ∙ ap some? g ∙ slot-there m (suc (cellAt log k)));
-    }
+    next-some k b l h t = record { slot-is = h; more-is = rw (← h, lt-ltb k m l) t }
+
+    -- another by its place
+    next-by : (k j : ℕ) (b : Bool) → k < m → found m k ≡ targetSlot log m from → found m j ≡ targetSlot log m (suc (cellAt log k)) → ltb j m ≡ b → IsNext log m from k b
+    next-by k j b l h g t = next-some k b l h (sym t ∙ sym (found-there m j) ∙ ap some? g ∙ slot-there m (suc (cellAt log k)))
 
     module _ (n low high : ℕ) (w : LowestTwo log n from m low high) where
       pub two-none : below n (cellAt log) m ≡ true → n ≤ low → IsNext log m from m false
@@ -125,9 +124,9 @@ module _ (log : List ℕ) where
 
           pub two-last : below n (cellAt log) m ≡ true → n ≤ high → IsNext log m from k false
           two-last b h =
-              next-some k m false two-inside two-here (rw two-cell (turn-ends log n m (suc low) high (w .high-is) b h)) (le-ltb m m (omega arith))
+              next-by k m false two-inside two-here (rw two-cell (turn-ends log n m (suc low) high (w .high-is) b h)) (le-ltb m m (omega arith))
 
           pub two-more : high < n → (j : ℕ) → found m j ≡ slotIn log m high → publishes (entryAt log j) ≡ true → IsNext log m from k true
           two-more l j g q =
-              next-some k j true two-inside two-here (rw two-cell (turn-here log n m (suc low) high (w .high-is) l j g q))
+              next-by k j true two-inside two-here (rw two-cell (turn-here log n m (suc low) high (w .high-is) l j g q))
               (lt-ltb j m (turn-inside log n m (suc low) high (w .high-is) l j g))

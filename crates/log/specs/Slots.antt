@@ -27,7 +27,7 @@ unfoldable pub slotOf : List ℕ → ℕ → Option ℕ → Option ℕ
 slotOf log m none = none
 slotOf log m (some c) = slotIn log m c
 
--- the first entry of the lowest written cell not below a cell
+-- the first entry of the lowest cell not below a cell that publishes
 unfoldable pub targetSlot : List ℕ → ℕ → ℕ → Option ℕ
 targetSlot log m from = slotOf log m (targetIn log m from)
 
@@ -36,7 +36,7 @@ pub record LowestTwo (log : List ℕ) (n from k low high : ℕ) : Type 0 where
   pub low-is : low ≡ lowestPublishing log n from k
   pub high-is : high ≡ lowestPublishing log n (suc low) k
 
--- whether a written cell is left above that of an entry
+-- whether a cell that publishes is left above that of an entry
 unfoldable pub isMore : List ℕ → ℕ → Option ℕ → Bool
 isMore log m none = false
 isMore log m (some k) = some? (targetIn log m (suc (cellAt log k)))
@@ -46,6 +46,6 @@ pub record IsNext (log : List ℕ) (m from slot : ℕ) (more : Bool) : Type 0 wh
   pub slot-is : found m slot ≡ targetSlot log m from
   pub more-is : more ≡ isMore log m (targetSlot log m from)
 
--- entry i publishes and no entry before it has its cell
-unfoldable pub firstPublishes : List ℕ → ℕ → Bool
-firstPublishes log i = publishes (entryAt log i) && not (some? (slotIn log i (cellAt log i)))
+-- entry i's cell is not below a cell, the entry publishes, and no entry before it has its cell
+unfoldable pub firstPublishes : List ℕ → ℕ → ℕ → Bool
+firstPublishes log i from = (leb from (cellAt log i) && publishes (entryAt log i)) && not (some? (slotIn log i (cellAt log i)))

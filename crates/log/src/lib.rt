@@ -34,6 +34,14 @@ pub fn current(log: &[u32], k: usize) -> u32
     log[4 * k + 2]
 }
 
+// The value found of entry k.
+pub fn snapshot(log: &[u32], k: usize) -> u32
+    requires { ⌜ 4 * k + 3 < length (now log) ⌝ }
+    ensures { λ r. ⌜ r ≡ entryAt (now (log .entry)) k .snapshot ⌝ }
+{
+    log[4 * k + 1]
+}
+
 // Whether entry k is written, by its fourth word's lowest bit.
 pub fn dirty(log: &[u32], k: usize) -> bool
     requires { ⌜ 4 * k + 3 < length (now log) ⌝ }
@@ -42,12 +50,12 @@ pub fn dirty(log: &[u32], k: usize) -> bool
     log[4 * k + 3] % 2 == 1
 }
 
-// Whether entry k counts as written from the seal on.
+// Whether entry k publishes, that is counts as written from the seal on: it is written, and its present value is not the one found.
 pub fn publishes(log: &[u32], k: usize) -> bool
     requires { ⌜ 4 * k + 3 < length (now log) ⌝ }
     ensures { λ r. ⌜ r ≡ publishes (entryAt (now (log .entry)) k) ⌝ }
 {
-    dirty(log, k)
+    dirty(log, k) & (current(log, k) != snapshot(log, k))
 }
 
 // The place of the first entry of a cell among the first count, or count where there is none.
@@ -115,7 +123,7 @@ fn lowest_publishing(log: &[u32], count: usize, n: u32, from: u32) -> u32
     cell
 }
 
-// The first entry of the lowest written cell not below from, or count where there is none: the entry that an advance handles.
+// The first entry of the lowest cell not below from that publishes, or count where there is none: the entry that an advance handles.
 // A cell is found among the entries that publish by themselves. If its first entry does, that is the one; if not, the search goes on above it.
 pub fn target(log: &[u32], count: usize, n: u32, from: u32) -> usize
     requires { ⌜ (4 * count ≤ length (now log)) × (n ≤ 1024) × (below n (cellAt (now log)) count ≡ true) ⌝ }
@@ -188,14 +196,14 @@ fn lowest_two(log: &[u32], count: usize, n: u32, from: u32) -> Two
     held
 }
 
-// The entry that an advance handles, count where there is none, and whether another written cell is left above its cell.
+// The entry that an advance handles, count where there is none, and whether another cell that publishes is left above its cell.
 pub struct Next {
     pub slot: usize,
     pub more: bool,
 }
 
-// The same by a search for each of the two cells.
-fn next_by_targets(log: &[u32], count: usize, n: u32, from: u32) -> Next
+// The same by a search for the one cell and a test for another.
+fn next_by_target(log: &[u32], count: usize, n: u32, from: u32) -> Next
     requires { ⌜ (4 * count ≤ length (now log)) × (n ≤ 1024) × (below n (cellAt (now log)) count ≡ true) ⌝ }
     ensures { λ r. ⌜ IsNext (now (log .entry)) count from (r .slot) (r .more) ⌝ }
 {
@@ -207,10 +215,10 @@ fn next_by_targets(log: &[u32], count: usize, n: u32, from: u32) -> Next
         };
     }
     let above = cell_at(log, slot) + 1;
-    let other = target(log, count, n, above);
+    let more = any_publishes(log, count, above);
     Next {
         slot: slot,
-        more: other < count,
+        more: more,
     }
 }
 
@@ -245,17 +253,17 @@ pub fn next_two(log: &[u32], count: usize, n: u32, from: u32) -> Next
             };
         }
     }
-    next_by_targets(log, count, n, from)
+    next_by_target(log, count, n, from)
 }
 
-// Whether any cell is written: the first entry of some cell publishes.
-pub fn any_publishes(log: &[u32], count: usize) -> bool
+// Whether any cell not below from publishes: its first entry does.
+pub fn any_publishes(log: &[u32], count: usize, from: u32) -> bool
     requires { ⌜ 4 * count ≤ length (now log) ⌝ }
-    ensures { λ r. ⌜ r ≡ some? (targetIn (now (log .entry)) count 0) ⌝ }
+    ensures { λ r. ⌜ r ≡ some? (targetIn (now (log .entry)) count from) ⌝ }
 {
     let mut i = 0;
     while i < count {
-        if first_publishes(log, i) {
+        if first_publishes(log, i, from) {
             return true;
         }
         i += 1;
@@ -263,13 +271,13 @@ pub fn any_publishes(log: &[u32], count: usize) -> bool
     false
 }
 
-// Whether entry i publishes and is the first of its cell.
-fn first_publishes(log: &[u32], i: usize) -> bool
+// Whether entry i's cell is not below from, and the entry publishes and is the first of its cell.
+fn first_publishes(log: &[u32], i: usize, from: u32) -> bool
     requires { ⌜ 4 * i + 3 < length (now log) ⌝ }
-    ensures { λ r. ⌜ r ≡ firstPublishes (now (log .entry)) i ⌝ }
+    ensures { λ r. ⌜ r ≡ firstPublishes (now (log .entry)) i from ⌝ }
 {
-    if publishes(log, i) {
-        let cell = cell_at(log, i);
+    let cell = cell_at(log, i);
+    if (from <= cell) & publishes(log, i) {
         return i <= find(log, i, cell);
     }
     false

@@ -26,7 +26,7 @@ use Rattle.model.specs.Search.{some?, find}
 use Rattle.model.specs.Plans.{guard, known, claimed, readSlot, writeSlot, writeCapped, sealTarget, promotePlan, advanceTarget, plan, admit}
 use Rattle.model.specs.Effects.{number, isLeft, handled, change, changeLogs, recordOf, after, releaseAnswer, answer, logOf}
 use Rattle.model.specs.Step.{sessionOf, planOf, step, answerOf, setUpAnswer, setUp}
-use Rattle.model.specs.Told.{Told, began, got, put, sealed, moved, ended, ending, tells, WhereGot}
+use Rattle.model.specs.Told.{Told, began, got, put, sealed, moved, ended, ending, foundBy, tells, WhereGot}
 use Rattle.model.proofs.Demand3.{set-up-passed, set-up-fresh}
 use Rattle.model.proofs.Laws.{find-some, getD-sets-other, log-length, log-same, log-other, length-on, grown-word, grown-apart, appended-cell}
 use Rattle.model.proofs.Invariant.{all-append}
@@ -186,15 +186,15 @@ abbrev TellsWithin : (ℕ → ℕ) → List Told → Type 0
 TellsWithin bound ws = All (WhereGot (λ c v. v ≤ bound c)) ws
 
 -- a refusal's value, 0, is
-refused-within : (bound : ℕ → ℕ) (r : ℕ) (k : Call) → TellsWithin bound (tells k (Refused r))
+refused-within : (bound : ℕ → ℕ) (r : ℕ) (k : Call) (f : ℕ) → TellsWithin bound (tells k (Refused r) f)
 unfolding ending
-refused-within bound r =
-    tells-any (TellsWithin bound) (Refused r) (split (TellsWithin bound) (eqb r 6 || eqb r 105) (λ _. (tt, tt)) (λ _. tt)) (λ w _ g. (none-above w g, tt)) (λ _. (tt, (tt, tt)))
+refused-within bound r k f =
+    tells-any (TellsWithin bound) (Refused r) (split (TellsWithin bound) (eqb r 6 || eqb r 105) (λ _. (tt, tt)) (λ _. tt)) (λ w _ g. (none-above w g, tt)) (λ _. (tt, (tt, tt))) k f
   where
     none-above : (w : Told) → WhereGot (λ c v. v ≡ 0) w → WhereGot (λ c v. v ≤ bound c) w
     none-above began g = tt
     none-above (got c v) g = omega arith
-    none-above (put c v) g = tt
+    none-above (put c v f) g = tt
     none-above sealed g = tt
     none-above moved g = tt
     none-above ended g = tt
@@ -202,18 +202,18 @@ refused-within bound r =
 module _ {σ : Store} (I : Capped σ) where
   -- what a plan leaves and what it answers are within the caps
   abbrev CapsKept : Call → Plan → Type 0
-  CapsKept k p = Capped (after (sessionOf k) p σ) × TellsWithin (capOf σ) (tells k (answer (sessionOf k) p σ))
+  CapsKept k p = Capped (after (sessionOf k) p σ) × TellsWithin (capOf σ) (tells k (answer (sessionOf k) p σ) (foundBy k (after (sessionOf k) p σ)))
 
   keep-refusal : (k : Call) (m : ℕ) → CapsKept k (Refuse m)
   unfolding after answer
-  keep-refusal k m = (I, refused-within (capOf σ) m k)
+  keep-refusal k m = (I, refused-within (capOf σ) m k _)
 
   keep-rollback : (k : Call) → CapsKept k RollBack
   unfolding after answer
-  keep-rollback k = (idle-keeps I (sessionOf k) _, refused-within (capOf σ) 6 k)
+  keep-rollback k = (idle-keeps I (sessionOf k) _, refused-within (capOf σ) 6 k _)
 
   keep-quiet : (k : Call) (p : Plan) → Quiet k σ p → CapsKept k p
-  keep-quiet k p q = rw (q .told, q .left) (I, tt)
+  keep-quiet k p q = rw (q .told _, q .left) (I, tt)
 
   -- a call of a running session on a cell
   on-cell : (k : Call) (c : ℕ) (p : Plan) → let s = sessionOf k in
@@ -295,7 +295,7 @@ module _ {σ : Store} (I : Capped σ) where
       (λ _. split (CapsKept call) (eqb (otherReaders s (l .readers)) 0) {x = Acquire c} {y = Wait c} (λ _. (handle-keeps _, (tt, tt)))
       (λ _. (record { stored = I .stored; logged = I .logged }, tt))))
       (λ _. split (CapsKept call) (eqb (x .phase) 3) {x = Publish c (currentOf (lookIn (logOf σ s) (x .count) c))} {y = Release c} (λ _. (publish-keeps I s n c _ (current-within I s n c), (tt, tt)))
-      (λ _. (handle-keeps _, split (λ (a : Answer). TellsWithin (capOf σ) (tells (Advance s) a)) (isLeft (logOf σ s) c x) {x = Moved} {y = Committed} (λ _. (tt, tt)) (λ _. (tt, tt)))))))
+      (λ _. (handle-keeps _, split (λ (a : Answer). TellsWithin (capOf σ) (tells (Advance s) a 0)) (isLeft (logOf σ s) c x) {x = Moved} {y = Committed} (λ _. (tt, tt)) (λ _. (tt, tt)))))))
 
   keep : (k : Call) → CapsKept k (planOf k σ)
   unfolding planOf
@@ -311,8 +311,8 @@ module _ {σ : Store} (I : Capped σ) where
   unfolding step
   keeps-capped k = keep k .0
 
-  pub tells-within : (k : Call) → TellsWithin (capOf σ) (tells k (answerOf k σ))
-  unfolding answerOf
+  pub tells-within : (k : Call) → TellsWithin (capOf σ) (tells k (answerOf k σ) (foundBy k (step k σ)))
+  unfolding answerOf step
   tells-within k = keep k .1
 
 -- ---- classes never change
@@ -360,16 +360,16 @@ caps-same σ τ e = ap {B = ℕ → ℕ} (λ (l : List ℕ) (c : ℕ). cap (getD
 abbrev Within : List Told → Store → Type 0
 Within ws τ = Capped τ × TellsWithin (capOf τ) ws
 
-within-call : (ws : List Told) (τ : Store) → Within ws τ → (k : Call) → Within (tells k (answerOf k τ) ++ ws) (step k τ)
+within-call : (ws : List Told) (τ : Store) → Within ws τ → (k : Call) → Within (tells k (answerOf k τ) (foundBy k (step k τ)) ++ ws) (step k τ)
 within-call ws τ w k =
-    let us = tells k (answerOf k τ) in (
+    let us = tells k (answerOf k τ) (foundBy k (step k τ)) in (
       keeps-capped (w .0) k,
       subst (λ (bound : ℕ → ℕ). TellsWithin bound (us ++ ws)) (caps-same τ (step k τ) (sym (classes-step k τ)))
           (all-append (WhereGot (λ c v. v ≤ capOf τ c)) us ws (tells-within (w .0) k) (w .1)),
     )
 
 within-action : {σ : Store} → Capped σ → (k : Action) → Within (tellsOf (eventOf k σ)) (leaves k σ)
-within-action {σ} I (oneCall k) = subst (λ (ws : List Told). Within ws (step k σ)) (append-nil (tells k (answerOf k σ))) (within-call [] σ (I, tt) k)
+within-action {σ} I (oneCall k) = subst (λ (ws : List Told). Within ws (step k σ)) (append-nil (tells k (answerOf k σ) (foundBy k (step k σ)))) (within-call [] σ (I, tt) k)
 within-action {σ} I (manyReads s cs words) = kept-by-reads (λ ws _ τ. Within ws τ) s (λ ws _ τ _ w c. within-call ws τ w (Read s c)) cs words σ (I, tt) (I, tt) (I, tt)
 
 -- ---- every list of actions

@@ -8,7 +8,7 @@ use mathlib.Core.List.{List, [], _∷_}
 use lib.Dec.{ltb}
 use lib.ListN.{length}
 use borrow.Author.Tests.{ltb-true, lt-ltb}
-use Rattle.model.specs.History.{Item, Name, wrote, readsBeforeWriting}
+use Rattle.model.specs.History.{Item, Name, wrote}
 use Rattle.model.specs.Isolation.{All, at, Commits, snapshotOf, commitOf, CommitsTo, Last, lastCommit, noCommit, Isolated}
 use Rattle.model.specs.Told.{ReadOf}
 use Rattle.model.proofs.Agreement.{snapshot-own, commit-own}
@@ -16,6 +16,7 @@ use Rattle.model.proofs.Invariant.{before-later, all-map}
 use Rattle.model.proofs.Ledger.{Commit, valueBefore, Fair, Lawful}
 use Rattle.model.proofs.Matching.{nameOf, Recorded, In, Stands}
 use Rattle.model.proofs.Tools.{split, clash, both-l, both-r}
+use Rattle.model.proofs.Words.{observed, observed-both}
 
 pub pick : {P Q : Commit → Type 0} (x : Name) (ks : List Commit) → In x ks → All P ks → All Q ks → (k : Commit) × (nameOf k ≡ x) × P k × Q k
 pick p [] i a b = absurd i
@@ -101,10 +102,14 @@ module _ (start : List ℕ) where
               let w = snapshot-own start h p (stands p) (o .0) in
               (w .1, o .1, w .0);
           commits = λ p d. commit-own start h p (stands p) d;
-          reads = λ p d.
-              let x = pick p ks (every p d) t (lawful-reads ks l) in
-              subst (λ (p : Name). All (λ (r : ReadOf). Last start h (r .cell) (snapshotOf start h p) (r .value)) (readsBeforeWriting (at start h p))) (x .1)
-              (rw (x .2 .snapshot, x .2 .reads)
-              (all-map (λ r e. rw e (last-value (r .cell) (x .0 .snap) ks l t (λ r y. every r (y .commits)))) (x .0 .reads) (x .3)));
+          reads = λ p d. observed-both (λ r. Last start h (r .cell) (snapshotOf start h p) (r .value)) (at start h p) (observes p d) .0;
+          finds = λ p d. observed-both (λ r. Last start h (r .cell) (snapshotOf start h p) (r .value)) (at start h p) (observes p d) .1;
           apart = λ p q c n dp dq a b. pairs p q c n ks l t (every p dp) (every q dq) a b;
         }
+      where
+        observes : (p : Name) → Commits start h p → All (λ (r : ReadOf). Last start h (r .cell) (snapshotOf start h p) (r .value)) (observed (at start h p))
+        observes p d =
+            let x = pick p ks (every p d) t (lawful-reads ks l) in
+            subst (λ (p : Name). All (λ (r : ReadOf). Last start h (r .cell) (snapshotOf start h p) (r .value)) (observed (at start h p))) (x .1)
+            (rw (x .2 .snapshot, x .2 .reads)
+            (all-map (λ r e. rw e (last-value (r .cell) (x .0 .snap) ks l t (λ r y. every r (y .commits)))) (x .0 .reads) (x .3)))

@@ -48,7 +48,7 @@ ran-is σ (then r k a y e) =
     let i = ran-is σ r in
     let f = ap (λ (o : Outcome). o .answer) e in
     let g = ap (λ (o : Outcome). o .store) e in
-    (rw (f, i .0, i .1), g ∙ ap (step k) (i .1))
+    (rw (f, g, i .0, i .1), g ∙ ap (step k) (i .1))
 ran-is σ (thenMany {ks} r s cs words o e) =
     let i = ran-is σ r in
     let f = e ∙ ap (readMany s cs words) (i .1) in

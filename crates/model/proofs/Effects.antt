@@ -1,7 +1,7 @@
 -- Each effect of a call keeps the invariant.
 use Prim.Native.Nat.{ℕ, suc, _+_, _*_, _≤_, _<_}
 use native.Mathlib.Omega.{arith}
-use mathlib.Core.Path.{_≡_, refl, sym, _∙_, ap, fun-ext}
+use mathlib.Core.Path.{_≡_, refl, sym, _∙_, ap, fun-ext, subst}
 use mathlib.Core.Bool.{true, false}
 use mathlib.Core.Option.{Option, none, some}
 use mathlib.Core.List.{List, [], _∷_}
@@ -9,11 +9,12 @@ use lib.ListN.{length, getD}
 use lib.Seq.{length-sets}
 use Rattle.model.specs.declared.Session.{Session}
 use Rattle.model.specs.declared.Lock.{Lock}
-use Rattle.model.specs.Buffers.{Locks, Store, idle, running, withEntry, Entry, cellAt, entryAt, slotIn, entryOf, lookIn, isDirty, appended, updated, lockAt, onLock, join, withdraw, onLog}
-use Rattle.model.specs.History.{run}
+use Rattle.model.specs.declared.Call.the-variants.{Write}
+use Rattle.model.specs.Buffers.{Locks, Store, idle, running, withEntry, Entry, cellAt, entryAt, slotIn, entryOf, lookIn, isDirty, foundOf, appended, updated, lockAt, onLock, join, withdraw, onLog}
 use Rattle.model.specs.Isolation.{at}
 use Rattle.model.specs.Search.{find}
 use Rattle.model.specs.Effects.{rolledBack, change, changeLogs, recordOf, logOf}
+use Rattle.model.specs.Told.{foundBy}
 use Rattle.model.proofs.Invariant.{roleIn, roleOf, role, Running, Link, Shape, just-map, Inv, Frame, role-other, assemble, quiet}
 use Rattle.model.proofs.Laws.{Long, lock-same, lock-other, long-set, long-sweep, lock-sweep, withdraw-withdraw, log-length, log-same, log-other, length-on, grown-find, grown-new, grown-old, changed-old, changed-new, session-same, session-other, length-records}
 use Rattle.model.proofs.Ledger.{Txn, opened, saw, wroteTo, Commit, Ledger, blank}
@@ -180,6 +181,7 @@ module _ {start : List ℕ} {σ : Store} {T : Ledger} (s : ℕ) (lt : s < 16) (I
         moved = refl;
         unsealed = refl;
         reads = tt;
+        dirtied = λ c. rw (blank c);
         wrote = λ c. rw (blank c);
         value = λ c e. absurd (clash (isDirty (look (change σ s (σ .lent .locks) (σ .lent .values) (σ .lent .logs) running) s c)) e (rw (blank c)));
         clean = λ c e p q. nothing (sym (blank c) ∙ p);
@@ -276,14 +278,19 @@ module _ {start : List ℕ} {σ : Store} {T : Ledger} (s : ℕ) (lt : s < 16) (I
 
   -- ---- a value written into an entry
 
-  pub notes : (c k v : ℕ) → recordOf σ s .phase ≡ 1 → slot σ s c ≡ some k
-      → Inv start (changeLogs σ (onLog s (λ log. updated log k v) (σ .lent .logs))) (amended s (wroteTo c v (T .mine s)) T)
+  -- the value found is the entry's, and the invariant is kept
+  pub notes : (c k v : ℕ) → recordOf σ s .phase ≡ 1 → slot σ s c ≡ some k → let τ = changeLogs σ (onLog s (λ log. updated log k v) (σ .lent .logs)) in
+      let f = foundBy (Write s c v) τ in
+      (f ≡ entryAt (logOf σ s) k .snapshot) × Inv start τ (amended s (wroteTo c v f (T .mine s)) T)
   unfolding updated
-  notes c k v ph h =
-      quiet s I (frame a) (shaped a (I .shape .values) (I .shape .long) (I .shape .counts s)) (wroteTo c v (T .mine s)) (suc (T .place)) (omega arith)
-      (λ d ld. locked-still a d (same-role d) (I .locked d ld))
-      (λ d ld. valued-still a d (same-role d) (I .valued d ld))
-      (link-mine a start (T .commits) (suc (T .place)) (wroteTo c v (T .mine s)) ph (run-note c v (rw ph at (I .link s)) old (entryAt (logOf σ s) k) (slot-some σ s c h) newl))
+  notes c k v ph h = (
+    found-is,
+    subst (λ (f : ℕ). Inv start τ (amended s (wroteTo c v f (T .mine s)) T)) (sym found-is)
+        (quiet s I (frame a) (shaped a (I .shape .values) (I .shape .long) (I .shape .counts s)) (wroteTo c v (entryAt (logOf σ s) k .snapshot) (T .mine s)) (suc (T .place)) (omega arith)
+        (λ d ld. locked-still a d (same-role d) (I .locked d ld))
+        (λ d ld. valued-still a d (same-role d) (I .valued d ld))
+        (link-mine a start (T .commits) (suc (T .place)) (wroteTo c v (entryAt (logOf σ s) k .snapshot) (T .mine s)) ph (run-note c v (rw ph at (I .link s)) old (entryAt (logOf σ s) k) (slot-some σ s c h) newl))),
+  )
     where
       τ : Store
       τ = changeLogs σ (onLog s (λ log. updated log k v) (σ .lent .logs))
@@ -314,6 +321,11 @@ module _ {start : List ℕ} {σ : Store} {T : Ledger} (s : ℕ) (lt : s < 16) (I
 
       newl : look τ s c ≡ some (record { snapshot = entryAt (logOf σ s) k .snapshot; current = v; dirty = true })
       newl = look-mine a c ∙ (unfold entryAt in rw new-log (changed-new (logOf σ s) (x .count) k c v (I .shape .counts s) whole f))
+
+      found-is : foundBy (Write s c v) τ ≡ entryAt (logOf σ s) k .snapshot
+      found-is =
+          let entered : lookIn (logOf τ s) (recordOf τ s .count) c ≡ some (record { snapshot = entryAt (logOf σ s) k .snapshot; current = v; dirty = true }) = unfold look in newl in
+          ap foundOf entered
 
       old : (d : ℕ) → (d ≡ c → ⊥) → look τ s d ≡ look σ s d
       old d n = look-mine a d ∙ rw new-log (changed-old (logOf σ s) (x .count) k c v (I .shape .counts s) whole f d n) ∙ sym (look-is σ s d)

@@ -67,7 +67,8 @@ pub record Running (look : ℕ → Option Entry) (t : Txn) : Type 0 where
   pub open′ : t .done ≡ false
   pub moved : t .moved ≡ 0
   pub unsealed : t .snap ≡ 0
-  pub wrote : (c : ℕ) → t .wrote c ≡ isDirty (look c)
+  pub dirtied : (c : ℕ) → t .dirtied c ≡ isDirty (look c)
+  pub wrote : (c : ℕ) → t .wrote c ≡ isPublished (look c)
   pub value : (c : ℕ) → isDirty (look c) ≡ true → t .value c ≡ currentOf (look c)
   pub reads : All (λ (r : ReadOf). (e : Entry) × (look (r .cell) ≡ some e) × (e .snapshot ≡ r .value)) (t .reads)
   pub clean : (c : ℕ) (e : Entry) → look c ≡ some e → e .dirty ≡ false → e .current ≡ e .snapshot

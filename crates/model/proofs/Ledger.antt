@@ -12,12 +12,13 @@ use Rattle.model.specs.Search.{tally}
 use Rattle.model.specs.Told.{Told, began, got, put, sealed, moved, ended, begins, ReadOf}
 use Rattle.model.proofs.Tools.{upd}
 
--- the place of its begin; whether it is open; its reads before writing; the cells it wrote and its values there; the
+-- the place of its begin; whether it is open; its reads before writing and the values that it found; the cells with a write of its own, those it wrote, and its values there; the
 -- place of its seal (0: none yet); its answers 103; whether it is committed, and the place (0: none yet)
 pub record Txn : Type 0 where
   pub began : ℕ
   pub live : Bool
   pub reads : List ReadOf
+  pub dirtied : ℕ → Bool
   pub wrote : ℕ → Bool
   pub value : ℕ → ℕ
   pub snap : ℕ
@@ -27,7 +28,7 @@ pub record Txn : Type 0 where
 
 abbrev pub opened : ℕ → Txn
 opened p =
-    record { began = p; live = true; reads = []; wrote = λ c. false; value = λ c. 0; snap = 0; moved = 0; done = false; commit = 0 }
+    record { began = p; live = true; reads = []; dirtied = λ c. false; wrote = λ c. false; value = λ c. 0; snap = 0; moved = 0; done = false; commit = 0 }
 
 abbrev pub closed : Txn → Txn
 closed t =
@@ -35,6 +36,7 @@ closed t =
       began = t .began;
       live = false;
       reads = t .reads;
+      dirtied = t .dirtied;
       wrote = t .wrote;
       value = t .value;
       snap = t .snap;
@@ -48,7 +50,8 @@ saw c v t =
     record {
       began = t .began;
       live = t .live;
-      reads = cond (t .wrote c) (t .reads) (record { cell = c; value = v } ∷ t .reads);
+      reads = cond (t .dirtied c) (t .reads) (record { cell = c; value = v } ∷ t .reads);
+      dirtied = t .dirtied;
       wrote = t .wrote;
       value = t .value;
       snap = t .snap;
@@ -57,13 +60,14 @@ saw c v t =
       commit = t .commit;
     }
 
-abbrev pub wroteTo : ℕ → ℕ → Txn → Txn
-wroteTo c v t =
+abbrev pub wroteTo : ℕ → ℕ → ℕ → Txn → Txn
+wroteTo c v f t =
     record {
       began = t .began;
       live = t .live;
-      reads = t .reads;
-      wrote = upd (t .wrote) c true;
+      reads = record { cell = c; value = f } ∷ t .reads;
+      dirtied = upd (t .dirtied) c true;
+      wrote = upd (t .wrote) c (not (eqb v f));
       value = upd (t .value) c v;
       snap = t .snap;
       moved = t .moved;
@@ -78,6 +82,7 @@ sealedAt n q t =
       began = t .began;
       live = t .live;
       reads = t .reads;
+      dirtied = t .dirtied;
       wrote = t .wrote;
       value = t .value;
       snap = q;
@@ -93,6 +98,7 @@ advanced n q t =
       began = t .began;
       live = t .live;
       reads = t .reads;
+      dirtied = t .dirtied;
       wrote = t .wrote;
       value = t .value;
       snap = t .snap;
@@ -148,7 +154,7 @@ starts s T = record { place = T .place; mine = upd (T .mine) s (opened (T .place
 abbrev pub note : ℕ → ℕ → Told → Txn → Txn
 note n q began t = t
 note n q (got c v) t = saw c v t
-note n q (put c v) t = wroteTo c v t
+note n q (put c v f) t = wroteTo c v f t
 note n q sealed t = sealedAt n q t
 note n q moved t = advanced n q t
 note n q ended t = closed t

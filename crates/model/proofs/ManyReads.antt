@@ -36,7 +36,7 @@ end-by-read : (a : Answer) → All ByRead (ending a)
 unfolding ending
 end-by-read a = split (All ByRead) (eqb (number a) 6 || eqb (number a) 105) (λ _. (end, tt)) (λ _. tt)
 
-pub read-by-read : (s c : ℕ) (a : Answer) → All ByRead (tells (Read s c) a)
+pub read-by-read : (s c : ℕ) (a : Answer) → All ByRead (tells (Read s c) a 0)
 unfolding tells
 read-by-read s c a = split (All ByRead) (eqb (number a) 101) (λ _. (value c (valueOf a), tt)) (λ _. end-by-read a)
 
@@ -47,7 +47,7 @@ reads-by-read (c ∷ cs) [] a = end-by-read a
 reads-by-read (c ∷ cs) (v ∷ vs) a = all-append ByRead (readsTell cs vs a) (got c v ∷ []) (reads-by-read cs vs a) (value c v, tt)
 
 -- a read answered 101 tells its value, and no end; any other tells the end that its answer makes, or nothing
-got-told : (s c : ℕ) (a : Answer) → eqb (number a) 101 ≡ true → tells (Read s c) a ≡ got c (valueOf a) ∷ []
+got-told : (s c : ℕ) (a : Answer) → eqb (number a) 101 ≡ true → tells (Read s c) a 0 ≡ got c (valueOf a) ∷ []
 unfolding tells
 got-told s c a y = rw y
 
@@ -55,7 +55,7 @@ got-no-end : (a : Answer) → eqb (number a) 101 ≡ true → ending a ≡ []
 unfolding ending
 got-no-end a y = rw (eqb-true (number a) 101 y)
 
-end-told : (s c : ℕ) (a : Answer) → eqb (number a) 101 ≡ false → tells (Read s c) a ≡ ending a
+end-told : (s c : ℕ) (a : Answer) → eqb (number a) 101 ≡ false → tells (Read s c) a 0 ≡ ending a
 unfolding tells
 end-told s c a y = rw y
 
@@ -75,7 +75,7 @@ list-cases P cells words a b c = split P (ltb 0 cells && leb cells 32) (λ _. sp
 -- a claim of what session s told, the newest first, the last answer and the store, which each single read keeps
 module _ (P : List Told → Answer → Store → Type 0) (s : ℕ)
     (one-more : (ws : List Told) (a : Answer) (σ : Store) → All ByRead ws → P ws a σ → (c : ℕ)
-    → P (tells (Read s c) (answerOf (Read s c) σ) ++ ws) (answerOf (Read s c) σ) (step (Read s c) σ)) where
+    → P (tells (Read s c) (answerOf (Read s c) σ) 0 ++ ws) (answerOf (Read s c) σ) (step (Read s c) σ)) where
   kept : (cs : List ℕ) (ws : List Told) (a : Answer) (σ : Store) → ending a ≡ [] → All ByRead ws → P ws a σ → let r = reads s a cs σ in
       P (readsTell cs (r .values) (r .last) ++ ws) (r .last) (r .store)
   unfolding reads readsTell

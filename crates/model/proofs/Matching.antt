@@ -6,13 +6,13 @@ use mathlib.Core.Bool.{Bool, true, false, cond, not, _&&_, _||_}
 use mathlib.Core.List.{List, [], _∷_}
 use lib.Dec.{eqb}
 use borrow.Author.Tests.{eqb-true, eq-eqb, ne-eqb, not-true}
-use Rattle.model.specs.History.{Item, Name, name, extend, transaction, isOpen, wrote, valueWritten, readsBeforeWriting, snapshot, commit, committed}
+use Rattle.model.specs.History.{Item, Name, name, extend, transaction, isOpen, wrote, valueWritten, snapshot, commit, committed}
 use Rattle.model.specs.Isolation.{All}
 use Rattle.model.specs.Told.{Told, began, got, put, sealed, moved, ended, begins, seals, ends, ReadOf}
 use Rattle.model.proofs.Invariant.{all-map}
 use Rattle.model.proofs.Ledger.{Txn, opened, Commit, Ledger, asCommit, amend, starts, note, hear}
 use Rattle.model.proofs.Tools.{same, test, clash, both-l, both-r, upd, upd-same, upd-other}
-use Rattle.model.proofs.Words.{summary, Fits, more, empty-committed, alone, settled, commits-here}
+use Rattle.model.proofs.Words.{observed, summary, Fits, more, empty-committed, alone, settled, fits-early, Early, commits-here}
 
 pub name-is : (p s : ℕ) (x : Name) → p ≡ x .place → s ≡ x .session → name p s ≡ x
 name-is p s x a b = rw (a, b)
@@ -58,7 +58,7 @@ pub record Kept (n : ℕ) (k : Commit) (t : List Item) : Type 0 where
   pub committed : committed n t ≡ true
   pub commit : commit n t ≡ k .place
   pub snapshot : snapshot t ≡ k .snap
-  pub reads : readsBeforeWriting t ≡ k .reads
+  pub reads : observed t ≡ k .reads
   pub wrote : wrote t ≡ k .wrote
   pub value : valueWritten t ≡ k .value
 
@@ -79,6 +79,7 @@ pub record Matches (n : ℕ) (h : List Item) (T : Ledger) : Type 0 where
   pub recorded : All (Recorded n h) (T .commits)
   pub every : (x : Name) → committed n (transaction x h) ≡ true → In x (T .commits)
   pub stands : (x : Name) → All (Stands x) (transaction x h)
+  pub early : (x : Name) → Early (transaction x h)
 
 recorded-same : (n : ℕ) (h g : List Item) (k : Commit) → transaction (nameOf k) g ≡ transaction (nameOf k) h → Recorded n h k → Recorded n g k
 recorded-same n h g k e r =
@@ -93,6 +94,7 @@ unchanged {n} {h} {g} {T} {U} e a b M =
       recorded = rw b (all-map (λ k r. recorded-same n h g k (e (nameOf k)) r) (T .commits) (M .recorded));
       every = λ x. rw (e x, b) (M .every x);
       stands = λ x. rw (e x) (M .stands x);
+      early = λ x. rw (e x) (M .early x);
     }
 
 module _ {n : ℕ} {h : List Item} {T : Ledger} (M : Matches n h T) (s : ℕ) (w : Told) where
@@ -126,6 +128,7 @@ module _ {n : ℕ} {h : List Item} {T : Ledger} (M : Matches n h T) (s : ℕ) (w
           recorded = all-map (λ k r. rec k (next (nameOf k) i h) r) (T .commits) (M .recorded);
           every = λ x. ev x (next x i h);
           stands = λ x. st x (next x i h);
+          early = λ x. ea x (next x i h);
         }
       where
         u : Txn
@@ -164,6 +167,11 @@ module _ {n : ℕ} {h : List Item} {T : Ledger} (M : Matches n h T) (s : ℕ) (w
         st x (stays e _) = rw e (M .stands x)
         st x (grows e o _) = absurd (shut x e o)
         st x (starts-here _ _ _ _ e) = rw e ((λ z. absurd (clash (seals w) z (ap seals b))), tt)
+
+        ea : (x : Name) → Next x i h → Early (transaction x (i ∷ h))
+        ea x (stays e _) = rw e (M .early x)
+        ea x (grows e o _) = absurd (shut x e o)
+        ea x (starts-here _ _ _ _ e) = rw e ((λ c z. unfold snapshot in refl), tt)
 
   -- the open transaction of the session goes on
   module _ (l : T .mine s .live ≡ true) (b : begins w ≡ false) (fits : Fits (T .mine s) w) (late : 0 < T .place)
@@ -225,6 +233,7 @@ module _ {n : ℕ} {h : List Item} {T : Ledger} (M : Matches n h T) (s : ℕ) (w
           recorded = rs;
           every = λ x. all x (next x i h);
           stands = λ x. st x (next x i h);
+          early = λ x. ea x (next x i h);
         }
       where
         on : (x : Name) → Next x i h → isOpen (transaction x (i ∷ h)) ≡ true → upd (T .mine) s u (x .session) ≡ summary n (x .place) (transaction x (i ∷ h))
@@ -252,6 +261,11 @@ module _ {n : ℕ} {h : List Item} {T : Ledger} (M : Matches n h T) (s : ℕ) (w
         st x (stays e _) = rw e (M .stands x)
         st x (grows e o g) = rw g ((λ _. before x o), M .stands x)
         st x (starts-here y _ _ _ _) = absurd (clash (begins w) y b)
+
+        ea : (x : Name) → Next x i h → Early (transaction x (i ∷ h))
+        ea x (stays e _) = rw e (M .early x)
+        ea x (grows e o g) = rw g ((λ c z. sym (ap (λ (t : Txn). t .snap) (told-live x e o)) ∙ fits-early w (T .mine s) fits c z), M .early x)
+        ea x (starts-here y _ _ _ _) = absurd (clash (begins w) y b)
 
     -- with the commit that it may make
     pub amends : Matches n (i ∷ h) (amend s (note n (T .place) w) T)
@@ -295,7 +309,7 @@ module _ {n : ℕ} {h : List Item} {T : Ledger} (M : Matches n h T) (s : ℕ) (l
       → Matches n (record { place = T .place; session = s; told = w } ∷ h) (hear n s w T)
   one-told began f e = opens M s began f refl (e refl)
   one-told (got c v) f e = goes-on (got c v) refl f
-  one-told (put c v) f e = goes-on (put c v) refl f
+  one-told (put c v g) f e = goes-on (put c v g) refl f
   one-told sealed f e = goes-on sealed refl f
   one-told moved f e = goes-on moved refl f
   one-told ended f e = goes-on ended refl f

@@ -1,8 +1,8 @@
--- The starred orders of document 01 give what they must, by computation over the step definitions.
+-- The starred orders of document 01, and those with values written back, give what they must, by computation over the step definitions.
 use mathlib.Core.Path.{_≡_, refl}
 use mathlib.Core.List.{map}
 use Rattle.model.specs.Computing.{computing}
-use Rattle.model.specs.Orders.{Result, given, answersFrom, valuesAfter, result, expected, listing, skew, skewUnsealed, readPastClaim, writeAtCap, writeAboveCap, lastSession, noSuchSession, beginTwice, beginSeal, abandonPublishing, orders, unpromoted, halfPublished, traps}
+use Rattle.model.specs.Orders.{Result, given, answersFrom, valuesAfter, result, expected, listing, skew, skewUnsealed, readPastClaim, writeAtCap, writeAboveCap, lastSession, noSuchSession, beginTwice, beginSeal, abandonPublishing, orders, unpromoted, halfPublished, traps, bothBack, thereAndBack, backAndThere, oneChanged, changedMeanwhile, backUnsealed, foundLater, writtenBack}
 
 pub orders-hold : map {B = Result} result orders ≡ map {B = Result} expected orders
 unfolding result expected orders listing skew skewUnsealed readPastClaim writeAtCap writeAboveCap lastSession noSuchSession beginTwice beginSeal abandonPublishing given answersFrom valuesAfter computing
@@ -11,3 +11,7 @@ orders-hold = refl
 pub traps-hold : map {B = Result} result traps ≡ map {B = Result} expected traps
 unfolding result expected traps unpromoted halfPublished given answersFrom valuesAfter computing
 traps-hold = refl
+
+pub written-back-hold : map {B = Result} result writtenBack ≡ map {B = Result} expected writtenBack
+unfolding result expected writtenBack bothBack thereAndBack backAndThere oneChanged changedMeanwhile backUnsealed foundLater given answersFrom valuesAfter computing
+written-back-hold = refl

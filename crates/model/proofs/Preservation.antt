@@ -13,14 +13,14 @@ use Rattle.model.specs.declared.Call.the-variants.{Begin, Read, Write, S
 use Rattle.model.specs.declared.Answer.{Answer}
 use Rattle.model.specs.declared.Answer.the-variants.{Done, Refused}
 use Rattle.model.specs.declared.Plan.{Plan}
-use Rattle.model.specs.declared.Plan.the-variants.{Refuse, Start, Enter, EnterUpdate, Cancel, Acquire, Publish, Release}
+use Rattle.model.specs.declared.Plan.the-variants.{Refuse, Start, Enter, Update, EnterUpdate, Cancel, Acquire, Publish, Release}
 use Rattle.model.specs.Buffers.{Store, size, idle, moveTo, Entry, cellAt, entryAt, slotIn, isPublished, targetIn, currentOf, lockAt, cap}
-use Rattle.model.specs.History.{Action, oneCall, manyReads, event, leaves, eventOf}
+use Rattle.model.specs.History.{Action, oneCall, manyReads, event, withFound, leaves, eventOf}
 use Rattle.model.specs.Isolation.{All, at}
 use Rattle.model.specs.ManyReads.{readMany}
 use Rattle.model.specs.Readers.{otherReaders}
 use Rattle.model.specs.Search.{some?, find, below, tally}
-use Rattle.model.specs.Told.{Told, tells, ending, readsTell}
+use Rattle.model.specs.Told.{Told, foundBy, tells, ending, readsTell}
 use Rattle.model.specs.Plans.{recordFits, guard, known, claimed, readSlot, writeSlot, writeCapped, sealTarget, promotePlan, advanceTarget, plan, admit, entriesFit}
 use Rattle.model.specs.Effects.{rolledBack, handled, change, recordOf, after, releaseAnswer, answer, logOf}
 use Rattle.model.specs.Step.{sessionOf, planOf, step, answerOf}
@@ -155,11 +155,11 @@ module _ (σ : Store) (s c : ℕ) where
 
 module _ {first : List ℕ} {σ : Store} {T : Ledger} (I : Inv first σ T) where
   abbrev InvKept : Call → Plan → Type 0
-  InvKept k p = Inv first (after (sessionOf k) p σ) (observe (length first) (event k (answer (sessionOf k) p σ)) T)
+  InvKept k p = Inv first (after (sessionOf k) p σ) (observe (length first) (withFound (foundBy k (after (sessionOf k) p σ)) (event k (answer (sessionOf k) p σ))) T)
 
   -- a read, which other reads may follow at its place
   abbrev ReadKept : ℕ → ℕ → Plan → Type 0
-  ReadKept s c p = Inv first (after s p σ) (hears (length first) s (tells (Read s c) (answer s p σ)) (calm T))
+  ReadKept s c p = Inv first (after s p σ) (hears (length first) s (tells (Read s c) (answer s p σ) 0) (calm T))
 
   -- a call that tells nothing
   stays : Inv first σ (tick (calm T))
@@ -203,7 +203,7 @@ module _ {first : List ℕ} {σ : Store} {T : Ledger} (I : Inv first σ T) where
 
   keep-quiet : (k : Call) (p : Plan) → Quiet k σ p → InvKept k p
   unfolding observe
-  keep-quiet k p q = rw (q .told, q .left) stays
+  keep-quiet k p q = rw (q .told _, q .left) stays
 
   pub runs : (s : ℕ) → recordOf σ s .phase ≡ 1 → Running (look σ s) (T .mine s)
   runs s ph = rw ph at (I .link s)
@@ -237,9 +237,9 @@ module _ {first : List ℕ} {σ : Store} {T : Ledger} (I : Inv first σ T) where
       (λ _. choose (InvKept (Write s c v)) (writeSlot (recordOf σ s) (lockAt (σ .lent .locks) c) c v) (slot σ s c)
       (λ p. cell-new (InvKept (Write s c v)) (recordOf σ s) (lockAt (σ .lent .locks) c) (EnterUpdate c v) stays (λ _. ticks (roll-back s lt (r .live) (calm₁ s ph)))
       (λ room cl.
-      rw (amend-same s (wroteTo c v) T (r .live) (and-not (T .mine s .done)))
-      (notes s lt (enters s lt I c ph p room lc cl) c (recordOf σ s .count) v (enter-phase s lt I c ph p room) (enter-slot s lt I c ph p room))))
-      (λ j p. rw (amend-same s (wroteTo c v) T (r .live) (and-not (T .mine s .done))) (notes s lt I c j v ph p)))
+      rw (amend-same s (wroteTo c v (foundBy (Write s c v) (after s (EnterUpdate c v) σ))) T (r .live) (and-not (T .mine s .done)))
+      (notes s lt (enters s lt I c ph p room lc cl) c (recordOf σ s .count) v (enter-phase s lt I c ph p room) (enter-slot s lt I c ph p room) .1)))
+      (λ j p. rw (amend-same s (wroteTo c v (foundBy (Write s c v) (after s (Update j v) σ))) T (r .live) (and-not (T .mine s .done))) (notes s lt I c j v ph p .1)))
       (λ _. stays))
       (λ _. stays))
 
@@ -358,14 +358,14 @@ module _ {first : List ℕ} {σ : Store} {T : Ledger} (I : Inv first σ T) where
   -- kept by the reads of one call: the invariant; and a claim of what was told, the last answer and the ledger, which each single read keeps where the invariant holds
   pub kept-with-inv : (s : ℕ) (P : List Told → Answer → Ledger → Type 0)
       → ((ws : List Told) (a : Answer) (τ : Store) → All ByRead ws → Inv first τ (heardBy s ws) → P ws a (heardBy s ws) → (c : ℕ) → let b = answerOf (Read s c) τ in
-      P (tells (Read s c) b ++ ws) b (hears (length first) s (tells (Read s c) b) (calm (heardBy s ws))))
+      P (tells (Read s c) b 0 ++ ws) b (hears (length first) s (tells (Read s c) b 0) (calm (heardBy s ws))))
       → (cs : List ℕ) (words : ℕ) → P [] (Refused 15) (calm T) → P [] (Refused 13) (calm T) → P [] Done (calm T) → let r = readMany s cs words σ in
       let ws = readsTell cs (r .values) (r .last) in Inv first (r .store) (heardBy s ws) × P ws (r .last) (heardBy s ws)
   unfolding step answerOf
   kept-with-inv s P more cs words r15 r13 p =
       kept-by-reads (λ ws a τ. Inv first τ (heardBy s ws) × P ws a (heardBy s ws)) s
       (λ ws a τ b H c.
-      let us = tells (Read s c) (answerOf (Read s c) τ) in
+      let us = tells (Read s c) (answerOf (Read s c) τ) 0 in
       subst (λ (U : Ledger). Inv first (step (Read s c) τ) U × P (us ++ ws) (answerOf (Read s c) τ) U) (hears-after (length first) s us ws T b)
       (keep-read (H .0) s c, more ws a τ b (H .0) (H .1) c))
       cs words σ (calms I, r15) (calms I, r13) (calms I, p)

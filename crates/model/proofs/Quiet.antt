@@ -20,7 +20,7 @@ use Rattle.model.proofs.Telling.{off, not-six, refused-tells}
 use Rattle.model.proofs.Tools.{split}
 
 pub record Quiet (k : Call) (σ : Store) (p : Plan) : Type 0 where
-  pub told : tells k (answer (sessionOf k) p σ) ≡ []
+  pub told : (f : ℕ) → tells k (answer (sessionOf k) p σ) f ≡ []
   pub left : after (sessionOf k) p σ ≡ σ
   pub not-6 : eqb (number (answer (sessionOf k) p σ)) 6 ≡ false
   pub not-104 : eqb (number (answer (sessionOf k) p σ)) 104 ≡ false
@@ -43,5 +43,5 @@ peeks σ s c =
     on-cell (Peek s c) σ c (peekSlot (logOf σ s) c (slotIn (logOf σ s) (recordOf σ s .count) c))
     (choose (Quiet (Peek s c) σ) (peekSlot (logOf σ s) c) (slotIn (logOf σ s) (recordOf σ s .count) c) (λ _. refuses (Peek s c) σ 14 refl)
     (λ k _. split (Quiet (Peek s c) σ) (entryAt (logOf σ s) k .dirty)
-    (λ _. record { told = refl; left = refl; not-6 = refl; not-104 = refl; not-105 = refl })
-    (λ _. record { told = refl; left = refl; not-6 = refl; not-104 = refl; not-105 = refl })))
+    (λ _. record { told = λ _. refl; left = refl; not-6 = refl; not-104 = refl; not-105 = refl })
+    (λ _. record { told = λ _. refl; left = refl; not-6 = refl; not-104 = refl; not-105 = refl })))

@@ -159,6 +159,7 @@ ready φ I =
         recorded = tt;
         every = λ x d. clash false (sym (empty-committed (length (φ .lent .values))) ∙ (unfold transaction in d)) refl;
         stands = λ x. unfold transaction in tt;
+        early = λ x. unfold transaction in tt;
       };
       below = tt;
       place = refl;

@@ -19,7 +19,7 @@ use Rattle.model.proofs.Laws.{Long, long-sweep, lock-sweep, leave-leave
 use Rattle.model.proofs.Ledger.{Txn, closed, sealedAt, Ledger, asCommit, valueBefore}
 use Rattle.model.proofs.Roles.{Role, out, wanting, holds, owns, pends, claims?, Locked, Valued, kept, leaves, stays}
 use Rattle.model.proofs.Tools.{test, which, clash}
-use Rattle.model.proofs.View.{slot, look, written, dirty-publishes}
+use Rattle.model.proofs.View.{slot, look, written, published-dirty}
 
 module _ {start : List ℕ} {σ : Store} {T : Ledger} (s : ℕ) (lt : s < 16) (I : Inv start σ T) (ph : recordOf σ s .phase ≡ 1) where
   run : Running (look σ s) (T .mine s)
@@ -93,7 +93,7 @@ module _ {start : List ℕ} {σ : Store} {T : Ledger} (s : ℕ) (lt : s < 16) (I
 
     pub wrote-is : (c : ℕ) → T .mine s .wrote c ≡ written σ s c
     unfolding written
-    wrote-is c = run .wrote c ∙ dirty-publishes (look σ s c)
+    wrote-is c = run .wrote c
 
     -- a written cell: it promotes
     pub promotes : (c : ℕ) → c < length start → written σ s c ≡ true
@@ -108,8 +108,8 @@ module _ {start : List ℕ} {σ : Store} {T : Ledger} (s : ℕ) (lt : s < 16) (I
           live = run .live;
           open′ = ne-eqb (tally (u .wrote) (length start)) 0 (λ e. omega (arith, tally-more (u .wrote) 0 (length start) c (omega arith) lc (wrote-is c ∙ wc)));
           moved = run .moved ∙ unfold tally in refl;
-          wrote = λ d. rw (look-same d) (run .wrote d ∙ dirty-publishes (look σ s d));
-          value = λ d. rw (look-same d) (λ w. run .value d (dirty-publishes (look σ s d) ∙ w));
+          wrote = λ d. rw (look-same d) (run .wrote d);
+          value = λ d. rw (look-same d) (λ w. run .value d (published-dirty (look σ s d) w));
           sealed = (I .begun, omega arith);
           reads = reads-fair;
           apart = all-map (λ j h c p q. h) (T .commits) (I .old);

@@ -17,9 +17,9 @@ use Rattle.model.specs.Buffers.{Store, size}
 use Rattle.model.specs.History.{Action, oneCall, manyReads, actor, Event, tellsOf, eventOf, Item, add, Name, name, transaction, isOpen}
 use Rattle.model.specs.Isolation.{All}
 use Rattle.model.specs.Plans.{guard, plan, admit}
-use Rattle.model.specs.Effects.{number, valueOf, recordOf, answer, logOf}
-use Rattle.model.specs.Step.{sessionOf, planOf, answerOf}
-use Rattle.model.specs.Told.{Told, began, got, put, sealed, moved, ended, ending, tells, begins}
+use Rattle.model.specs.Effects.{number, valueOf, recordOf, answer, after, logOf}
+use Rattle.model.specs.Step.{sessionOf, planOf, step, answerOf}
+use Rattle.model.specs.Told.{Told, began, got, put, sealed, moved, ended, ending, foundBy, tells, begins}
 use Rattle.model.proofs.Invariant.{Inv}
 use Rattle.model.proofs.Ledger.{Ledger, calm, amend, starts, hear, hears, observe}
 use Rattle.model.proofs.ManyReads.{ByRead, value, end}
@@ -110,29 +110,29 @@ module _ {first : List ℕ} {σ : Store} {T : Ledger} (I : Inv first σ T) {n : 
       (rw e (unfold Before in before-more (T .place) (record { place = T .place; session = s; told = sealed }) h refl before)) ended tt (λ z. absurd (clash false z refl)))
 
   -- what a call may tell, whatever it is answered
-  says-read : (s c : ℕ) (a : Answer) → Unsealed (T .mine s) → Goes s (tells (Read s c) a)
+  says-read : (s c : ℕ) (a : Answer) → Unsealed (T .mine s) → Goes s (tells (Read s c) a 0)
   unfolding tells
   says-read s c a u = split (Goes s) (eqb (number a) 101) (λ _. told-one s (got c (valueOf a)) refl u) (λ _. told-ending s a)
 
-  says-write : (s c v : ℕ) (a : Answer) → Unsealed (T .mine s) → Goes s (tells (Write s c v) a)
+  says-write : (s c v : ℕ) (a : Answer) (f : ℕ) → Unsealed (T .mine s) → Goes s (tells (Write s c v) a f)
   unfolding tells
-  says-write s c v a u = split (Goes s) (eqb (number a) 100) (λ _. told-one s (put c v) refl u) (λ _. told-ending s a)
+  says-write s c v a f u = split (Goes s) (eqb (number a) 100) (λ _. told-one s (put c v f) refl u) (λ _. told-ending s a)
 
-  says-seal : (s : ℕ) (a : Answer) → Unsealed (T .mine s) → Goes s (tells (Seal s) a)
+  says-seal : (s : ℕ) (a : Answer) → Unsealed (T .mine s) → Goes s (tells (Seal s) a 0)
   unfolding tells
   says-seal s a u =
       split (Goes s) (eqb (number a) 102) (λ _. told-one s sealed refl u) (λ _. split (Goes s) (eqb (number a) 105) (λ _. told-both s u) (λ _. told-ending s a))
 
-  says-advance : (s : ℕ) (a : Answer) → Goes s (tells (Advance s) a)
+  says-advance : (s : ℕ) (a : Answer) → Goes s (tells (Advance s) a 0)
   unfolding tells
   says-advance s a = split (Goes s) (eqb (number a) 103) (λ _. told-one s moved refl tt) (λ _. told-ending s a)
 
-  says-abandon : (s : ℕ) (a : Answer) → Goes s (tells (Abandon s) a)
+  says-abandon : (s : ℕ) (a : Answer) → Goes s (tells (Abandon s) a 0)
   unfolding tells
   says-abandon s a = split (Goes s) (eqb (number a) 100) (λ _. told-one s ended refl tt) (λ _. told-ending s a)
 
   abbrev Fine : Call → Plan → Type 0
-  Fine k p = Goes (sessionOf k) (tells k (answer (sessionOf k) p σ))
+  Fine k p = Goes (sessionOf k) (tells k (answer (sessionOf k) p σ) (foundBy k (after (sessionOf k) p σ)))
 
   early : (s : ℕ) → eqb (recordOf σ s .phase) 1 ≡ true → Unsealed (T .mine s)
   early s y = let r = runs I s (eqb-true (recordOf σ s .phase) 1 y) in record { open′ = r .open′; moved = r .moved; unsealed = r .unsealed }
@@ -153,7 +153,7 @@ module _ {first : List ℕ} {σ : Store} {T : Ledger} (I : Inv first σ T) {n : 
 
     heard-write : (c v : ℕ) → Fine (Write s c v) (planOf (Write s c v) σ)
     unfolding planOf plan
-    heard-write c v = running (Write s c v) _ (unfold tells ending answer in z) (unfold tells ending answer in z) (unfold tells ending answer in z) (unfold tells ending answer in z) (says-write s c v _)
+    heard-write c v = running (Write s c v) _ (unfold tells ending answer in z) (unfold tells ending answer in z) (unfold tells ending answer in z) (unfold tells ending answer in z) (says-write s c v _ _)
 
     heard-seal : Fine (Seal s) (planOf (Seal s) σ)
     unfolding planOf plan
@@ -165,8 +165,8 @@ module _ {first : List ℕ} {σ : Store} {T : Ledger} (I : Inv first σ T) {n : 
         guarded (Fine (Begin s)) (σ .lent) s (recordOf σ s) (eqb (recordOf σ s .phase) 0) Start z z z z
         (λ _ _ y. one-told z s (I .begun) (unfold Before in before) began (rw (eqb-true (recordOf σ s .phase) 0 y) at (I .link s)) (λ _. none))
 
-  pub heard : (k : Call) → ((s : ℕ) → transaction (name (T .place) s) h ≡ []) → Matches n (add (T .place) (sessionOf k) (tells k (answerOf k σ)) h) (hears n (sessionOf k) (tells k (answerOf k σ)) (calm T))
-  unfolding answerOf
+  pub heard : (k : Call) → ((s : ℕ) → transaction (name (T .place) s) h ≡ []) → Matches n (add (T .place) (sessionOf k) (tells k (answerOf k σ) (foundBy k (step k σ))) h) (hears n (sessionOf k) (tells k (answerOf k σ) (foundBy k (step k σ))) (calm T))
+  unfolding answerOf step
   heard (Begin s) none = heard-begin s (none s)
   heard (Read s c) none = heard-read s c
   heard (Write s c v) none = heard-write s c v
@@ -187,7 +187,7 @@ module _ {first : List ℕ} {σ : Store} {T : Ledger} (I : Inv first σ T) {h : 
       let still = nothing-told I M before s in
       kept-with-inv I s (λ ws _ U. Matches n (add (T .place) s ws h) U)
       (λ ws _ τ a J N c.
-      let us = tells (Read s c) (answerOf (Read s c) τ) in
+      let us = tells (Read s c) (answerOf (Read s c) τ) 0 in
       let g = add (T .place) s ws h in
       let e = hears-place n s ws (calm T) in
       rw (add-append (T .place) s us ws h)

@@ -8,11 +8,11 @@ use lib.Dec.{ltb, eqb}
 use lib.ListN.{length, List·getD-eq-default}
 use borrow.Author.Tests.{ltb-true, ltb-false, le-leb, lt-leb}
 use Rattle.model.specs.Buffers.{Locks, Store, lockAt}
-use Rattle.model.specs.History.{Action, oneCall, manyReads, actor, actionTells, Event, tellsOf, eventOf, Item, add, run, history, Name, transaction, isOpen, wrote, commit, committed}
+use Rattle.model.specs.History.{Action, oneCall, manyReads, actor, actionTells, Event, tellsOf, eventOf, Item, add, run, history, Name, transaction, isOpen, wrote, snapshot, commit, committed}
 use Rattle.model.specs.Isolation.{All, at, Isolated, Holds, firsts, HoldsAtCommit}
 use Rattle.model.specs.Effects.{number, recordOf}
 use Rattle.model.specs.Step.{sessionOf}
-use Rattle.model.specs.Told.{Told, sealed, ended, ending, readsTell, writes, begins}
+use Rattle.model.specs.Told.{Told, sealed, ended, ending, readsTell, writes, seals, begins}
 use Rattle.model.proofs.Advancing.{late, role-late}
 use Rattle.model.proofs.Commits.{pick, all-both, isolated}
 use Rattle.model.proofs.Effects.{running-role}
@@ -26,6 +26,7 @@ use Rattle.model.proofs.Runs.{history-step, Ready, ledger-of, inv-run, 
 use Rattle.model.proofs.Telling.{tells-any}
 use Rattle.model.proofs.Tools.{same, split, test, which, clash, upd}
 use Rattle.model.proofs.View.{look, written}
+use Rattle.model.proofs.Words.{Early}
 
 -- ---- the writer locks
 
@@ -35,7 +36,7 @@ beyond n c L w h = List·getD-eq-default (L .exclusives) 0 (omega (arith, w .exc
 
 -- an open transaction that is not committed does not hold everything
 unheld : {start : List ℕ} {σ : Store} {T : Ledger} → Inv start σ T → (s : ℕ) → T .mine s .live ≡ true → T .mine s .done ≡ false → (w : ℕ → Bool)
-    → ((c : ℕ) → T .mine s .wrote c ≡ true → w c ≡ true) → (c : ℕ) → w c ≡ true → ((c : ℕ) → w c ≡ true → Holds σ s c) → ⊥
+    → (0 < T .mine s .snap → (c : ℕ) → T .mine s .wrote c ≡ true → w c ≡ true) → (c : ℕ) → w c ≡ true → ((c : ℕ) → w c ≡ true → Holds σ s c) → ⊥
 unheld {start} {σ} {T} I s l d w sub c wc al =
     test (ltb c (length start)) (λ y. go (ltb-true c (length start) y) (recordOf σ s .phase) refl (I .link s))
     (λ y. omega (arith, al c wc .1, beyond (length start) c (σ .lent .locks) (I .shape .long) (ltb-false c (length start) y)))
@@ -47,7 +48,7 @@ unheld {start} {σ} {T} I s l d w sub c wc al =
         which (look σ s c) (λ y. clash (owns (role σ c s)) o (unfold role roleOf in rw y)) (λ n y. clash (owns (role σ c s)) o (ap owns (running-role σ s c n e y)))
     go lc (suc (suc zero)) e x =
         let f = x .left .0 in
-        let h = al f (sub f (x .left .1)) in
+        let h = al f (sub (x .sealed .0) f (x .left .1)) in
         let o = I .locked f (x .left .3) .early s (h .0) (h .1) in
         clash (owns (role σ f s)) o
         (ap owns (role-late σ s f 0 e) ∙ unfold late roleIn written in rw (sym (x .wrote f) ∙ x .left .1, le-leb (recordOf σ s .next) f (x .left .2)))
@@ -95,35 +96,43 @@ observe-grows n e T = go (e .action)
     closes (kept e) f = kept (f .0 ∙ e)
     closes (grew k e p w) f = grew k (f .0 ∙ e) p (f .1 ∙ w)
 
-    go : (k : Action) → P (actor k) (actionTells k (e .answer) (e .values))
+    go : (k : Action) → P (actor k) (actionTells k (e .answer) (e .values) (e .found))
     go (oneCall k) =
         let s = sessionOf k in
         let a = e .answer in
         tells-any (P s) a (unfold ending in split (P s) (eqb (number a) 6 || eqb (number a) 105) (λ _. alone s ended) (λ _. kept refl)) (λ w _ _. alone s w)
-        (λ _. closes (hear-grows n s sealed (calm T)) (amend-keeps s closed (hear n s sealed (calm T)) refl)) k
+        (λ _. closes (hear-grows n s sealed (calm T)) (amend-keeps s closed (hear n s sealed (calm T)) refl)) k (e .found)
     go (manyReads s cs words) = kept (hears-keeps n s (readsTell cs (e .values) (e .answer)) (calm T) (reads-by-read cs (e .values) (e .answer)) .0)
 
 -- ---- what more told does to a transaction
 
--- what is open now was open; what is committed now and was not was open; what was written stays written
+-- what is open now was open; what is committed now and was not was open; sealed it stays sealed, and what was written at its seal stays written
 pub record Later (n : ℕ) (t u : List Item) : Type 0 where
   pub open′ : isOpen u ≡ true → isOpen t ≡ true
   pub done : committed n t ≡ false → committed n u ≡ true → isOpen t ≡ true
-  pub wrote : (c : ℕ) → wrote t c ≡ true → wrote u c ≡ true
+  pub sealed : 0 < snapshot t → 0 < snapshot u
+  pub wrote : 0 < snapshot t → (c : ℕ) → wrote t c ≡ true → wrote u c ≡ true
 
 later-same : (n : ℕ) (t : List Item) → Later n t t
-later-same n t = record { open′ = λ o. o; done = λ a b. absurd (clash (committed n t) b a); wrote = λ c w. w }
+later-same n t = record { open′ = λ o. o; done = λ a b. absurd (clash (committed n t) b a); sealed = λ l. l; wrote = λ l c w. w }
 
-later-more : (n : ℕ) (i : Item) (t : List Item) → isOpen t ≡ true → Later n t (i ∷ t)
-unfolding wrote
-later-more n i t o = record { open′ = λ _. o; done = λ _ _. o; wrote = λ c w. rw w (or-true (writes (i .told) c)) }
+later-more : (n : ℕ) (i : Item) (t : List Item) → 0 < i .place → Early (i ∷ t) → isOpen t ≡ true → Later n t (i ∷ t)
+unfolding wrote snapshot
+later-more n i t p e o =
+    record {
+      open′ = λ _. o;
+      done = λ _ _. o;
+      sealed = λ l. split (λ (z : ℕ). 0 < z) (seals (i .told)) (λ _. p) (λ _. l);
+      wrote = λ l c w. test (writes (i .told) c) (λ y. absurd (let z = e .0 c y in omega arith)) (λ y. rw y w);
+    }
 
-later-item : (n : ℕ) (x : Name) (i : Item) (h : List Item) → (x .place ≡ i .place → ⊥) → Later n (transaction x h) (transaction x (i ∷ h))
-later-item n x i h d = go (next x i h)
+later-item : (n : ℕ) (x : Name) (i : Item) (h : List Item) → (x .place ≡ i .place → ⊥) → 0 < i .place → Early (transaction x (i ∷ h))
+    → Early (transaction x h) × Later n (transaction x h) (transaction x (i ∷ h))
+later-item n x i h d p a = go (next x i h)
   where
-    go : Next x i h → Later n (transaction x h) (transaction x (i ∷ h))
-    go (stays e _) = subst (Later n (transaction x h)) (sym e) (later-same n (transaction x h))
-    go (grows _ o e) = subst (Later n (transaction x h)) (sym e) (later-more n i (transaction x h) o)
+    go : Next x i h → Early (transaction x h) × Later n (transaction x h) (transaction x (i ∷ h))
+    go (stays e _) = (subst Early e a, subst (Later n (transaction x h)) (sym e) (later-same n (transaction x h)))
+    go (grows _ o e) = let b = subst Early e a in (b .1, subst (Later n (transaction x h)) (sym e) (later-more n i (transaction x h) p b o))
     go (starts-here _ e _ _ _) = absurd (d e)
 
 later-on : {n : ℕ} {t u v : List Item} → Later n t u → Later n u v → Later n t v
@@ -131,12 +140,17 @@ later-on {n} {t} {u} {v} a b =
     record {
       open′ = λ o. a .open′ (b .open′ o);
       done = λ x y. test (committed n u) (λ z. a .done x z) (λ z. a .open′ (b .done z y));
-      wrote = λ c w. b .wrote c (a .wrote c w);
+      sealed = λ l. b .sealed (a .sealed l);
+      wrote = λ l c w. b .wrote (a .sealed l) c (a .wrote l c w);
     }
 
-later-add : (n : ℕ) (x : Name) (q s : ℕ) (ws : List Told) (h : List Item) → (x .place ≡ q → ⊥) → Later n (transaction x h) (transaction x (add q s ws h))
-later-add n x q s [] h d = later-same n (transaction x h)
-later-add n x q s (w ∷ ws) h d = later-on (later-add n x q s ws h d) (later-item n x (record { place = q; session = s; told = w }) (add q s ws h) d)
+later-add : (n : ℕ) (x : Name) (q s : ℕ) (ws : List Told) (h : List Item) → (x .place ≡ q → ⊥) → 0 < q → Early (transaction x (add q s ws h))
+    → Early (transaction x h) × Later n (transaction x h) (transaction x (add q s ws h))
+later-add n x q s [] h d p e = (e, later-same n (transaction x h))
+later-add n x q s (w ∷ ws) h d p e =
+    let a = later-item n x (record { place = q; session = s; told = w }) (add q s ws h) d p e in
+    let b = later-add n x q s ws h d p (a .0) in
+    (b .0, later-on (b .1) (a .1))
 
 -- ---- the runs
 
@@ -195,23 +209,28 @@ module _ {φ : Store} {h₀ : List Item} {T₀ : Ledger} (R : Ready φ h₀ T₀
   pub record Opening (t u : List Item) : Type 0 where
     pub open′ : isOpen t ≡ true
     pub not-done : committed (length (φ .lent .values)) t ≡ false
-    pub wrote : (c : ℕ) → wrote t c ≡ true → wrote u c ≡ true
+    pub sealed : 0 < snapshot t → 0 < snapshot u
+    pub wrote : 0 < snapshot t → (c : ℕ) → wrote t c ≡ true → wrote u c ≡ true
 
   past : (k : Action) (ks : List Action) (x : Name) → x .place ≤ length ks → Later n (tx ks x) (tx (k ∷ ks) x)
   past k ks x l =
       let e = eventOf k (run φ ks) in
       subst (λ (h : List Item). Later n (tx ks x) (transaction x h)) (sym (history-step h₀ φ k ks))
-      (later-add n x (suc (length ks)) (actor (e .action)) (tellsOf e) (history h₀ φ ks) (λ e. omega arith))
+      (later-add n x (suc (length ks)) (actor (e .action)) (tellsOf e) (history h₀ φ ks) (λ e. omega arith) (omega arith)
+      (subst (λ (h : List Item). Early (transaction x h)) (history-step h₀ φ k ks) (match-run R (k ∷ ks) .early x)) .1)
+
+  after-one : {t u v : List Item} → Later n u v → Opening t u → Opening t v
+  after-one p o = record { open′ = o .open′; not-done = o .not-done; sealed = λ l. p .sealed (o .sealed l); wrote = λ l c h. p .wrote (o .sealed l) c (o .wrote l c h) }
 
   still-open : (ks : List Action) (x : Name) → isOpen (tx ks x) ≡ true → committed n (tx ks x) ≡ false → (m : ℕ) → x .place ≤ m → m ≤ length ks → Opening (tx (firsts m ks) x) (tx ks x)
-  still-open [] x l d m a b = unfold firsts in record { open′ = l; not-done = d; wrote = λ c h. h }
+  still-open [] x l d m a b = unfold firsts in record { open′ = l; not-done = d; sealed = λ l. l; wrote = λ l c h. h }
   still-open (k ∷ ks) x l d m a b =
       same m (suc (length ks))
-      (λ e. rw (firsts-all m k ks e) (record { open′ = l; not-done = d; wrote = λ c h. h }))
+      (λ e. rw (firsts-all m k ks e) (record { open′ = l; not-done = d; sealed = λ l. l; wrote = λ l c h. h }))
       (λ ne.
       let p = past k ks x (omega arith) in
       let o = still-open ks x (p .open′ l) (flip (committed n (tx ks x)) (λ y. clash (committed n (tx (k ∷ ks) x)) (frozen k ks x y .0) d)) m a (omega arith) in
-      rw (firsts-fewer m k ks (omega arith)) (record { open′ = o .open′; not-done = o .not-done; wrote = λ c h. p .wrote c (o .wrote c h) }))
+      rw (firsts-fewer m k ks (omega arith)) (after-one p o))
 
   commit-le : (ks : List Action) (x : Name) → committed n (tx ks x) ≡ true → commit n (tx ks x) ≤ length ks
   commit-le ks x d =
@@ -226,8 +245,8 @@ module _ {φ : Store} {h₀ : List Item} {T₀ : Ledger} (R : Ready φ h₀ T₀
       let p = past k ks x (omega (arith, a, b, c)) in
       rw (firsts-fewer m k ks (omega (arith, b, c)))
       (test (committed n (tx ks x))
-      (λ y. let o = not-yet ks x y m a (omega (arith, b, frozen k ks x y .1)) in record { open′ = o .open′; not-done = o .not-done; wrote = λ c h. p .wrote c (o .wrote c h) })
-      (λ y. let o = still-open ks x (p .done y d) y m a (omega (arith, b, c)) in record { open′ = o .open′; not-done = o .not-done; wrote = λ c h. p .wrote c (o .wrote c h) }))
+      (λ y. let o = not-yet ks x y m a (omega (arith, b, frozen k ks x y .1)) in after-one p o)
+      (λ y. let o = still-open ks x (p .done y d) y m a (omega (arith, b, c)) in after-one p o))
 
   pub writing : (ks : List Action) → HoldsAtCommit h₀ φ ks
   writing ks =
@@ -241,11 +260,11 @@ module _ {φ : Store} {h₀ : List Item} {T₀ : Ledger} (R : Ready φ h₀ T₀
             let o = not-yet ks x d m a b in
             let u = match-run R (firsts m ks) .open′ x (o .open′) in
             unheld (inv-run R (firsts m ks)) (x .session) (ap (λ (t : Txn). t .live) u ∙ o .open′) (ap (λ (t : Txn). t .done) u ∙ o .not-done)
-            (wrote (tx ks x)) (λ c h. o .wrote c (sym (ap (λ (t : Txn). t .wrote c) u) ∙ h)) c w al;
+            (wrote (tx ks x)) (λ l c h. o .wrote (subst (λ (z : ℕ). 0 < z) (ap (λ (t : Txn). t .snap) u) l) c (sym (ap (λ (t : Txn). t .wrote c) u) ∙ h)) c w al;
         notUncommitted = λ x o d c w al.
             let u = M .open′ x o in
             unheld (inv-run R ks) (x .session) (ap (λ (t : Txn). t .live) u ∙ o) (ap (λ (t : Txn). t .done) u ∙ d)
-            (wrote (tx ks x)) (λ c h. sym (ap (λ (t : Txn). t .wrote c) u) ∙ h) c w al;
+            (wrote (tx ks x)) (λ _ c h. sym (ap (λ (t : Txn). t .wrote c) u) ∙ h) c w al;
       }
 
   pub isolation : (ks : List Action) → Isolated (φ .lent .values) (history h₀ φ ks)

@@ -1,7 +1,7 @@
 -- What the caller lends to every call, and how it is read and changed (document 01, "What the caller lends"). Its words here: a figure is a value; of an
 -- entry the figure found is `snapshot`, the present figure `current`, written `dirty`; a lock's mark is `exclusive`.
 use Prim.Native.Nat.{ℕ, zero, suc, _+_, _*_}
-use mathlib.Core.Bool.{Bool, true, false, cond, _&&_}
+use mathlib.Core.Bool.{Bool, true, false, cond, not, _&&_}
 use mathlib.Core.Option.{Option, none, some}
 use mathlib.Core.List.{List, [], _∷_, _++_}
 use lib.Dec.{leb, ltb, eqb}
@@ -101,20 +101,26 @@ abbrev pub isDirty : Option Entry → Bool
 isDirty none = false
 isDirty (some e) = e .dirty
 
--- what counts as written for seal and advance: today that bit; two definitions, since a later request may part them
+-- an entry publishes, that is counts as written from the seal on, by that bit where the present value is not the one found (document 02, Paper 2)
 unfoldable pub publishes : Entry → Bool
-publishes e = e .dirty
+publishes e = e .dirty && not (eqb (e .current) (e .snapshot))
 
 abbrev pub isPublished : Option Entry → Bool
 isPublished none = false
 isPublished (some e) = publishes e
 
+-- a cell publishes where its first entry does
 unfoldable pub publishesIn : List ℕ → ℕ → ℕ → Bool
 publishesIn log m c = isPublished (lookIn log m c)
 
--- the lowest written cell not below a cell
+-- the lowest cell not below a cell that publishes
 unfoldable pub targetIn : List ℕ → ℕ → ℕ → Option ℕ
 targetIn log m from = lowest (λ c. leb from c && publishesIn log m c) (cellAt log) m
+
+-- the value found, and the present value; 0 where the cell is not in the log
+abbrev pub foundOf : Option Entry → ℕ
+foundOf none = 0
+foundOf (some e) = e .snapshot
 
 abbrev pub currentOf : Option Entry → ℕ
 currentOf none = 0
@@ -124,7 +130,7 @@ currentOf (some e) = e .current
 unfoldable pub appended : List ℕ → ℕ → ℕ → ℕ → List ℕ
 appended log k c v = sets log (4 * k) (c ∷ v ∷ v ∷ 0 ∷ [])
 
--- the present value v in entry k, which is then written, also where v is the value it had
+-- the present value v in entry k, whose bit is then set, also where v is the value found
 unfoldable pub updated : List ℕ → ℕ → ℕ → List ℕ
 updated log k v = sets log (4 * k + 2) (v ∷ 1 ∷ [])
 

@@ -104,7 +104,7 @@ steps =
     (state (session 1 1 7) (entry 0 8 6 1) (cells 3 5) (cells 5 4) (cells 200 16) (cells 1 0))
     ∷ case (state (session 1 2 0) (entry 0 3 4 0 ++ entry 0 3 5 0) (cells 3 5) (cells 1 0) (cells 16 16) (cells 0 0)) (Write 0 0 8) 100 0
     (state (session 1 2 0) (entry 0 3 8 1 ++ entry 0 3 5 0) (cells 3 5) (cells 1 0) (cells 16 16) (cells 0 0))
-    -- write of a new cell: locked and entered as by read, then written; an equal value is written too
+    -- write of a new cell: locked and entered as by read, then written; also with the value found
     ∷ case (state (session 1 0 7) [] (cells 3 5) (cells 5 4) (cells 16 16) (cells 1 1)) (Write 1 0 6) 100 0
     (state (session 1 1 7) (entry 0 3 6 1) (cells 3 5) (cells 7 4) (cells 16 16) (cells 1 1))
     ∷ case (state (session 1 0 0) [] (cells 3 5) (cells 0 0) (cells 16 16) (cells 0 0)) (Write 2 0 3) 100 0
@@ -119,6 +119,24 @@ steps =
     (state (session 2 2 0) (entry 0 8 4 2 ++ entry 1 5 6 3) (cells 3 5) (cells 5 6) (cells 1 9) (cells 1 1))
     ∷ case (state (session 1 2 0) (entry 0 3 4 7 ++ entry 0 3 5 6) (cells 3 5) (cells 1 1) (cells 16 16) (cells 0 0)) (Seal 0) 102 0
     (state (session 2 2 0) (entry 0 3 4 7 ++ entry 0 3 5 6) (cells 3 5) (cells 1 1) (cells 16 16) (cells 0 0))
+    -- what has a write and the value found is let go as merely read; by the value found, whatever the store has; of two entries the first counts
+    ∷ case (state (session 1 2 7) (entry 0 8 8 1 ++ entry 1 5 6 1) (cells 3 5) (cells 7 6) (cells 1 9) (cells 1 1)) (Seal 1) 102 0
+    (state (session 2 2 0) (entry 0 8 8 1 ++ entry 1 5 6 1) (cells 3 5) (cells 5 6) (cells 1 9) (cells 1 1))
+    ∷ case (state (session 1 2 7) (entry 0 8 3 1 ++ entry 1 6 6 1) (cells 3 5) (cells 7 6) (cells 1 9) (cells 1 1)) (Seal 1) 102 0
+    (state (session 2 2 0) (entry 0 8 3 1 ++ entry 1 6 6 1) (cells 3 5) (cells 7 4) (cells 1 9) (cells 1 1))
+    ∷ case (state (session 1 2 7) (entry 0 8 8 1 ++ entry 1 6 6 3) (cells 3 5) (cells 7 6) (cells 1 9) (cells 1 1)) (Seal 1) 105 0
+    (state (session 0 0 0) (entry 0 8 8 1 ++ entry 1 6 6 3) (cells 3 5) (cells 5 4) (cells 1 9) (cells 1 1))
+    ∷ case (state (session 1 2 0) (entry 0 3 3 1 ++ entry 0 3 5 1) (cells 3 5) (cells 1 1) (cells 16 16) (cells 0 0)) (Seal 0) 105 0
+    (state (session 0 0 0) (entry 0 3 3 1 ++ entry 0 3 5 1) (cells 3 5) (cells 0 1) (cells 16 16) (cells 0 0))
+    ∷ case (state (session 1 2 0) (entry 0 3 5 1 ++ entry 0 3 3 1) (cells 3 5) (cells 1 1) (cells 16 16) (cells 0 0)) (Seal 0) 102 0
+    (state (session 2 2 0) (entry 0 3 5 1 ++ entry 0 3 3 1) (cells 3 5) (cells 1 1) (cells 16 16) (cells 0 0))
+    -- advance passes it by, as a target and as what is left, in each phase
+    ∷ case (state (session 2 3 0) (entry 0 8 8 1 ++ entry 1 5 6 1 ++ entry 0 8 4 1) (cells 3 5) (cells 0 2) (cells 16 16) (cells 0 0)) (Advance 1) 103 0
+    (state (session 3 3 0) (entry 0 8 8 1 ++ entry 1 5 6 1 ++ entry 0 8 4 1) (cells 3 5) (cells 0 2) (cells 16 1) (cells 0 1))
+    ∷ case (state (session 3 2 0) (entry 0 8 4 1 ++ entry 1 5 5 1) (cells 3 5) (cells 2 0) (cells 1 16) (cells 1 0)) (Advance 1) 103 0
+    (state (session 4 2 0) (entry 0 8 4 1 ++ entry 1 5 5 1) (cells 4 5) (cells 2 0) (cells 1 16) (cells 1 0))
+    ∷ case (state (session 4 2 0) (entry 0 8 8 1 ++ entry 1 5 6 1) (cells 3 6) (cells 4 2) (cells 4 1) (cells 1 1)) (Advance 1) 105 0
+    (state (session 0 0 0) (entry 0 8 8 1 ++ entry 1 5 6 1) (cells 3 6) (cells 4 0) (cells 4 16) (cells 1 0))
     -- advance, phase 2: claimant, and waiting while anybody else reads, the own bit left aside; next, mark and readers stay
     ∷ case (state (session 2 1 0) (entry 0 8 4 1) (cells 3 5) (cells 6 6) (cells 16 9) (cells 0 1)) (Advance 1) 104 0
     (state (session 2 1 0) (entry 0 8 4 1) (cells 3 5) (cells 6 6) (cells 1 9) (cells 0 1))
@@ -249,6 +267,11 @@ damaged =
     ∷ phased (logged 1 0 (entry 0 8 4 2)) (Begin 1) (100 ∷ 2 ∷ 9 ∷ 9 ∷ 9 ∷ 9 ∷ [])
     ∷ phased (logged 2 0 (entry 0 5 6 0 ++ entry 0 5 6 1)) (Begin 1) (100 ∷ 2 ∷ 9 ∷ 9 ∷ 9 ∷ 9 ∷ [])
     ∷ phased (logged 0 0 (entry 0 8 4 1)) (Begin 1) (100 ∷ 2 ∷ 9 ∷ 9 ∷ 9 ∷ 9 ∷ [])
+    -- or it has the value found; of a cell with two entries the first counts
+    ∷ phased (logged 1 0 (entry 0 8 8 1)) (Begin 1) (100 ∷ 2 ∷ 9 ∷ 9 ∷ 9 ∷ 9 ∷ [])
+    ∷ phased (logged 2 1 (entry 0 8 4 1 ++ entry 1 5 5 1)) (Begin 1) (100 ∷ 2 ∷ 9 ∷ 9 ∷ 9 ∷ 9 ∷ [])
+    ∷ phased (logged 2 0 (entry 0 5 5 1 ++ entry 0 5 6 1)) (Begin 1) (100 ∷ 2 ∷ 9 ∷ 9 ∷ 9 ∷ 9 ∷ [])
+    ∷ phased (logged 2 0 (entry 0 5 6 1 ++ entry 0 5 5 1)) (Begin 1) (100 ∷ 2 ∷ 2 ∷ 2 ∷ 2 ∷ 9 ∷ [])
     ∷ []
 
 -- ---- the part that peek hands back
@@ -271,6 +294,8 @@ parts =
     ∷ peeked (logged 2 0 (entry 0 8 4 6 ++ entry 1 5 6 1) 1) (Peek 1 1) (logWord 134)
     ∷ peeked (logged 2 0 (entry 0 8 4 9 ++ entry 1 5 6 6) 1) (Peek 15 0) (logWord 1922)
     ∷ peeked (logged 2 0 (entry 0 8 4 9 ++ entry 1 5 6 6) 1) (Peek 15 1) (storeWord 1)
+    -- a written one's also where it has the value found, the store's or another
+    ∷ peeked (logged 1 0 (entry 0 3 3 1) 1) (Peek 2 0) (logWord 258) ∷ peeked (logged 1 0 (entry 0 8 8 1) 1) (Peek 1 0) (logWord 130)
     ∷ peeked (logged 1 0 (entry 0 8 4 6 ++ entry 1 5 6 1) 1) (Peek 1 1) noWord
     ∷ peeked (logged 2 0 (entry 0 8 4 6 ++ entry 1 5 6 1) 2) (Peek 1 1) noWord
     ∷ peeked (logged 2 0 (entry 0 8 4 6 ++ entry 1 5 6 1) 1) (Peek 1 2) noWord

@@ -1,5 +1,5 @@
 -- What a plan does (document 01, "The steps"): what it answers, what a peek is shown, and all that is left. What is tested here is only what
--- a change touches: whether a claim is the session's own, whether an entry is written, whether a written cell is left.
+-- a change touches: whether a claim is the session's own, whether a cell publishes, whether one that does is left.
 use Prim.Native.Nat.{ℕ, suc, _+_, _*_}
 use mathlib.Core.Bool.{Bool, true, cond, not}
 use mathlib.Core.List.{List}
@@ -41,20 +41,20 @@ valueOf (Refused k) = 0
 unfoldable pub rolledBack : List ℕ → ℕ → ℕ → Locks → Locks
 rolledBack log m s L = sweep (λ c. true) (withdraw s) (cellAt log) m L
 
--- sealing: the session leaves the readers of each cell entered but not written
+-- sealing: the session leaves the readers of each cell entered that does not publish
 unfoldable pub readsDropped : List ℕ → ℕ → ℕ → Locks → Locks
 readsDropped log m s L = sweep (λ c. not (publishesIn log m c)) (leave s) (cellAt log) m L
 
--- a written cell is left above cell c
+-- a cell that publishes is left above cell c
 unfoldable pub isLeft : List ℕ → ℕ → Session → Bool
 isLeft log c x = some? (targetIn log (x .count) (suc c))
 
--- handling cell c: next is one above it; where no written cell is left there the phase rises and next is 0, and out of phase 4 the session is idle
+-- handling cell c: next is one above it; where no cell that publishes is left there the phase rises and next is 0, and out of phase 4 the session is idle
 unfoldable pub handled : List ℕ → ℕ → Session → Session
 unfolding isLeft
 handled log c x = cond (isLeft log c x) (moveTo (x .phase) (suc c) x) (cond (eqb (x .phase) 4) idle (moveTo (suc (x .phase)) 0 x))
 
--- the answer of phase 4: 103 while a written cell is left, else 105; phases 2 and 3 answer 103
+-- the answer of phase 4: 103 while a cell that publishes is left, else 105; phases 2 and 3 answer 103
 unfoldable pub releaseAnswer : List ℕ → ℕ → Session → Answer
 unfolding isLeft
 releaseAnswer log c x = cond (isLeft log c x) Moved Committed
@@ -133,7 +133,7 @@ planEffect s (EnterUpdate c v) σ =
 -- rolled back, on a conflict or by abandon: at each entry's cell the session is gone, and it is idle; log words stay
 planEffect s RollBack σ = does (Refused 6) (putRecord s idle (onLocks (rolledBack (logOf σ s) (recordOf σ s .count) s) σ))
 planEffect s Cancel σ = does Done (putRecord s idle (onLocks (rolledBack (logOf σ s) (recordOf σ s .count) s) σ))
--- seal: read locks go; with nothing written the session is idle, else it is in phase 2 with next 0; the log stays
+-- seal: the locks of what is merely read go; where nothing publishes the session is idle, else it is in phase 2 with next 0; the log stays
 planEffect s CommitReads σ = does Committed (putRecord s idle (onLocks (readsDropped (logOf σ s) (recordOf σ s .count) s) σ))
 planEffect s BeginPromotion σ =
     does Sealed (putRecord s (moveTo 2 0 (recordOf σ s)) (onLocks (readsDropped (logOf σ s) (recordOf σ s .count) s) σ))

@@ -12,7 +12,7 @@ use Rattle.model.specs.Buffers.{Store}
 use Rattle.model.specs.Search.{tally}
 use Rattle.model.specs.ManyReads.{readMany}
 use Rattle.model.specs.Step.{sessionOf, step, answerOf}
-use Rattle.model.specs.Told.{Told, tells, readsTell, begins, writes, seals, moves, ends, valuePut, ReadOf, readUnless}
+use Rattle.model.specs.Told.{Told, foundBy, tells, readsTell, begins, writes, differs, seals, moves, ends, valuePut, ReadOf, readUnless, andFound}
 
 -- ---- actions, answers, and what they tell
 
@@ -30,25 +30,30 @@ abbrev pub actor : Action → ℕ
 actor (oneCall k) = sessionOf k
 actor (manyReads s cs words) = s
 
--- an action, its answer and, of many reads, whose answer is their last, the values that they obtained
+-- an action and its answer; of many reads, whose answer is their last, the values that they obtained; of a write the value found in its cell, which no answer need show
 pub record Event : Type 0 where
   pub action : Action
   pub answer : Answer
   pub values : List ℕ
+  pub found : ℕ
 
 abbrev pub event : Call → Answer → Event
-event k a = record { action = oneCall k; answer = a; values = [] }
+event k a = record { action = oneCall k; answer = a; values = []; found = 0 }
+
+-- the event with the value found
+abbrev pub withFound : ℕ → Event → Event
+withFound f e = record { action = e .action; answer = e .answer; values = e .values; found = f }
 
 abbrev pub readsEvent : ℕ → List ℕ → ℕ → List ℕ → Answer → Event
-readsEvent s cs words vs a = record { action = manyReads s cs words; answer = a; values = vs }
+readsEvent s cs words vs a = record { action = manyReads s cs words; answer = a; values = vs; found = 0 }
 
 -- what it tells
-abbrev pub actionTells : Action → Answer → List ℕ → List Told
-actionTells (oneCall k) a vs = tells k a
-actionTells (manyReads s cs words) a vs = readsTell cs vs a
+abbrev pub actionTells : Action → Answer → List ℕ → ℕ → List Told
+actionTells (oneCall k) a vs f = tells k a f
+actionTells (manyReads s cs words) a vs f = readsTell cs vs a
 
 abbrev pub tellsOf : Event → List Told
-tellsOf e = actionTells (e .action) (e .answer) (e .values)
+tellsOf e = actionTells (e .action) (e .answer) (e .values) (e .found)
 
 -- what an action leaves, and the event that it is
 abbrev pub leaves : Action → Store → Store
@@ -56,7 +61,7 @@ leaves (oneCall k) σ = step k σ
 leaves (manyReads s cs words) σ = readMany s cs words σ .store
 
 abbrev pub eventOf : Action → Store → Event
-eventOf (oneCall k) σ = event k (answerOf k σ)
+eventOf (oneCall k) σ = withFound (foundBy k (step k σ)) (event k (answerOf k σ))
 eventOf (manyReads s cs words) σ = readsEvent s cs words (readMany s cs words σ .values) (readMany s cs words σ .last)
 
 -- the store that a list of actions leaves, and its events: each action gets what the one before left
@@ -118,11 +123,17 @@ abbrev pub isOpen : List Item → Bool
 isOpen [] = false
 isOpen (i ∷ t) = not (ends (i .told))
 
--- ---- Wrote: a cell for which one of its writes answered 100; the last such write gives its value there
+-- ---- Wrote: a cell for which one of its writes answered 100, where the last such write's value is not the one found (document 02, Paper 2); that write gives
+-- its value there
+
+-- one of its writes to the cell answered 100, of whatever value
+unfoldable pub dirtied : List Item → ℕ → Bool
+dirtied [] c = false
+dirtied (i ∷ t) c = writes (i .told) c || dirtied t c
 
 unfoldable pub wrote : List Item → ℕ → Bool
 wrote [] c = false
-wrote (i ∷ t) c = writes (i .told) c || wrote t c
+wrote (i ∷ t) c = cond (writes (i .told) c) (differs (i .told)) (wrote t c)
 
 unfoldable pub valueWritten : List Item → ℕ → ℕ
 valueWritten [] c = 0
@@ -136,7 +147,13 @@ cellsWritten n t = tally (wrote t) n
 
 unfoldable pub readsBeforeWriting : List Item → List ReadOf
 readsBeforeWriting [] = []
-readsBeforeWriting (i ∷ t) = readUnless (wrote t) (i .told) (readsBeforeWriting t)
+readsBeforeWriting (i ∷ t) = readUnless (dirtied t) (i .told) (readsBeforeWriting t)
+
+-- ---- Found: the value found in the cell at each of its writes answered 100
+
+unfoldable pub valuesFound : List Item → List ReadOf
+valuesFound [] = []
+valuesFound (i ∷ t) = andFound (i .told) (valuesFound t)
 
 -- ---- Snapshot: the place of its seal answered 102 or 105; 0 where there is none
 

@@ -1,5 +1,5 @@
 -- Demand 3, the claim: the committed transactions of a list of actions have snapshot and commit places such that each read before writing is the last commit's
--- before the snapshot, or the starting value, and writers of one cell have spans that do not meet; a commit is the call with which all writer locks are held. And the same of code.
+-- before the snapshot, or the starting value, and so is each value found at a write, and writers of one cell have spans that do not meet; a commit is the call with which all writer locks are held. And the same of code.
 use Prim.Native.Nat.{ℕ, suc, _≤_, _<_}
 use mathlib.Core.Path.{_≡_}
 use mathlib.Core.Logic.{_⊎_}
@@ -10,10 +10,10 @@ use lib.ListN.{length}
 use Rattle.model.specs.declared.Call.{Call}
 use Rattle.model.specs.declared.Answer.{Answer}
 use Rattle.model.specs.Buffers.{Store, lockAt}
-use Rattle.model.specs.History.{Action, oneCall, manyReads, Event, event, readsEvent, run, events, Item, told, history, Name, transaction, isOpen, wrote, valueWritten, cellsWritten, readsBeforeWriting, snapshot, commit, committed, startingValue}
+use Rattle.model.specs.History.{Action, oneCall, manyReads, Event, event, withFound, readsEvent, run, events, Item, told, history, Name, transaction, isOpen, wrote, valueWritten, cellsWritten, readsBeforeWriting, valuesFound, snapshot, commit, committed, startingValue}
 use Rattle.model.specs.ManyReads.{Reads, readMany}
 use Rattle.model.specs.Step.{outcome, effect}
-use Rattle.model.specs.Told.{Told, seals, moves, ReadOf}
+use Rattle.model.specs.Told.{Told, foundBy, seals, moves, ReadOf}
 
 abbrev pub All {ℓ} : {A : Type ℓ} → (A → Type 0) → List A → Type 0
 All P [] = Unit
@@ -60,6 +60,8 @@ module _ (first : List ℕ) (h : List Item) where
     pub commits : (x : Name) → Commits x → ToldAt x (commitOf x) (λ w. cond (eqb (cellsWritten (length first) (at x)) 0) (seals w) (moves w))
     -- each read before writing is the last commit's before the snapshot
     pub reads : (x : Name) → Commits x → All (λ (r : ReadOf). Last (r .cell) (snapshotOf x) (r .value)) (readsBeforeWriting (at x))
+    -- and so is each value found at a write: what is written back is what the last commit left
+    pub finds : (x : Name) → Commits x → All (λ (r : ReadOf). Last (r .cell) (snapshotOf x) (r .value)) (valuesFound (at x))
     -- two writers of one cell have spans, from snapshot to commit, that do not meet
     pub apart : (x y : Name) (c : ℕ) → (x ≡ y → ⊥) → Commits x → Commits y → wrote (at x) c ≡ true → wrote (at y) c ≡ true
         → (commitOf x < snapshotOf y) ⊎ (commitOf y < snapshotOf x)
@@ -112,7 +114,7 @@ pub record Demand3 (start : List Item) (σ : Store) (actions : List Action) : Ty
 pub data Ran (σ : Store) : List Action → List Event → Store → Type 0 where
   none : Ran σ [] [] σ
   then : {ks : List Action} {h : List Event} {x : Store} → Ran σ ks h x → (k : Call) (a : Answer) (y : Store) → outcome a y ≡ effect k x
-      → Ran σ (oneCall k ∷ ks) (event k a ∷ h) y
+      → Ran σ (oneCall k ∷ ks) (withFound (foundBy k y) (event k a) ∷ h) y
   thenMany : {ks : List Action} {h : List Event} {x : Store} → Ran σ ks h x → (s : ℕ) (cs : List ℕ) (words : ℕ) (r : Reads) → r ≡ readMany s cs words x
       → Ran σ (manyReads s cs words ∷ ks) (readsEvent s cs words (r .values) (r .last) ∷ h) (r .store)
 

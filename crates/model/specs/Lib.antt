@@ -12,6 +12,7 @@ pub mod Isolation
 pub mod SingleReads
 pub mod Caps
 pub mod Serial
+pub mod InTheWay
 pub mod Orders
 pub mod Rounds
 pub mod Cases

@@ -159,3 +159,50 @@ halfPublished =
 
 unfoldable pub traps : List Row
 traps = unpromoted ∷ halfPublished ∷ []
+
+-- ---- orders with values written back (document 02, Paper 2), on the cells of the listing
+
+abbrev pub twoCells : List Call → List Answer → List ℕ → Row
+twoCells calls answers ends = record { values = 3 ∷ 5 ∷ []; classes = 2 ∷ 2 ∷ []; calls = calls; answers = answers; ends = ends }
+
+-- two kiosks read a value and write it back: both commit with their seals
+unfoldable pub bothBack : Row
+bothBack =
+    twoCells (Begin 0 ∷ Begin 1 ∷ Read 0 0 ∷ Read 1 0 ∷ Write 0 0 3 ∷ Write 1 0 3 ∷ Seal 0 ∷ Seal 1 ∷ [])
+    (Done ∷ Done ∷ Value 3 ∷ Value 3 ∷ Done ∷ Done ∷ Committed ∷ Committed ∷ []) (3 ∷ 5 ∷ [])
+
+-- another value and then the one found: not written; the one found and then another: written
+unfoldable pub thereAndBack : Row
+thereAndBack = twoCells (Begin 0 ∷ Write 0 0 4 ∷ Write 0 0 3 ∷ Read 0 0 ∷ Seal 0 ∷ []) (Done ∷ Done ∷ Done ∷ Value 3 ∷ Committed ∷ []) (3 ∷ 5 ∷ [])
+
+unfoldable pub backAndThere : Row
+backAndThere =
+    twoCells (Begin 0 ∷ Write 0 0 3 ∷ Write 0 0 4 ∷ Seal 0 ∷ Advance 0 ∷ Advance 0 ∷ Advance 0 ∷ [])
+    (Done ∷ Done ∷ Done ∷ Sealed ∷ Moved ∷ Moved ∷ Committed ∷ []) (4 ∷ 5 ∷ [])
+
+-- of two cells with a write one is changed: three advances end it, and not six, though another session reads the cell that is written back
+unfoldable pub oneChanged : Row
+oneChanged =
+    twoCells (Begin 1 ∷ Read 1 0 ∷ Begin 0 ∷ Write 0 0 3 ∷ Write 0 1 6 ∷ Seal 0 ∷ Advance 0 ∷ Advance 0 ∷ Advance 0 ∷ [])
+    (Done ∷ Value 3 ∷ Done ∷ Done ∷ Done ∷ Sealed ∷ Moved ∷ Moved ∷ Committed ∷ []) (3 ∷ 6 ∷ [])
+
+-- between the seal and the commit of a session another changes the cell that it wrote back: their spans meet, and nobody waits
+unfoldable pub changedMeanwhile : Row
+changedMeanwhile =
+    twoCells (Begin 0 ∷ Begin 1 ∷ Write 0 0 3 ∷ Write 0 1 6 ∷ Write 1 0 4 ∷ Seal 0 ∷ Seal 1 ∷ Advance 1 ∷ Advance 0 ∷ Advance 1 ∷ Advance 1 ∷ Advance 0 ∷ Advance 0 ∷ [])
+    (Done ∷ Done ∷ Done ∷ Done ∷ Done ∷ Sealed ∷ Sealed ∷ Moved ∷ Moved ∷ Moved ∷ Committed ∷ Moved ∷ Committed ∷ []) (4 ∷ 6 ∷ [])
+
+-- until its seal the session reads the cell, and others wait for it
+unfoldable pub backUnsealed : Row
+backUnsealed =
+    twoCells (Begin 0 ∷ Begin 1 ∷ Write 0 0 3 ∷ Write 1 0 4 ∷ Seal 1 ∷ Advance 1 ∷ Seal 0 ∷ Advance 1 ∷ [])
+    (Done ∷ Done ∷ Done ∷ Done ∷ Sealed ∷ Waiting ∷ Committed ∷ Moved ∷ []) (3 ∷ 5 ∷ [])
+
+-- the value found is the one that the last commit left, not the starting one
+unfoldable pub foundLater : Row
+foundLater =
+    twoCells (Begin 0 ∷ Write 0 0 4 ∷ Seal 0 ∷ Advance 0 ∷ Advance 0 ∷ Advance 0 ∷ Begin 0 ∷ Write 0 0 4 ∷ Seal 0 ∷ Begin 0 ∷ Write 0 0 3 ∷ Seal 0 ∷ [])
+    (Done ∷ Done ∷ Sealed ∷ Moved ∷ Moved ∷ Committed ∷ Done ∷ Done ∷ Committed ∷ Done ∷ Done ∷ Sealed ∷ []) (4 ∷ 5 ∷ [])
+
+unfoldable pub writtenBack : List Row
+writtenBack = bothBack ∷ thereAndBack ∷ backAndThere ∷ oneChanged ∷ changedMeanwhile ∷ backUnsealed ∷ foundLater ∷ []

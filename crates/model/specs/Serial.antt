@@ -20,11 +20,11 @@ pub record Serial : Type 0 where
   pub values : List ℕ
   pub draft : List ℕ
 
--- a begin copies the values to the draft; a write changes the draft
+-- a begin copies the values to the draft; a write changes the draft, whether or not its value is the one found
 abbrev pub drafted : Told → Serial → Serial
 drafted began z = record { values = z .values; draft = z .values }
 drafted (got c v) z = z
-drafted (put c v) z = record { values = z .values; draft = set (z .draft) c v }
+drafted (put c v f) z = record { values = z .values; draft = set (z .draft) c v }
 drafted sealed z = z
 drafted moved z = z
 drafted ended z = z

@@ -9,26 +9,27 @@ use Rattle.model.specs.declared.Call.the-variants.{Begin, Read, Write, S
 use Rattle.model.specs.declared.Answer.{Answer}
 use Rattle.model.specs.declared.Answer.the-variants.{Done, Value, Sealed, Moved, Waiting, Committed, Refused}
 use Rattle.model.specs.Buffers.{Store, idle}
-use Rattle.model.specs.History.{Event, event, readsEvent, Item, item, told, Name, name, transaction, isOpen, wrote, valueWritten, readsBeforeWriting, snapshot, commit, committed}
+use Rattle.model.specs.History.{Event, event, withFound, readsEvent, Item, item, told, Name, name, transaction, isOpen, wrote, valueWritten, readsBeforeWriting, valuesFound, snapshot, commit, committed}
 use Rattle.model.specs.Serial.{Serial, serial}
 use Rattle.model.specs.Told.{Told, began, got, put, sealed, moved, ended, ReadOf}
 
--- ---- what a call with its answer tells
+-- ---- what a call with its answer tells, where 6 is the value found: a write alone tells it
 
 pub record Telling : Type 0 where
   pub call : Call
   pub answer : Answer
+  pub found : ℕ
   pub told : List Told
 
 abbrev telling : Call → Answer → List Told → Telling
-telling k a ws = record { call = k; answer = a; told = ws }
+telling k a ws = record { call = k; answer = a; found = 6; told = ws }
 
 unfoldable pub tellings : List Telling
 tellings =
     telling (Begin 1) Done (began ∷ []) ∷ telling (Begin 1) (Refused 2) [] ∷ telling (Begin 1) (Refused 6) (ended ∷ [])
     ∷ telling (Read 1 2) (Value 7) (got 2 7 ∷ []) ∷ telling (Read 1 2) (Refused 3) [] ∷ telling (Read 1 2) (Refused 6) (ended ∷ [])
     ∷ telling (Read 1 2) Done [] ∷ telling (Read 1 2) Committed (ended ∷ [])
-    ∷ telling (Write 1 2 7) Done (put 2 7 ∷ []) ∷ telling (Write 1 2 7) (Refused 4) [] ∷ telling (Write 1 2 7) (Refused 6) (ended ∷ [])
+    ∷ telling (Write 1 2 7) Done (put 2 7 6 ∷ []) ∷ telling (Write 1 2 7) (Refused 4) [] ∷ telling (Write 1 2 7) (Refused 6) (ended ∷ [])
     -- the newest first: the end, and before it the seal
     ∷ telling (Seal 1) Sealed (sealed ∷ []) ∷ telling (Seal 1) Committed (ended ∷ sealed ∷ []) ∷ telling (Seal 1) (Refused 2) []
     ∷ telling (Seal 1) (Refused 6) (ended ∷ [])
@@ -102,16 +103,16 @@ wordOf r =
 
 -- two sessions, of which the second commits; and one session's two transactions
 abbrev both : List Event
-both = event (Begin 0) Done ∷ event (Begin 1) Done ∷ event (Write 1 0 4) Done ∷ event (Seal 1) Sealed ∷ event (Advance 1) Moved ∷ []
+both = event (Begin 0) Done ∷ event (Begin 1) Done ∷ withFound 3 (event (Write 1 0 4) Done) ∷ event (Seal 1) Sealed ∷ event (Advance 1) Moved ∷ []
 
 abbrev again : List Event
-again = event (Begin 0) Done ∷ event (Write 0 0 4) Done ∷ event (Abandon 0) Done ∷ event (Begin 0) Done ∷ event (Write 0 1 2) Done ∷ []
+again = event (Begin 0) Done ∷ withFound 3 (event (Write 0 0 4) Done) ∷ event (Abandon 0) Done ∷ event (Begin 0) Done ∷ withFound 5 (event (Write 0 1 2) Done) ∷ []
 
 -- two transactions open where the list starts, and what they do later
 abbrev atStart : Name → Word → Row
 atStart x w =
     record {
-      start = item 0 0 began ∷ item 0 0 (put 0 4) ∷ item 0 1 began ∷ item 0 1 (got 1 5) ∷ [];
+      start = item 0 0 began ∷ item 0 0 (put 0 4 3) ∷ item 0 1 began ∷ item 0 1 (got 1 5) ∷ [];
       events = event (Seal 1) Committed ∷ event (Seal 0) Sealed ∷ event (Advance 0) Moved ∷ [];
       name = x;
       word = w;
@@ -120,48 +121,77 @@ atStart x w =
 unfoldable pub rows : List Row
 rows =
     -- an answer 6 ends it: what the session does later is another's
-    row (event (Begin 0) Done ∷ event (Read 0 0) (Refused 6) ∷ event (Write 0 1 4) Done ∷ []) (name 1 0) nothing
+    row (event (Begin 0) Done ∷ event (Read 0 0) (Refused 6) ∷ withFound 5 (event (Write 0 1 4) Done) ∷ []) (name 1 0) nothing
     -- so does an answer 105
-    ∷ row (event (Begin 0) Done ∷ event (Seal 0) Committed ∷ event (Write 0 1 4) Done ∷ []) (name 1 0) (word false false false 0 0 [] 2 2 true)
+    ∷ row (event (Begin 0) Done ∷ event (Seal 0) Committed ∷ withFound 5 (event (Write 0 1 4) Done) ∷ []) (name 1 0) (word false false false 0 0 [] 2 2 true)
     -- an abandon answered 100 ends it; one that is refused does not
-    ∷ row (event (Begin 0) Done ∷ event (Abandon 0) Done ∷ event (Write 0 1 4) Done ∷ []) (name 1 0) nothing
-    ∷ row (event (Begin 0) Done ∷ event (Abandon 0) (Refused 2) ∷ event (Write 0 1 4) Done ∷ []) (name 1 0) (word true false true 0 4 [] 0 0 false)
+    ∷ row (event (Begin 0) Done ∷ event (Abandon 0) Done ∷ withFound 5 (event (Write 0 1 4) Done) ∷ []) (name 1 0) nothing
+    ∷ row (event (Begin 0) Done ∷ event (Abandon 0) (Refused 2) ∷ withFound 5 (event (Write 0 1 4) Done) ∷ []) (name 1 0) (word true false true 0 4 [] 0 0 false)
     -- the last write answered 100 gives the value, a refused one does not count; a read after an own write is none of the snapshot's
-    ∷ row (event (Begin 0) Done ∷ event (Read 0 0) (Value 3) ∷ event (Write 0 0 4) Done ∷ event (Write 0 0 6) Done ∷ event (Write 0 0 9) (Refused 4)
+    ∷ row (event (Begin 0) Done ∷ event (Read 0 0) (Value 3) ∷ withFound 3 (event (Write 0 0 4) Done) ∷ withFound 3 (event (Write 0 0 6) Done) ∷ event (Write 0 0 9) (Refused 4)
     ∷ event (Write 0 1 9) (Refused 4) ∷ event (Read 0 0) (Value 6) ∷ event (Read 0 1) (Refused 3) ∷ []) (name 1 0) (word true true false 6 0 (read 0 3 ∷ []) 0 0 false)
     -- each read counts, also after a write to another cell; a peek does not
-    ∷ row (event (Begin 0) Done ∷ event (Read 0 1) (Value 5) ∷ event (Write 0 0 4) Done ∷ event (Peek 0 1) Done ∷ event (Read 0 1) (Value 7) ∷ []) (name 1 0)
+    ∷ row (event (Begin 0) Done ∷ event (Read 0 1) (Value 5) ∷ withFound 3 (event (Write 0 0 4) Done) ∷ event (Peek 0 1) Done ∷ event (Read 0 1) (Value 7) ∷ []) (name 1 0)
     (word true true false 4 0 (read 1 7 ∷ read 1 5 ∷ []) 0 0 false)
     -- the values of many reads are reads before writing, and have one place: the seal after them is at place 3
     ∷ row (event (Begin 0) Done ∷ readsEvent 0 (0 ∷ 1 ∷ []) 2 (3 ∷ 5 ∷ []) (Value 5) ∷ event (Seal 0) Committed ∷ []) (name 1 0)
     (word false false false 0 0 (read 1 5 ∷ read 0 3 ∷ []) 3 3 true)
     -- but not that of a cell that it wrote
-    ∷ row (event (Begin 0) Done ∷ event (Write 0 0 4) Done ∷ readsEvent 0 (0 ∷ 1 ∷ 0 ∷ []) 3 (4 ∷ 5 ∷ 4 ∷ []) (Value 4) ∷ []) (name 1 0)
+    ∷ row (event (Begin 0) Done ∷ withFound 3 (event (Write 0 0 4) Done) ∷ readsEvent 0 (0 ∷ 1 ∷ 0 ∷ []) 3 (4 ∷ 5 ∷ 4 ∷ []) (Value 4) ∷ []) (name 1 0)
     (word true true false 4 0 (read 1 5 ∷ []) 0 0 false)
     -- an answer 6 to them ends it, after the values that were obtained; 3 does not, nor do another session's reads
-    ∷ row (event (Begin 0) Done ∷ readsEvent 0 (0 ∷ 1 ∷ []) 2 (3 ∷ []) (Refused 6) ∷ event (Write 0 1 4) Done ∷ []) (name 1 0) (word false false false 0 0 (read 0 3 ∷ []) 0 0 false)
-    ∷ row (event (Begin 0) Done ∷ readsEvent 0 (0 ∷ 2 ∷ []) 2 (3 ∷ []) (Refused 3) ∷ event (Write 0 1 4) Done ∷ readsEvent 1 (0 ∷ 1 ∷ []) 2 (7 ∷ []) (Refused 6) ∷ []) (name 1 0)
+    ∷ row (event (Begin 0) Done ∷ readsEvent 0 (0 ∷ 1 ∷ []) 2 (3 ∷ []) (Refused 6) ∷ withFound 5 (event (Write 0 1 4) Done) ∷ []) (name 1 0) (word false false false 0 0 (read 0 3 ∷ []) 0 0 false)
+    ∷ row (event (Begin 0) Done ∷ readsEvent 0 (0 ∷ 2 ∷ []) 2 (3 ∷ []) (Refused 3) ∷ withFound 5 (event (Write 0 1 4) Done) ∷ readsEvent 1 (0 ∷ 1 ∷ []) 2 (7 ∷ []) (Refused 6) ∷ []) (name 1 0)
     (word true false true 0 4 (read 0 3 ∷ []) 0 0 false)
     -- 104 does not count towards the commit, nor does an answer 103 after it change it; another session's calls are not its own
-    ∷ row (event (Begin 0) Done ∷ event (Begin 1) Done ∷ event (Write 0 0 4) Done ∷ event (Write 1 1 2) Done ∷ event (Write 0 1 5) Done ∷ event (Seal 0) Sealed
+    ∷ row (event (Begin 0) Done ∷ event (Begin 1) Done ∷ withFound 3 (event (Write 0 0 4) Done) ∷ withFound 5 (event (Write 1 1 2) Done) ∷ withFound 5 (event (Write 0 1 6) Done) ∷ event (Seal 0) Sealed
     ∷ event (Advance 0) Waiting ∷ event (Advance 0) Moved ∷ event (Advance 1) Moved ∷ event (Advance 0) Moved ∷ event (Advance 0) Moved ∷ []) (name 1 0)
-    (word true true true 4 5 [] 6 10 true)
+    (word true true true 4 6 [] 6 10 true)
     -- cells are counted, not writes
-    ∷ row (event (Begin 0) Done ∷ event (Write 0 0 4) Done ∷ event (Write 0 0 6) Done ∷ event (Seal 0) Sealed ∷ event (Advance 0) Moved ∷ []) (name 1 0)
+    ∷ row (event (Begin 0) Done ∷ withFound 3 (event (Write 0 0 4) Done) ∷ withFound 3 (event (Write 0 0 6) Done) ∷ event (Seal 0) Sealed ∷ event (Advance 0) Moved ∷ []) (name 1 0)
     (word true true false 6 0 [] 4 5 true)
+    -- a cell written back is not written: where there is no other the commit is the seal; a read after the own write is none of the snapshot's all the same
+    ∷ row (event (Begin 0) Done ∷ event (Read 0 0) (Value 3) ∷ withFound 3 (event (Write 0 0 3) Done) ∷ event (Read 0 0) (Value 3) ∷ event (Seal 0) Committed ∷ []) (name 1 0)
+    (word false false false 3 0 (read 0 3 ∷ []) 5 5 true)
+    -- the last write counts: another value and then the one found is not written, the one found and then another is
+    ∷ row (event (Begin 0) Done ∷ withFound 3 (event (Write 0 0 4) Done) ∷ withFound 3 (event (Write 0 0 3) Done) ∷ event (Seal 0) Committed ∷ []) (name 1 0)
+    (word false false false 3 0 [] 4 4 true)
+    ∷ row (event (Begin 0) Done ∷ withFound 3 (event (Write 0 0 3) Done) ∷ withFound 3 (event (Write 0 0 4) Done) ∷ event (Seal 0) Sealed ∷ event (Advance 0) Moved ∷ []) (name 1 0)
+    (word true true false 4 0 [] 4 5 true)
+    -- of two cells with a write one is changed: the first answer 103 makes the commit
+    ∷ row (event (Begin 0) Done ∷ withFound 3 (event (Write 0 0 3) Done) ∷ withFound 5 (event (Write 0 1 6) Done) ∷ event (Seal 0) Sealed ∷ event (Advance 0) Moved ∷ event (Advance 0) Moved ∷ [])
+    (name 1 0) (word true false true 3 6 [] 4 5 true)
     -- sealed, and not committed
-    ∷ row (event (Begin 0) Done ∷ event (Write 0 1 4) Done ∷ event (Seal 0) (Refused 9) ∷ event (Seal 0) Sealed ∷ event (Advance 0) Waiting ∷ []) (name 1 0)
+    ∷ row (event (Begin 0) Done ∷ withFound 5 (event (Write 0 1 4) Done) ∷ event (Seal 0) (Refused 9) ∷ event (Seal 0) Sealed ∷ event (Advance 0) Waiting ∷ []) (name 1 0)
     (word true false true 0 4 [] 4 0 false)
     -- nothing written: the commit is the seal
     ∷ row (event (Begin 0) Done ∷ event (Read 0 1) (Value 5) ∷ event (Seal 0) Committed ∷ []) (name 1 0) (word false false false 0 0 (read 1 5 ∷ []) 3 3 true)
     -- a refused begin begins none
-    ∷ row (event (Begin 0) (Refused 2) ∷ event (Write 0 0 4) Done ∷ []) (name 1 0) nothing
+    ∷ row (event (Begin 0) (Refused 2) ∷ withFound 3 (event (Write 0 0 4) Done) ∷ []) (name 1 0) nothing
     -- a name is the place of a begin and its session
     ∷ row both (name 2 1) (word true true false 4 0 [] 4 5 true) ∷ row both (name 1 0) (word true false false 0 0 [] 0 0 false)
     ∷ row both (name 1 1) nothing ∷ row both (name 2 0) nothing ∷ row both (name 3 1) nothing
     ∷ row again (name 1 0) (word false true false 4 0 [] 0 0 false) ∷ row again (name 4 0) (word true false true 0 2 [] 0 0 false)
     -- two of one place, the start's
     ∷ atStart (name 0 0) (word true true false 4 0 [] 2 3 true) ∷ atStart (name 0 1) (word false false false 0 0 (read 1 5 ∷ []) 1 1 true) ∷ atStart (name 0 2) nothing
+    ∷ []
+
+-- the values found: of each write answered 100, the newest first; of a refused one and of a read none
+pub record FoundRow : Type 0 where
+  pub events : List Event
+  pub found : List ReadOf
+
+abbrev foundRow : List Event → List ReadOf → FoundRow
+foundRow h rs = record { events = h; found = rs }
+
+unfoldable pub foundOfRow : FoundRow → List ReadOf
+foundOfRow r = valuesFound (transaction (name 1 0) (told [] (reverse (r .events))))
+
+unfoldable pub foundRows : List FoundRow
+foundRows =
+    foundRow (event (Begin 0) Done ∷ event (Read 0 0) (Value 3) ∷ withFound 3 (event (Write 0 0 4) Done) ∷ withFound 5 (event (Write 0 1 5) Done) ∷ withFound 3 (event (Write 0 0 6) Done) ∷ [])
+    (read 0 3 ∷ read 1 5 ∷ read 0 3 ∷ [])
+    ∷ foundRow (event (Begin 0) Done ∷ withFound 3 (event (Write 0 0 9) (Refused 4)) ∷ withFound 3 (event (Write 1 0 4) Done) ∷ []) []
     ∷ []
 
 -- ---- the serial store
@@ -180,19 +210,21 @@ serialOf r = serial (3 ∷ 5 ∷ []) (reverse (r .events))
 unfoldable pub serialRows : List SerialRow
 serialRows =
     -- a write is in the draft
-    serialRow (event (Begin 0) Done ∷ event (Write 0 1 4) Done ∷ event (Write 0 0 9) (Refused 4) ∷ event (Seal 0) Sealed ∷ event (Advance 0) Moved ∷ [])
+    serialRow (event (Begin 0) Done ∷ withFound 5 (event (Write 0 1 4) Done) ∷ event (Write 0 0 9) (Refused 4) ∷ event (Seal 0) Sealed ∷ event (Advance 0) Moved ∷ [])
     (3 ∷ 5 ∷ []) (3 ∷ 4 ∷ [])
     -- and in the values with the answer 105, not with 103
-    ∷ serialRow (event (Begin 0) Done ∷ event (Write 0 1 4) Done ∷ event (Seal 0) Sealed ∷ event (Advance 0) Moved ∷ event (Advance 0) Moved
+    ∷ serialRow (event (Begin 0) Done ∷ withFound 5 (event (Write 0 1 4) Done) ∷ event (Seal 0) Sealed ∷ event (Advance 0) Moved ∷ event (Advance 0) Moved
     ∷ event (Advance 0) Committed ∷ []) (3 ∷ 4 ∷ []) (3 ∷ 4 ∷ [])
     -- all its writes are
-    ∷ serialRow (event (Begin 0) Done ∷ event (Write 0 1 4) Done ∷ event (Write 0 0 6) Done ∷ []) (3 ∷ 5 ∷ []) (6 ∷ 4 ∷ [])
+    ∷ serialRow (event (Begin 0) Done ∷ withFound 5 (event (Write 0 1 4) Done) ∷ withFound 3 (event (Write 0 0 6) Done) ∷ []) (3 ∷ 5 ∷ []) (6 ∷ 4 ∷ [])
     -- an abandoned draft is gone with the next begin
-    ∷ serialRow (event (Begin 0) Done ∷ event (Write 0 1 4) Done ∷ event (Abandon 0) Done ∷ event (Begin 1) Done ∷ event (Read 1 1) (Value 5)
+    ∷ serialRow (event (Begin 0) Done ∷ withFound 5 (event (Write 0 1 4) Done) ∷ event (Abandon 0) Done ∷ event (Begin 1) Done ∷ event (Read 1 1) (Value 5)
     ∷ event (Seal 1) Committed ∷ []) (3 ∷ 5 ∷ []) (3 ∷ 5 ∷ [])
+    -- a value written back is in the draft, and the values are what they were
+    ∷ serialRow (event (Begin 0) Done ∷ withFound 5 (event (Write 0 1 4) Done) ∷ withFound 5 (event (Write 0 1 5) Done) ∷ event (Seal 0) Committed ∷ []) (3 ∷ 5 ∷ []) (3 ∷ 5 ∷ [])
     -- many reads leave both as they are, also those that a conflict stops
-    ∷ serialRow (event (Begin 0) Done ∷ event (Write 0 1 4) Done ∷ readsEvent 0 (1 ∷ 0 ∷ []) 2 (4 ∷ 3 ∷ []) (Value 3) ∷ []) (3 ∷ 5 ∷ []) (3 ∷ 4 ∷ [])
-    ∷ serialRow (event (Begin 0) Done ∷ event (Write 0 1 4) Done ∷ readsEvent 0 (1 ∷ 0 ∷ []) 2 (4 ∷ []) (Refused 6) ∷ []) (3 ∷ 5 ∷ []) (3 ∷ 4 ∷ [])
+    ∷ serialRow (event (Begin 0) Done ∷ withFound 5 (event (Write 0 1 4) Done) ∷ readsEvent 0 (1 ∷ 0 ∷ []) 2 (4 ∷ 3 ∷ []) (Value 3) ∷ []) (3 ∷ 5 ∷ []) (3 ∷ 4 ∷ [])
+    ∷ serialRow (event (Begin 0) Done ∷ withFound 5 (event (Write 0 1 4) Done) ∷ readsEvent 0 (1 ∷ 0 ∷ []) 2 (4 ∷ []) (Refused 6) ∷ []) (3 ∷ 5 ∷ []) (3 ∷ 4 ∷ [])
     ∷ []
 
 -- ---- histories and stores that a claim holds of, or does not
@@ -201,7 +233,7 @@ serialRows =
 unfoldable pub wroteThenRead : List Event
 wroteThenRead =
     reverse
-    (event (Begin 0) Done ∷ event (Write 0 1 4) Done ∷ event (Seal 0) Sealed ∷ event (Advance 0) Moved ∷ event (Begin 1) Done ∷ event (Read 1 1) (Value 4)
+    (event (Begin 0) Done ∷ withFound 5 (event (Write 0 1 4) Done) ∷ event (Seal 0) Sealed ∷ event (Advance 0) Moved ∷ event (Begin 1) Done ∷ event (Read 1 1) (Value 4)
     ∷ event (Seal 1) Committed ∷ [])
 
 -- the first reader gets the starting value of cell 1
@@ -223,7 +255,7 @@ midway phase value claimant mark =
 
 -- what its transaction has told where it runs and has read a value, and where it is sealed
 unfoldable pub toldRunning : ℕ → List Item
-toldRunning v = reverse (item 0 1 began ∷ item 0 1 (got 0 v) ∷ item 0 1 (put 0 4) ∷ [])
+toldRunning v = reverse (item 0 1 began ∷ item 0 1 (got 0 v) ∷ item 0 1 (put 0 4 3) ∷ [])
 
 unfoldable pub toldSealed : List Item
-toldSealed = reverse (item 0 1 began ∷ item 0 1 (put 0 4) ∷ item 0 1 sealed ∷ [])
+toldSealed = reverse (item 0 1 began ∷ item 0 1 (put 0 4 3) ∷ item 0 1 sealed ∷ [])

@@ -137,7 +137,7 @@ pub enum Change {
     Vacate(u32),
     // rolling back: from each entry's cell
     Withdraw,
-    // sealing: from the cells not written
+    // sealing: from the cells that do not publish
     DropReads,
 }
 
@@ -214,7 +214,7 @@ impl Session {
         }
     }
 
-    // Sealed with a cell written: promotion begins.
+    // Sealed with a cell that publishes: promotion begins.
     pub fn sealed(self) -> Session
         ensures { λ r. ⌜ r ≡ moveTo 2 0 self ⌝ }
     {

@@ -1,5 +1,5 @@
--- The claim judges: a lost update, a dirty read, a broken snapshot, a read ahead and a stale value among many reads do not meet it; write skew does. Each is
--- computed; what is accepted is the theorem's.
+-- The claim judges: a lost update, a dirty read, a broken snapshot, a read ahead, a stale value among many reads and a false value found do not meet it; write skew
+-- does, and so does a cell written back while another changes it. Each is computed; what is accepted is the theorem's.
 use Prim.Native.Nat.{_<_}
 use native.Mathlib.Omega.{arith}
 use mathlib.Core.Path.{_≡_, refl, ap, subst}
@@ -9,11 +9,11 @@ use mathlib.Core.List.{List, [], _∷_, _++_, reverse}
 use lib.Dec.{leb, eqb}
 use borrow.Author.Tests.{le-leb}
 use Rattle.model.specs.declared.Call.the-variants.{Begin, Write, Seal, Advance}
-use Rattle.model.specs.Anomalies.{lostUpdate, dirtyRead, brokenSnapshot, readAhead, readTogether}
+use Rattle.model.specs.Anomalies.{lostUpdate, dirtyRead, brokenSnapshot, readAhead, readTogether, foundAs}
 use Rattle.model.specs.Computing.{computing, counting}
-use Rattle.model.specs.History.{Action, oneCall, manyReads, asActions, Event, events, Item, told, history, Name, name, transaction, isOpen, wrote, valueWritten, snapshot, commit, committed}
+use Rattle.model.specs.History.{Action, oneCall, manyReads, asActions, Event, events, Item, told, history, Name, name, transaction, isOpen, wrote, valueWritten, dirtied, snapshot, commit, committed}
 use Rattle.model.specs.Isolation.{Last, lastCommit, noCommit, Isolated}
-use Rattle.model.specs.Orders.{given, skew, skewUnsealed}
+use Rattle.model.specs.Orders.{given, skew, skewUnsealed, changedMeanwhile}
 use Rattle.model.specs.Step.{setUp}
 use Rattle.model.proofs.Demand3.{demand3}
 use Rattle.model.proofs.Names.{committed-in}
@@ -101,6 +101,38 @@ answers-together = refl
 pub together-accepted : Isolated (3 ∷ 5 ∷ []) (told [] (readTogether 6))
 together-accepted =
     subst (λ (h : List Event). Isolated (3 ∷ 5 ∷ []) (told [] h)) answers-together (unfold skew given computing in demand3 (given skew) refl inOneCall .isolated)
+
+-- ---- values written back
+
+-- 4 is not what the store had; with 3 found the cell is written, and its commit is no seal
+pub found-another-refused : Isolated (3 ∷ 5 ∷ []) (told [] (foundAs 4)) → ⊥
+unfolding foundAs counting
+found-another-refused i = go (i .finds (name 1 0) refl .0)
+  where
+    free : Name → Bool
+    free x = not (committed 2 (transaction x (told [] (foundAs 4))) && wrote (transaction x (told [] (foundAs 4))) 0)
+
+    go : Last (3 ∷ 5 ∷ []) (told [] (foundAs 4)) 0 3 4 → ⊥
+    go (noCommit _ e) = omega arith
+    go (lastCommit x c _ _) = clash (free x) (committed-in 2 free (told [] (foundAs 4)) refl x (c .commits)) (rw (c .commits, c .wrote))
+
+pub unpublished-uncommitted : committed 2 (transaction (name 1 0) (told [] (foundAs 3))) ≡ false
+unfolding foundAs counting
+unpublished-uncommitted = refl
+
+-- a session writes a cell back and another changes it, with spans that meet: both commit, only the other wrote the cell, and the claim holds of them
+abbrev pub backed : List Item
+backed = history [] (setUp (given changedMeanwhile)) (reverse (asActions (changedMeanwhile .calls)))
+
+pub back-commits : (wrote (transaction (name 1 0) backed) 0 ≡ false) × (dirtied (transaction (name 1 0) backed) 0 ≡ true) × (wrote (transaction (name 2 1) backed) 0 ≡ true)
+    × (snapshot (transaction (name 1 0) backed) ≡ 6) × (commit 2 (transaction (name 1 0) backed) ≡ 9)
+    × (snapshot (transaction (name 2 1) backed) ≡ 7) × (commit 2 (transaction (name 2 1) backed) ≡ 8)
+unfolding changedMeanwhile given counting computing
+back-commits = (refl, refl, refl, refl, refl, refl, refl)
+
+pub back-accepted : Isolated (3 ∷ 5 ∷ []) backed
+unfolding changedMeanwhile given computing
+back-accepted = demand3 (given changedMeanwhile) refl (asActions (changedMeanwhile .calls)) .isolated
 
 -- ---- write skew
 

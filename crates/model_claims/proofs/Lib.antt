@@ -3,6 +3,7 @@ pub mod SerialLedger
 pub mod SerialLocks
 pub mod SerialCalls
 pub mod Serial
+pub mod InTheWay
 pub mod SerialExamples
 pub mod Started
 pub mod Anomalies

@@ -2,21 +2,28 @@
 use Prim.Native.Nat.{ℕ, _≤_, _<_}
 use native.Mathlib.Omega.{arith}
 use mathlib.Core.Path.{_≡_, refl, sym, _∙_, ap, subst}
-use mathlib.Core.Logic.{inl, inr}
+use mathlib.Core.Logic.{_⊎_, inl, inr}
 use mathlib.Core.Bool.{Bool, true, false, cond, not, _&&_, _||_}
-use mathlib.Core.List.{List, [], _∷_}
+use mathlib.Core.List.{List, [], _∷_, reverse}
 use lib.Dec.{leb, eqb}
-use lib.ListN.{getD}
+use lib.ListN.{getD, take}
 use borrow.Author.Tests.{eqb-true, eqb-false, leb-true, ltb-true}
 use Rattle.model.specs.declared.Call.the-variants.{Begin, Read, Write, Seal, Advance, Abandon}
 use Rattle.model.specs.declared.Answer.the-variants.{Done, Value, Moved, Waiting, Refused}
+use Rattle.model.specs.Cases.{state, session, storeWith}
 use Rattle.model.specs.Caps.{GotWithin, WithinCaps}
 use Rattle.model.specs.Computing.{computing, counting}
-use Rattle.model.specs.History.{oneCall, manyReads, asActions, event, readsEvent, Item, item, told, history, Name, name, transaction, wrote, valueWritten, cellsWritten, readsBeforeWriting}
+use Rattle.model.specs.History.{oneCall, manyReads, asActions, event, withFound, readsEvent, Item, item, run, told, history, Name, name, transaction, wrote, valueWritten, cellsWritten, readsBeforeWriting, valuesFound}
 use Rattle.model.specs.Isolation.{All, Commits, snapshotOf, commitOf, ToldAt, CommitsTo, Last, lastCommit, noCommit, Isolated, Holds, firsts, HoldsAtCommit, Demand3}
+use Rattle.model.specs.Effects.{number}
+use Rattle.model.specs.InTheWay.{publishesCell, isReader, InTheWay, SealLetsGo}
+use Rattle.model.specs.Orders.{given, listing}
+use Rattle.model.specs.Readers.{member}
 use Rattle.model.specs.Serial.{serialStep, serial, NoneOpen, ReadsSerially, Undisturbed, SeriallyEqual}
+use Rattle.model.specs.Step.{step, answerOf, setUp}
 use Rattle.model.specs.Told.{began, got, put, sealed, moved, seals, moves, ReadOf}
 use Rattle.model.specs.Words.{wroteThenRead, firstRead, midway, toldRunning, toldSealed}
+use Rattle.model_claims.proofs.InTheWay.{in-the-way}
 use Rattle.model.proofs.Matching.{name-is}
 use Rattle.model.proofs.Names.{committed-in, noneOpen, none-open}
 use Rattle.model.proofs.Tools.{clash, both-l, both-r}
@@ -102,6 +109,7 @@ first-read-isolated =
           (unfold firstRead counting in inr (inl (refl, refl)));
       reads = λ x d. subst (λ (x : Name). All (λ (r : ReadOf). Last first h (r .cell) (snapshotOf first h x) (r .value)) (readsBeforeWriting (transaction x h))) (only x d)
           (unfold firstRead counting in (noCommit (λ y c. clash false (subst (λ (x : Name). wrote (transaction x h) 1 ≡ true) (sym (only y (c .commits))) (c .wrote)) refl) refl, tt));
+      finds = λ x d. subst (λ (x : Name). All (λ (r : ReadOf). Last first h (r .cell) (snapshotOf first h x) (r .value)) (valuesFound (transaction x h))) (only x d) (unfold firstRead counting in tt);
       apart = λ x y c ne d e. absurd (ne (sym (only x d) ∙ only y e));
     }
   where
@@ -119,7 +127,7 @@ pub sealed-too-early : Isolated first (item 5 0 sealed ∷ item 5 0 began ∷ []
 unfolding counting
 sealed-too-early i = let l : 5 < 5 = i .snapshots (name 5 0) refl .0 in omega arith
 
-pub sealed-too-late : Isolated first (item 3 0 moved ∷ item 4 0 sealed ∷ item 2 0 (put 0 4) ∷ item 1 0 began ∷ []) → ⊥
+pub sealed-too-late : Isolated first (item 3 0 moved ∷ item 4 0 sealed ∷ item 2 0 (put 0 4 3) ∷ item 1 0 began ∷ []) → ⊥
 unfolding counting
 sealed-too-late i = let l : 4 ≤ 3 = i .snapshots (name 1 0) refl .1 in omega arith
 
@@ -140,7 +148,7 @@ unfolding midway toldSealed firsts computing counting
 commit-unclaimed h = eqb-false 16 1 refl (h .withThis (name 0 1) refl 0 refl .0)
 
 -- the lock held later, when the same session runs again, does not count
-pub claimed-after-commit : HoldsAtCommit toldSealed (midway 3 4 16 1) (asActions (Advance 1 ∷ Seal 1 ∷ Write 1 0 4 ∷ Begin 1 ∷ Advance 1 ∷ Advance 1 ∷ [])) → ⊥
+pub claimed-after-commit : HoldsAtCommit toldSealed (midway 3 4 16 1) (asActions (Advance 1 ∷ Seal 1 ∷ Write 1 0 5 ∷ Begin 1 ∷ Advance 1 ∷ Advance 1 ∷ [])) → ⊥
 unfolding midway toldSealed firsts computing counting
 claimed-after-commit h = eqb-false 16 1 refl (h .withThis (name 0 1) refl 0 refl .0)
 
@@ -152,7 +160,7 @@ commit-unmarked h = eqb-false 0 1 refl (h .withThis (name 0 1) refl 0 refl .1)
 held-midway : (c : ℕ) → wrote (transaction (name 0 1) toldSealed) c ≡ true → Holds (midway 2 4 1 1) 1 c
 held-midway c w = subst (Holds (midway 2 4 1 1) 1) (eqb-true 0 c (only (eqb 0 c) (unfold toldSealed counting in w))) holds
   where
-    only : (b : Bool) → (b || false) ≡ true → b ≡ true
+    only : (b : Bool) → cond b true false ≡ true → b ≡ true
     only true h = refl
     only false h = h
 
@@ -179,10 +187,44 @@ read-at-start d = go (d .isolated .reads (name 0 1) refl .0)
 pub unclaimed-at-start : Demand3 toldSealed (midway 3 4 16 1) (oneCall (Advance 1) ∷ []) → ⊥
 unclaimed-at-start d = commit-unclaimed (d .locks)
 
+-- ---- who is in the way
+
+-- after a short list, by the theorem: sessions 0 and 1 are readers of cell 0 and publish it, and 0 is its claimant
+pub claimed-and-read : InTheWay (run (setUp (given listing)) (reverse (asActions (take 9 (listing .calls)))))
+claimed-and-read = in-the-way (given listing) (unfold listing given computing in refl) (asActions (take 9 (listing .calls)))
+
+-- not a reader past its seal that does not publish the cell, nor a claimant that does not
+pub reader-sealed : InTheWay (midway 2 3 16 0) → ⊥
+unfolding midway member computing
+reader-sealed w = go (w .readers 1 0 (omega arith) refl)
+  where
+    go : (_≡_ {A = ℕ} 2 1) ⊎ (false ≡ true) → ⊥
+    go (inl e) = omega arith
+    go (inr e) = clash false e refl
+
+pub claimant-unpublishing : InTheWay (midway 1 3 1 0) → ⊥
+unfolding midway computing
+claimant-unpublishing w = go (w .claimants 0 (omega arith))
+  where
+    go : (_≡_ {A = ℕ} 1 16) ⊎ (false ≡ true) → ⊥
+    go (inl e) = omega arith
+    go (inr e) = clash false e refl
+
+-- a seal meets the premises: it is answered 105, does not publish the cell that it wrote back, and was its reader
+pub sealed-back : (number (answerOf (Seal 1) (midway 1 3 16 0)) ≡ 105) × (publishesCell (step (Seal 1) (midway 1 3 16 0)) 1 0 ≡ false)
+    × (isReader (midway 1 3 16 0) 1 0 ≡ true) × (isReader (step (Seal 1) (midway 1 3 16 0)) 1 0 ≡ false)
+unfolding midway member computing
+sealed-back = (refl, refl, refl, refl)
+
+-- not one that leaves its session a reader of a cell outside its log
+pub left-a-reader : SealLetsGo (storeWith 1 (state (session 1 0 0) [] (3 ∷ 5 ∷ []) (2 ∷ 0 ∷ []) (16 ∷ 16 ∷ []) (0 ∷ 0 ∷ []))) 1 → ⊥
+unfolding storeWith member computing
+left-a-reader g = clash true refl (g (inr refl) 0 (omega arith) refl)
+
 -- ---- caps
 
 -- of a value got, by its cell's class; of the values that a list leaves, and of those that it is answered
-pub got-within : GotWithin (midway 1 4 16 0) (item 3 0 (got 0 8)) × GotWithin (midway 1 4 16 0) (item 3 0 (put 0 9))
+pub got-within : GotWithin (midway 1 4 16 0) (item 3 0 (got 0 8)) × GotWithin (midway 1 4 16 0) (item 3 0 (put 0 9 3))
 unfolding midway computing
 got-within = (omega arith, tt)
 
@@ -246,4 +288,4 @@ unfolding midway noneOpen computing counting serial serialStep
 leaves-another e =
     eqb-false 4 3 refl
     (ap (λ (l : List ℕ). getD l 0 0)
-    (e .left (none-open (told [] (event (Advance 1) Moved ∷ event (Abandon 0) Done ∷ event (Write 0 0 4) Done ∷ event (Begin 0) Done ∷ [])) refl)))
+    (e .left (none-open (told [] (event (Advance 1) Moved ∷ event (Abandon 0) Done ∷ withFound 3 (event (Write 0 0 4) Done) ∷ event (Begin 0) Done ∷ [])) refl)))

@@ -7,10 +7,10 @@ use Rattle.model.specs.Computing.{computing, counting}
 use Rattle.model.specs.History.{Action, oneCall, manyReads, startingValue}
 use Rattle.model.specs.Isolation.{firsts}
 use Rattle.model.specs.Serial.{Serial, serialStep, serial}
-use Rattle.model.specs.Told.{Told, tells, readsTell}
-use Rattle.model.specs.Words.{Telling, tellings, ReadsTelling, readsTellings, Word, Row, wordOf, rows, SerialRow, serialOf, serialRows, midway}
+use Rattle.model.specs.Told.{Told, ReadOf, tells, readsTell}
+use Rattle.model.specs.Words.{Telling, tellings, ReadsTelling, readsTellings, Word, Row, wordOf, rows, FoundRow, foundOfRow, foundRows, SerialRow, serialOf, serialRows, midway}
 
-pub tellings-hold : map {B = List Told} (λ (r : Telling). tells (r .call) (r .answer)) tellings ≡ map {B = List Told} (λ (r : Telling). r .told) tellings
+pub tellings-hold : map {B = List Told} (λ (r : Telling). tells (r .call) (r .answer) (r .found)) tellings ≡ map {B = List Told} (λ (r : Telling). r .told) tellings
 unfolding tellings counting
 tellings-hold = refl
 
@@ -21,6 +21,10 @@ reads-tellings-hold = refl
 pub words-hold : map {B = Word} wordOf rows ≡ map {B = Word} (λ (r : Row). r .word) rows
 unfolding rows wordOf counting
 words-hold = refl
+
+pub found-hold : map {B = List ReadOf} foundOfRow foundRows ≡ map {B = List ReadOf} (λ (r : FoundRow). r .found) foundRows
+unfolding foundRows foundOfRow counting
+found-hold = refl
 
 pub serial-holds : map {B = Serial} serialOf serialRows ≡ map {B = Serial} (λ (r : SerialRow). r .serial) serialRows
 unfolding serialRows serialOf serialStep serial counting

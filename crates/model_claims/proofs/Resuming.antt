@@ -9,7 +9,7 @@ use lib.Dec.{ltb, eqb}
 use lib.ListN.{length, List·getD-eq-default}
 use borrow.Author.Tests.{eq-eqb, ne-eqb, not-true, ltb-true, ltb-false}
 use Rattle.model.specs.Buffers.{Store, idle, sessionAt}
-use Rattle.model.specs.History.{Action, Item, item, run, history, Name, name, extend, transaction, isOpen, wrote, valueWritten, cellsWritten, readsBeforeWriting, snapshot, movesIn, moveNumber, commit, committed}
+use Rattle.model.specs.History.{Action, Item, item, run, history, Name, name, extend, transaction, isOpen, dirtied, wrote, valueWritten, cellsWritten, snapshot, movesIn, moveNumber, commit, committed}
 use Rattle.model.specs.Isolation.{All, Demand3}
 use Rattle.model.specs.Search.{below}
 use Rattle.model.specs.Effects.{recordOf}
@@ -25,7 +25,7 @@ use Rattle.model.proofs.Runs.{Ready, ledger-of, inv-run, match-run}
 use Rattle.model.proofs.Settled.{unborn}
 use Rattle.model.proofs.Tools.{same, split, test, which, clash}
 use Rattle.model.proofs.View.{look}
-use Rattle.model.proofs.Words.{summary, build, not-yet}
+use Rattle.model.proofs.Words.{observed, summary, build, Early, not-yet}
 
 -- ---- things told at place 0
 
@@ -64,10 +64,15 @@ unfolding atStart valueWritten
 start-value [] = refl
 start-value (i ∷ t) = fun-ext (λ c. rw (start-value t))
 
-start-reads : (t : List Item) → readsBeforeWriting (atStart t) ≡ readsBeforeWriting t
-unfolding atStart readsBeforeWriting
-start-reads [] = refl
-start-reads (i ∷ t) = rw (start-wrote t, start-reads t)
+start-dirtied : (t : List Item) → dirtied (atStart t) ≡ dirtied t
+unfolding atStart dirtied
+start-dirtied [] = refl
+start-dirtied (i ∷ t) = fun-ext (λ c. rw (start-dirtied t))
+
+start-observed : (t : List Item) → observed (atStart t) ≡ observed t
+unfolding atStart observed
+start-observed [] = refl
+start-observed (i ∷ t) = rw (start-dirtied t, start-observed t)
 
 start-moves : (t : List Item) → movesIn (atStart t) ≡ movesIn t
 unfolding atStart movesIn
@@ -79,6 +84,10 @@ snapshot-none : (t : List Item) → AtStart t → snapshot t ≡ 0
 unfolding snapshot
 snapshot-none [] a = refl
 snapshot-none (i ∷ t) a = split (λ (z : ℕ). z ≡ 0) (seals (i .told)) (λ _. omega (arith, a .0)) (λ _. snapshot-none t (a .1))
+
+early-none : (t : List Item) → AtStart t → Early t
+early-none [] a = tt
+early-none (i ∷ t) a = ((λ _ _. snapshot-none t (a .1)), early-none t (a .1))
 
 move-none : (m : ℕ) (t : List Item) → AtStart t → moveNumber m t ≡ 0
 unfolding moveNumber
@@ -205,6 +214,7 @@ fromStart t =
       began = 0;
       live = t .live;
       reads = t .reads;
+      dirtied = t .dirtied;
       wrote = t .wrote;
       value = t .value;
       snap = t .snap;
@@ -323,6 +333,7 @@ module _ {first : List ℕ} {σ : Store} {T : Ledger} (I : Inv first σ T) (u : 
             open′ = k .open′;
             moved = k .moved;
             unsealed = k .unsealed;
+            dirtied = k .dirtied;
             wrote = k .wrote;
             value = k .value;
             reads = k .reads;
@@ -346,7 +357,7 @@ module _ {first : List ℕ} {σ : Store} {T : Ledger} (I : Inv first σ T) (u : 
         let b = start-below t in
         let d : committed n t ≡ false = sym (ap (λ (t : Txn). t .done) (is s l)) ∙ running s l .open′ in
         ap fromStart (is s l) ∙ rw (start-open t)
-        (build 0 (isOpen t) (sym (start-reads t)) (sym (start-wrote t)) (sym (start-value t)) (no-snapshot s l ∙ sym (snapshot-none (atStart t) b)) (sym (start-moves t))
+        (build 0 (isOpen t) (sym (start-observed t)) (sym (start-dirtied t)) (sym (start-wrote t)) (sym (start-value t)) (no-snapshot s l ∙ sym (snapshot-none (atStart t) b)) (sym (start-moves t))
         (d ∙ sym (committed-none n (atStart t) b)) (not-yet n 0 s t d ∙ sym (commit-none n (atStart t) b)))
 
     no-seals : All (λ (i : Item). seals (i .told) ≡ false) (openItems h T)
@@ -364,6 +375,7 @@ module _ {first : List ℕ} {σ : Store} {T : Ledger} (I : Inv first σ T) (u : 
           recorded = tt;
           every = λ x d. clash (committed n (transaction x g)) d (committed-none n (transaction x g) (all-told (λ i. i .place < 1) x g b));
           stands = λ x. all-map (λ i e y. absurd (clash (seals (i .told)) y e)) (transaction x g) (all-told (λ i. seals (i .told) ≡ false) x g no-seals);
+          early = λ x. early-none (transaction x g) (all-told (λ i. i .place < 1) x g b);
         }
       where
         g : List Item

@@ -4,7 +4,7 @@ use Prim.Native.Nat.{ℕ, suc, _<_}
 use native.Mathlib.Omega.{arith}
 use mathlib.Core.Path.{_≡_, refl, sym, _∙_}
 use mathlib.Core.Bool.{Bool, true, false, cond, not, _&&_, _||_}
-use mathlib.Core.Option.{none}
+use mathlib.Core.Option.{none, some}
 use mathlib.Core.List.{List, [], _∷_}
 use lib.Dec.{leb, ltb, eqb}
 use lib.ListN.{length, getD}
@@ -15,19 +15,19 @@ use Rattle.model.specs.declared.Answer.{Answer}
 use Rattle.model.specs.declared.Answer.the-variants.{Done, Value, Sealed, Moved, Committed, Refused}
 use Rattle.model.specs.declared.Plan.{Plan}
 use Rattle.model.specs.declared.Plan.the-variants.{Refuse, Start, Enter, EnterUpdate, Cancel}
-use Rattle.model.specs.Buffers.{Store, size, entryAt, slotIn, targetIn, lockAt, cap}
-use Rattle.model.specs.History.{Action, oneCall, manyReads, actor, Event, event, readsEvent, tellsOf, eventOf}
+use Rattle.model.specs.Buffers.{Store, size, entryAt, slotIn, targetIn, onLog, updated, lockAt, cap}
+use Rattle.model.specs.History.{Action, oneCall, manyReads, actor, Event, event, withFound, readsEvent, tellsOf, eventOf}
 use Rattle.model.specs.Isolation.{All}
 use Rattle.model.specs.ManyReads.{readMany}
 use Rattle.model.specs.Serial.{Serial, drafted, draftedBy, serialStep, Undisturbed}
 use Rattle.model.specs.Readers.{otherReaders}
 use Rattle.model.specs.Search.{some?, tally}
 use Rattle.model.specs.Plans.{recordFits, guard, known, claimed, newCell, readSlot, writeSlot, writeCapped, sealTarget, promotePlan, advanceTarget, plan, admit}
-use Rattle.model.specs.Effects.{number, recordOf, releaseAnswer, answer, logOf}
-use Rattle.model.specs.Step.{sessionOf, planOf, answerOf}
-use Rattle.model.specs.Told.{Told, ending, tells, begins, WhereGot}
+use Rattle.model.specs.Effects.{number, recordOf, releaseAnswer, answer, after, changeLogs, logOf}
+use Rattle.model.specs.Step.{sessionOf, planOf, step, answerOf}
+use Rattle.model.specs.Told.{Told, ending, foundBy, tells, begins, WhereGot}
 use Rattle.model.proofs.Advancing.{target-some}
-use Rattle.model.proofs.Effects.{slot-some}
+use Rattle.model.proofs.Effects.{slot-some, running-role, enters, enter-phase, enter-slot, notes}
 use Rattle.model.proofs.Invariant.{latest, all-append, Promoting, Finishing, Inv}
 use Rattle.model.proofs.Ledger.{closed, saw, sealedAt, advanced, Ledger, calm, starts, hears, observe}
 use Rattle.model.proofs.ManyReads.{ByRead, value, end, read-by-read, reads-by-read}
@@ -47,10 +47,15 @@ pub record Serially (start : List ℕ) (T : Ledger) (z : Serial) (e : Event) : T
   pub read : All (WhereGot (λ c v. v ≡ getD (z .draft) c 0)) (tellsOf e)
 
 -- an answer neither 6 nor 104
-module _ {start : List ℕ} {T : Ledger} {z : Serial} (k : Call) (a : Answer) where
-  answered : eqb (number a) 6 ≡ false → eqb (number a) 104 ≡ false → All (WhereGot (λ c v. v ≡ getD (z .draft) c 0)) (tells k a)
-      → Follows start (observe (length start) (event k a) T) (serialStep (event k a) z) → Serially start T z (event k a)
-  answered x y r f = record { follows = f; undisturbed = (eqb-false (number a) 6 x, eqb-false (number a) 104 y); read = r }
+module _ {start : List ℕ} {T : Ledger} {z : Serial} (k : Call) (a : Answer) {f : ℕ} where
+  answered : eqb (number a) 6 ≡ false → eqb (number a) 104 ≡ false → All (WhereGot (λ c v. v ≡ getD (z .draft) c 0)) (tells k a f)
+      → let e = withFound f (event k a) in Follows start (observe (length start) e T) (serialStep e z) → Serially start T z e
+  answered x y r h = record { follows = h; undisturbed = (eqb-false (number a) 6 x, eqb-false (number a) 104 y); read = r }
+
+-- the value found in a cell that a running session writes is the last committed
+found-latest : {start : List ℕ} {σ : Store} {T : Ledger} (s : ℕ) → s < 16 → (I : Inv start σ T) (c k v : ℕ) → recordOf σ s .phase ≡ 1 → slot σ s c ≡ some k → c < length start
+    → foundBy (Write s c v) (changeLogs σ (onLog s (λ log. updated log k v) (σ .lent .logs))) ≡ latest start (T .commits) c
+found-latest {σ = σ} s lt I c k v ph h lc = notes s lt I c k v ph h .0 ∙ I .valued c lc .fresh s (entryAt (logOf σ s) k .snapshot) (running-role σ s c (entryAt (logOf σ s) k) ph (slot-some σ s c h))
 
 -- reads, which others may follow at their place: the ledger then, what they told, and the last answer
 record Reading (start : List ℕ) (U : Ledger) (z : Serial) (ws : List Told) (a : Answer) : Type 0 where
@@ -79,16 +84,16 @@ module _ {start : List ℕ} {σ : Store} {T : Ledger} {z : Serial} (I : Inv star
   G = follows-calm F
 
   abbrev Fine : Call → Plan → Type 0
-  Fine k p = Serially start T z (event k (answer (sessionOf k) p σ))
+  Fine k p = Serially start T z (withFound (foundBy k (after (sessionOf k) p σ)) (event k (answer (sessionOf k) p σ)))
 
   abbrev ReadFine : ℕ → ℕ → Plan → Type 0
-  ReadFine s c p = let ws = tells (Read s c) (answer s p σ) in Reading start (hears (length start) s ws (calm T)) z ws (answer s p σ)
+  ReadFine s c p = let ws = tells (Read s c) (answer s p σ) 0 in Reading start (hears (length start) s ws (calm T)) z ws (answer s p σ)
 
   -- ---- what tells nothing
 
   quiet : (k : Call) (p : Plan) → Quiet k σ p → Fine k p
   unfolding observe serialStep
-  quiet k p q = answered k (answer (sessionOf k) p σ) (q .not-6) (q .not-104) (rw (q .told) tt) (rw (q .told, q .not-105) (follows-tick G))
+  quiet k p q = answered k (answer (sessionOf k) p σ) (q .not-6) (q .not-104) (rw (q .told _) tt) (rw (q .told _, q .not-105) (follows-tick G))
 
   refused : (r : ℕ) → (ltb r 100 && not (eqb r 6)) ≡ true → (k : Call) → Fine k (Refuse r)
   refused r small k = quiet k (Refuse r) (refuses k σ r small)
@@ -100,10 +105,10 @@ module _ {start : List ℕ} {σ : Store} {T : Ledger} {z : Serial} (I : Inv star
       guarded (Fine k) (σ .lent) (sessionOf k) (recordOf σ (sessionOf k)) fits p (refused 7 refl k) (refused 1 refl k) (refused 9 refl k) (refused 2 refl k) f
 
   on-cell : (P : Plan → Type 0) → ((r : ℕ) → (ltb r 100 && not (eqb r 6)) ≡ true → P (Refuse r)) → (s c : ℕ) (p : Plan)
-      → (recordOf σ s .phase ≡ 1 → c < length start → P p) → P (admit (σ .lent) s (guard (size (σ .lent)) (logOf σ s) (recordOf σ s) (eqb (recordOf σ s .phase) 1) (known (size (σ .lent)) c p)))
+      → (s < 16 → recordOf σ s .phase ≡ 1 → c < length start → P p) → P (admit (σ .lent) s (guard (size (σ .lent)) (logOf σ s) (recordOf σ s) (eqb (recordOf σ s .phase) 1) (known (size (σ .lent)) c p)))
   unfolding size
   on-cell P r s c p f =
-      running-cell P (σ .lent) s (recordOf σ s) c p (r 7 refl) (r 1 refl) (r 9 refl) (r 2 refl) (r 3 refl) (λ _ ph l. f ph (omega (arith, I .shape .values)))
+      running-cell P (σ .lent) s (recordOf σ s) c p (r 7 refl) (r 1 refl) (r 9 refl) (r 2 refl) (r 3 refl) (λ lt ph l. f lt ph (omega (arith, I .shape .values)))
 
   -- ---- one session has a transaction open
 
@@ -112,29 +117,29 @@ module _ {start : List ℕ} {σ : Store} {T : Ledger} {z : Serial} (I : Inv star
 
   -- a new cell of a running session: nobody claims it
   on-new : (P : Plan → Type 0) → P (Refuse 5) → (s c : ℕ) (p : Plan)
-      → recordOf σ s .phase ≡ 1 → c < length start → slot σ s c ≡ none → P p → P (newCell (recordOf σ s) (lockAt (σ .lent .locks) c) p)
+      → recordOf σ s .phase ≡ 1 → c < length start → slot σ s c ≡ none → (recordOf σ s .count < 32 → lockAt (σ .lent .locks) c .claimant ≡ 16 → P p) → P (newCell (recordOf σ s) (lockAt (σ .lent .locks) c) p)
   on-new P r5 s c p ph lc new f =
       let a = alone s (runs I s ph .live) in
       cell-new P (recordOf σ s) (lockAt (σ .lent .locks) c) p r5
-      (λ n. absurd (own-claim I s a c lc n .1 (unlogged-out σ s c new))) (λ _ _. f)
+      (λ n. absurd (own-claim I s a c lc n .1 (unlogged-out σ s c new))) f
 
   read-refused : (s c r : ℕ) → (ltb r 100 && not (eqb r 6)) ≡ true → ReadFine s c (Refuse r)
   read-refused s c r small =
       let q = refuses (Read s c) σ r small in
       let a = answer s (Refuse r) σ in
-      record { follows = rw (q .told) G; undisturbed = (eqb-false (number a) 6 (q .not-6), eqb-false (number a) 104 (q .not-104)); not-105 = q .not-105; read = rw (q .told) tt }
+      record { follows = rw (q .told 0) G; undisturbed = (eqb-false (number a) 6 (q .not-6), eqb-false (number a) 104 (q .not-104)); not-105 = q .not-105; read = rw (q .told 0) tt }
 
   read-fine : (s c : ℕ) → ReadFine s c (planOf (Read s c) σ)
   unfolding planOf plan readSlot answer tells ending slot
   read-fine s c =
       on-cell (ReadFine s c) (read-refused s c) s c (readSlot (logOf σ s) (recordOf σ s) (lockAt (σ .lent .locks) c) c (slotIn (logOf σ s) (recordOf σ s .count) c))
-      (λ ph lc.
+      (λ _ ph lc.
       let a = alone s (runs I s ph .live) in
       choose (ReadFine s c) (readSlot (logOf σ s) (recordOf σ s) (lockAt (σ .lent .locks) c) c) (slot σ s c)
-      (λ p. on-new (ReadFine s c) (read-refused s c 5 refl) s c (Enter c) ph lc p (told ph lc (getD (σ .lent .values) c 0) (reads-store I s a c lc ph p)))
+      (λ p. on-new (ReadFine s c) (read-refused s c 5 refl) s c (Enter c) ph lc p (λ _ _. told ph lc (getD (σ .lent .values) c 0) (reads-store I s a c lc ph p)))
       (λ j p. told ph lc (entryAt (logOf σ s) j .current) (reads-entry I s a c lc ph (entryAt (logOf σ s) j) (slot-some σ s c p))))
     where
-      told : recordOf σ s .phase ≡ 1 → c < length start → (v : ℕ) → v ≡ overlay (T .mine s) (latest start (T .commits)) c → let ws = tells (Read s c) (Value v) in
+      told : recordOf σ s .phase ≡ 1 → c < length start → (v : ℕ) → v ≡ overlay (T .mine s) (latest start (T .commits)) c → let ws = tells (Read s c) (Value v) 0 in
           Reading start (hears (length start) s ws (calm T)) z ws (Value v)
       told ph lc v e =
           let r = runs I s ph in
@@ -146,20 +151,22 @@ module _ {start : List ℕ} {σ : Store} {T : Ledger} {z : Serial} (I : Inv star
           }
 
   write-fine : (s c v : ℕ) → Fine (Write s c v) (planOf (Write s c v) σ)
-  unfolding planOf plan writeCapped writeSlot answer observe tells ending serialStep slot
+  unfolding planOf plan writeCapped writeSlot answer after observe tells ending serialStep slot
   write-fine s c v =
       let k = getD (σ .lent .classes) c 0 in
       on-cell (Fine (Write s c v)) (λ r small. refused r small (Write s c v)) s c (cond (ltb k 16) (writeCapped (logOf σ s) (recordOf σ s) (lockAt (σ .lent .locks) c) c v (cap k)) (Refuse 8))
-      (λ ph lc.
+      (λ lt ph lc.
       split (Fine (Write s c v)) (ltb k 16)
       (λ _. split (Fine (Write s c v)) (leb v (cap k))
       (λ _. choose (Fine (Write s c v)) (writeSlot (recordOf σ s) (lockAt (σ .lent .locks) c) c v) (slot σ s c)
-      (λ p. on-new (Fine (Write s c v)) (refused 5 refl (Write s c v)) s c (EnterUpdate c v) ph lc p (wrote ph lc)) (λ j p. wrote ph lc))
+      (λ p. on-new (Fine (Write s c v)) (refused 5 refl (Write s c v)) s c (EnterUpdate c v) ph lc p
+      (λ room cl. wrote ph lc _ (found-latest s lt (enters s lt I c ph p room lc cl) c (recordOf σ s .count) v (enter-phase s lt I c ph p room) (enter-slot s lt I c ph p room) lc)))
+      (λ j p. wrote ph lc _ (found-latest s lt I c j v ph p lc)))
       (λ _. refused 4 refl (Write s c v)))
       (λ _. refused 8 refl (Write s c v)))
     where
-      wrote : recordOf σ s .phase ≡ 1 → c < length start → Serially start T z (event (Write s c v) Done)
-      wrote ph lc = let r = runs I s ph in answered (Write s c v) Done refl refl (tt, tt) (follows-tick (follows-write G s (r .live) c v lc (r .open′)))
+      wrote : recordOf σ s .phase ≡ 1 → c < length start → (f : ℕ) → f ≡ latest start (T .commits) c → Serially start T z (withFound f (event (Write s c v) Done))
+      wrote ph lc f e = let r = runs I s ph in answered (Write s c v) Done refl refl (tt, tt) (follows-tick (follows-write G s (r .live) c v f lc (r .open′) e))
 
   seal-fine : (s : ℕ) → Fine (Seal s) (planOf (Seal s) σ)
   unfolding planOf plan sealTarget answer observe tells ending serialStep target
@@ -196,10 +203,10 @@ module _ {start : List ℕ} {σ : Store} {T : Ledger} {z : Serial} (I : Inv star
   abbrev Alone : List Told → Type 0
   Alone ws = All (λ (w : Told). begins w ≡ true → (u : ℕ) → T .mine u .live ≡ false) ws
 
-  begin-fine : (s : ℕ) → Alone (tells (Begin s) (answerOf (Begin s) σ)) → Serially start T z (event (Begin s) (answerOf (Begin s) σ))
+  begin-fine : (s : ℕ) → Alone (tells (Begin s) (answerOf (Begin s) σ) 0) → Serially start T z (event (Begin s) (answerOf (Begin s) σ))
   unfolding answerOf planOf plan answer observe tells ending starts serialStep
   begin-fine s =
-      guarded (λ p. Alone (tells (Begin s) (answer s p σ)) → Fine (Begin s) p)
+      guarded (λ p. Alone (tells (Begin s) (answer s p σ) 0) → Fine (Begin s) p)
       (σ .lent) s (recordOf σ s) (eqb (recordOf σ s .phase) 0) Start
       (λ _. refused 7 refl (Begin s)) (λ _. refused 1 refl (Begin s)) (λ _. refused 9 refl (Begin s)) (λ _. refused 2 refl (Begin s))
       (λ _ _ _ alone. answered (Begin s) Done refl refl (tt, tt) (follows-tick (follows-start G s (alone .0 refl))))
@@ -238,8 +245,8 @@ module _ {start : List ℕ} {σ : Store} {T : Ledger} {z : Serial} (I : Inv star
       moved : T .mine s .live ≡ true → Serially start T z (event (Advance s) Moved)
       moved l = answered (Advance s) Moved refl refl (tt, tt) (follows-tick (follows-on G s l (advanced (length start) (T .place)) l refl refl (λ d. rw d)))
 
-  serially-call : (k : Call) → Alone (tells k (answerOf k σ)) → Serially start T z (event k (answerOf k σ))
-  unfolding answerOf planOf
+  serially-call : (k : Call) → let f = foundBy k (step k σ) in Alone (tells k (answerOf k σ) f) → Serially start T z (withFound f (event k (answerOf k σ)))
+  unfolding answerOf step planOf
   serially-call (Begin s) b = begin-fine s b
   serially-call (Read s c) b = reads-serially (event (Read s c) _) (read-by-read s c _) (read-fine s c)
   serially-call (Write s c v) b = write-fine s c v
@@ -261,6 +268,6 @@ module _ {start : List ℕ} {σ : Store} {T : Ledger} {z : Serial} (I : Inv star
       (kept-with-inv I s (λ ws a U. Reading start U z ws a)
       (λ ws _ τ _ J H c.
       let r = read-fine J (H .follows) s c in
-      let us = tells (Read s c) (answerOf (Read s c) τ) in
+      let us = tells (Read s c) (answerOf (Read s c) τ) 0 in
       record { follows = r .follows; undisturbed = r .undisturbed; not-105 = r .not-105; read = all-append (WhereGot (λ c v. v ≡ getD (z .draft) c 0)) us ws (r .read) (H .read) })
       cs words (still (Refused 15) (λ e. omega arith, λ e. omega arith) refl) (still (Refused 13) (λ e. omega arith, λ e. omega arith) refl) (still Done (λ e. omega arith, λ e. omega arith) refl) .1)

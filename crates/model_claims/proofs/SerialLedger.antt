@@ -5,9 +5,10 @@ use native.Mathlib.Omega.{arith}
 use mathlib.Core.Path.{_≡_, refl, sym, _∙_, ap}
 use mathlib.Core.Bool.{true, false, cond, not, _&&_}
 use mathlib.Core.List.{List, _∷_}
+use lib.Dec.{eqb}
 use lib.ListN.{length, getD, set, length-set}
 use lib.Seq.{getD-set-same, getD-set-other}
-use borrow.Author.Tests.{not-true}
+use borrow.Author.Tests.{eqb-true, not-true}
 use Rattle.model.specs.Serial.{Serial}
 use Rattle.model.proofs.Invariant.{latest}
 use Rattle.model.proofs.Ledger.{Txn, opened, closed, wroteTo, Commit, Ledger, tick, calm, asCommit, amend, starts}
@@ -125,21 +126,22 @@ module _ {start : List ℕ} {T : Ledger} {z : Serial} (F : Follows start T z) wh
     follows-end d =
         amended closed z (F .lengths) (λ _. works-on s (T .place) (closed (T .mine s)) (F .works s l) refl refl (λ e. e) .values d) (λ e. absurd (clash false e refl))
 
-    -- it writes
-    pub follows-write : (c v : ℕ) → c < length start → T .mine s .done ≡ false
-        → Follows start (amend s (wroteTo c v) T) (record { values = z .values; draft = set (z .draft) c v })
-    follows-write c v lc d =
-        amended (wroteTo c v) (record { values = z .values; draft = set (z .draft) c v })
+    -- it writes; a value equal to the one found, which is the last committed, leaves the draft that value
+    pub follows-write : (c v f : ℕ) → c < length start → T .mine s .done ≡ false → f ≡ latest start (T .commits) c
+        → Follows start (amend s (wroteTo c v f) T) (record { values = z .values; draft = set (z .draft) c v })
+    follows-write c v f lc d found =
+        amended (wroteTo c v f) (record { values = z .values; draft = set (z .draft) c v })
         (F .lengths .0, length-set (z .draft) c v ∙ F .lengths .1) (λ e. absurd (clash (T .mine s .live) l e))
         (λ _.
-        split (λ (ks : List Commit). Works start ks (wroteTo c v (T .mine s)) (record { values = z .values; draft = set (z .draft) c v }))
+        split (λ (ks : List Commit). Works start ks (wroteTo c v f (T .mine s)) (record { values = z .values; draft = set (z .draft) c v }))
         (T .mine s .done && not (T .mine s .done)) (λ y. absurd (clash (T .mine s .done) (both-l (T .mine s .done) (not (T .mine s .done)) y) d))
         (λ _.
         record {
           values = λ _. W .values d;
           draft = λ _ e le. same e c
-              (λ q. rw (q, upd-same (T .mine s .wrote) c true, upd-same (T .mine s .value) c v) (getD-set-same (z .draft) c v 0 (omega (arith, F .lengths .1))))
-              (λ n. rw (upd-other (T .mine s .wrote) c true e n, upd-other (T .mine s .value) c v e n) (getD-set-other (z .draft) c e v 0 n ∙ W .draft d e le));
+              (λ q. rw (q, upd-same (T .mine s .wrote) c (not (eqb v f)), upd-same (T .mine s .value) c v)
+              (getD-set-same (z .draft) c v 0 (omega (arith, F .lengths .1)) ∙ test (eqb v f) (λ y. rw y (eqb-true v f y ∙ found)) (λ y. rw y)))
+              (λ n. rw (upd-other (T .mine s .wrote) c (not (eqb v f)) e n, upd-other (T .mine s .value) c v e n) (getD-set-other (z .draft) c e v 0 n ∙ W .draft d e le));
           committed = λ e. absurd (clash (T .mine s .done) e d);
         }))
       where

@@ -7,7 +7,7 @@ use mathlib.Core.Bool.{true, false}
 use mathlib.Core.Option.{none, some}
 use mathlib.Core.List.{List}
 use lib.ListN.{length, getD}
-use Rattle.model.specs.Buffers.{Store, Entry, slotIn, isDirty, currentOf, lockAt}
+use Rattle.model.specs.Buffers.{Store, Entry, slotIn, publishes, isPublished, currentOf, lockAt}
 use Rattle.model.specs.Readers.{otherReaders}
 use Rattle.model.specs.Effects.{recordOf}
 use Rattle.model.proofs.Effects.{unknown, idle-out, running-role, slot-none}
@@ -18,7 +18,7 @@ use Rattle.model.proofs.Roles.{out, holds, pends, claims?}
 use Rattle.model_claims.proofs.SerialLedger.{overlay}
 use Rattle.model.proofs.Sets.{alone-others}
 use Rattle.model.proofs.Tools.{same, test, clash}
-use Rattle.model.proofs.View.{slot, look}
+use Rattle.model.proofs.View.{slot, look, published-dirty, unpublished-found}
 
 -- ---- who is nothing to a cell
 
@@ -77,10 +77,13 @@ module _ {start : List ℕ} {σ : Store} {T : Ledger} (I : Inv start σ T) where
       reads-store p =
           rw (run .wrote c, slot-none σ s c p) (value-latest c lc (λ u. same u s (λ e. rw e (unlogged-out σ s c p)) (others-out u)))
 
+      -- an entry that does not publish has the value found
+      unpublished : (e : Entry) → look σ s c ≡ some e → publishes e ≡ false → e .current ≡ e .snapshot
+      unpublished e p w = test (e .dirty) (λ d. unpublished-found e d w) (λ d. run .clean c e p d)
+
       -- a cell in the log: its present value
       pub reads-entry : (e : Entry) → look σ s c ≡ some e → e .current ≡ overlay (T .mine s) (latest start (T .commits)) c
       reads-entry e p =
-          test (e .dirty)
-          (λ d. let q : isDirty (look σ s c) ≡ true = ap isDirty p ∙ d in rw (run .wrote c ∙ q) (sym (run .value c q ∙ ap currentOf p)))
-          (λ d. rw (run .wrote c ∙ ap isDirty p ∙ d)
-          (run .clean c e p d ∙ I .valued c lc .fresh s (e .snapshot) (running-role σ s c e ph p)))
+          test (publishes e)
+          (λ w. let q : isPublished (look σ s c) ≡ true = ap isPublished p ∙ w in rw (run .wrote c ∙ q) (sym (run .value c (published-dirty (look σ s c) q) ∙ ap currentOf p)))
+          (λ w. rw (run .wrote c ∙ ap isPublished p ∙ w) (unpublished e p w ∙ I .valued c lc .fresh s (e .snapshot) (running-role σ s c e ph p)))

@@ -39,7 +39,7 @@ started =
 
 -- what it has told, with v as the value read in cell 1
 abbrev pub toldWith : ℕ → List Item
-toldWith v = item 0 0 (put 0 4) ∷ item 0 0 (got 1 v) ∷ item 0 0 began ∷ []
+toldWith v = item 0 0 (put 0 4 3) ∷ item 0 0 (got 1 v) ∷ item 0 0 began ∷ []
 
 -- ---- it is a start
 

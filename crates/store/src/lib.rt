@@ -208,7 +208,7 @@ pub fn write(
     replied(t)
 }
 
-// Seal: running only. The session leaves the readers of each cell entered but not written. 105 with nothing written, else 102.
+// Seal: running only. The session leaves the readers of each cell entered that it does not publish. 105 where it publishes none, else 102.
 pub fn seal(
     x: Session,
     values: &[u32],
@@ -238,7 +238,7 @@ pub fn seal(
     replied(t)
 }
 
-// Advance: phases 2 to 4. One written cell is promoted, published or released. 103, 104, 105, or 6.
+// Advance: phases 2 to 4. One cell that the session publishes is promoted, published or released. 103, 104, 105, or 6.
 pub fn advance(
     x: Session,
     values: &mut [u32],

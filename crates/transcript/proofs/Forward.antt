@@ -4,7 +4,7 @@ use mathlib.Core.Path.{_≡_, refl, _∙_, ap}
 use mathlib.Core.List.{List, [], _∷_, _++_, append-assoc, reverse, reverse-cons, reverse-append}
 use Rattle.model.specs.declared.Call.{Call}
 use Rattle.model.specs.Buffers.{Store}
-use Rattle.model.specs.History.{Action, oneCall, event, run, events}
+use Rattle.model.specs.History.{Action, oneCall, eventOf, run, events}
 use Rattle.model.specs.Step.{step, answerOf}
 use Rattle.model.proofs.Firsts.{run-first, events-first}
 use Rattle.text.specs.Items.{Item, cell, asked, refused, calls}
@@ -16,7 +16,7 @@ module _ (σ : Store) (k : Call) where
   run-asked : (ks : List Action) → run σ (reverse (oneCall k ∷ ks)) ≡ run (step k σ) (reverse ks)
   run-asked ks = ap (run σ) (reverse-cons (oneCall k) ks) ∙ run-first σ (oneCall k) (reverse ks)
 
-  events-asked : (ks : List Action) → reverse (events σ (reverse (oneCall k ∷ ks))) ≡ event k (answerOf k σ) ∷ reverse (events (step k σ) (reverse ks))
+  events-asked : (ks : List Action) → reverse (events σ (reverse (oneCall k ∷ ks))) ≡ eventOf (oneCall k) σ ∷ reverse (events (step k σ) (reverse ks))
   events-asked ks =
       ap (λ (js : List Action). reverse (events σ js)) (reverse-cons (oneCall k) ks) ∙ ap reverse (events-first σ (oneCall k) (reverse ks))
       ∙ reverse-append (events (step k σ) (reverse ks)) _

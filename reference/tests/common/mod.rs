@@ -1,7 +1,7 @@
 //! What the tests share: a store that is set up, and short names for calls.
 #![allow(dead_code)]
 
-use reference::store::{Answer, Buffers, Call, ManyAnswer};
+use reference::store::{Answer, Buffers, Call, ManyAnswer, Session};
 
 /// A store of these classes and values, set up.
 pub fn store(cells: &[(u8, u32)]) -> Buffers {
@@ -13,6 +13,25 @@ pub fn store(cells: &[(u8, u32)]) -> Buffers {
 /// A store of `n` cells of class 2 with value 3, set up.
 pub fn store_of(n: usize) -> Buffers {
     store(&vec![(2, 3); n])
+}
+
+/// Session 3 in this phase with these entries (cell, snapshot value, current value, dirty) in a store of three cells.
+pub fn entered(phase: u8, entries: &[[u32; 4]]) -> Buffers {
+    let mut buffers = store_of(3);
+    buffers.sessions[3] = Session { phase, count: entries.len() as u8, next: 0 };
+    for (index, entry) in entries.iter().enumerate() {
+        buffers.logs[128 * 3 + 4 * index..128 * 3 + 4 * index + 4].copy_from_slice(entry);
+    }
+    buffers
+}
+
+/// Asserts that every call of session 3 but set-up gets this refusal and leaves everything as before.
+pub fn all_refused(buffers: &Buffers, refusal: u32) {
+    for call in [begin(3), read(3, 0), write(3, 0, 1), seal(3), advance(3), abandon(3), peek(3, 0)] {
+        let mut after = buffers.clone();
+        assert_eq!(after.call(call), number(refusal), "{:?}", call);
+        assert_eq!(&after, buffers, "{:?}", call);
+    }
 }
 
 /// The answer with this number and value 0.

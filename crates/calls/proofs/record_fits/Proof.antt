@@ -14,18 +14,18 @@ returns-2 c =
     let t = c .before in
     record-early _ _ _ _ (t .before .entries-fit .ensures) (not-false _ (t .if1 .left)) (c .if2 .taken)
 
-target-requires : tie.Need-target-requires
-target-requires c κs =
+any-publishes-requires : tie.Need-any-publishes-requires
+any-publishes-requires c κs =
     let t = c .before in
     let w = listed _ _ _ _ (t .before .entries-fit .ensures) (not-false _ (t .if1 .left)) (c .if2 .left) in
-    (omega (arith, w .count), search needs, w .cells)
+    omega (arith, w .count)
 
 returns-3 : tie.Need-returns-3
 returns-3 c =
     let t = c .before .before in
-    record-late _ _ _ _ (t .before .entries-fit .ensures) (not-false _ (t .if1 .left)) (c .before .if2 .left) _ (c .target .ensures)
+    record-late _ _ _ _ (t .before .entries-fit .ensures) (not-false _ (t .if1 .left)) (c .before .if2 .left) _ (c .any-publishes .ensures)
 
 pub record-fits-spec : {M : Type 1} → statement M
 record-fits-spec =
     tie.close
-    (tie.spec (λ c. search needs) (λ c. search needs) (λ c κs. search needs) returns returns-2 (λ c. search needs) target-requires returns-3)
+    (tie.spec (λ c. search needs) (λ c. search needs) (λ c κs. search needs) returns returns-2 any-publishes-requires returns-3)

@@ -1,27 +1,28 @@
--- An entry that publishes is the first of its cell where the search among those before it ends at it.
-use mathlib.Core.Path.{sym, _∙_}
+-- An entry that publishes, of a cell not below `from`, is the first of its cell where the search among those before it ends at it.
 use borrow.Author.Needs.{needs}
 use Rattle.log.specs.Slots.{firstPublishes}
 use Rattle.log.proofs.Targets.{first-found}
 use Rattle.log.proofs.first_publishes.Statement.{statement}
 use Rattle.log.proofs.first_publishes.Tie as tie
 
-publishes-requires : tie.Need-publishes-requires
-publishes-requires c κs = search needs
-
 cell-at-requires : tie.Need-cell-at-requires
 cell-at-requires c κs = search needs
+
+publishes-requires : tie.Need-publishes-requires
+publishes-requires c κs = search needs
 
 find-requires : tie.Need-find-requires
 find-requires c κs = search needs
 
 returns : tie.Need-returns
-returns c = first-found _ _ _ (rw (c .before .cell-at .ensures) at (c .find .ensures)) (sym (c .before .before .before .publishes .ensures) ∙ c .before .before .if1 .taken)
+returns c =
+    let t = c .before .before in
+    first-found _ _ _ _ (rw (t .before .cell-at .ensures) at (c .find .ensures)) (rw (← (t .before .cell-at .ensures), ← (t .publishes .ensures)) (c .before .if1 .taken))
 
 returns-2 : tie.Need-returns-2
 unfolding firstPublishes
-returns-2 c = rw (sym (c .before .publishes .ensures) ∙ c .if1 .left)
+returns-2 c = let t = c .before in rw (← (t .before .cell-at .ensures), ← (t .publishes .ensures), c .if1 .left)
 
 pub first-publishes-spec : {M : Type 1} → statement M
 first-publishes-spec =
-    tie.close (tie.spec publishes-requires cell-at-requires find-requires returns returns-2)
+    tie.close (tie.spec cell-at-requires publishes-requires find-requires returns returns-2)

@@ -40,11 +40,11 @@ returns-3 c =
     (sym (g .before .before .before .publishes .ensures) ∙ g .before .before .if2 .taken) (g .before .if3 .left) _ (g .find2 .ensures)
     (sym (c .before .publishes2 .ensures) ∙ c .if4 .taken)
 
-next-by-targets-requires : tie.Need-next-by-targets-requires
-next-by-targets-requires c κs = search needs
+next-by-target-requires : tie.Need-next-by-target-requires
+next-by-target-requires c κs = search needs
 
 returns-4 : tie.Need-returns-4
-returns-4 c = c .next-by-targets .ensures
+returns-4 c = c .next-by-target .ensures
 
 pub next-two-spec : {M : Type 1} → statement M
 next-two-spec =
@@ -58,5 +58,5 @@ next-two-spec =
     find-requires-2
     publishes-requires-2
     returns-3
-    next-by-targets-requires
+    next-by-target-requires
     returns-4)

@@ -7,6 +7,7 @@ use reference::many_reads;
 use reference::random::Random;
 use reference::runs::{self, Next};
 use reference::store::{Answer, Buffers, Call, ManyAnswer, ManyReads, Part, MAX_LIST, SESSIONS, SHORT_TARGET, VALUE, WRONG_LIST};
+use reference::written_back;
 use std::fmt::Debug;
 use std::process::exit;
 
@@ -55,7 +56,7 @@ pub fn compare_calls(run: &Run) {
         println!("reference beside {}: {} calls on {} sets of buffers", store.name(), made, case - run.from);
     }
     print!("{}", numbers);
-    close(run, numbers.missing(&REQUIRED));
+    close(run, [numbers.missing(&REQUIRED), numbers.missing(&written_back::REQUIRED)].concat());
 }
 
 /// `count` runs, each from a store that is set up.
@@ -76,13 +77,18 @@ pub fn compare_runs(run: &Run) {
         println!("reference beside {}: {} calls in {} runs", store.name(), made, run.count);
     }
     print!("{}", numbers);
-    close(run, numbers.missing(&runs::REQUIRED));
+    close(run, [numbers.missing(&runs::REQUIRED), numbers.missing(&written_back::REQUIRED)].concat());
 }
 
 /// One call or many reads on every store, counted.
 fn compare_next(stores: &mut [Box<dyn Store>], case: u64, buffers: &mut Buffers, next: Next, numbers: &mut Numbers) {
     match next {
-        Next::One(call) => numbers.add(arbitrary::kind(call), compare_call(stores, case, buffers, call).number),
+        Next::One(call) => {
+            let kinds = written_back::kinds(buffers, call);
+            let number = compare_call(stores, case, buffers, call).number;
+            numbers.add(arbitrary::kind(call), number);
+            kinds.into_iter().for_each(|kind| numbers.add(kind, number));
+        }
         Next::Many(many) => many_reads::count(numbers, &many, compare_many(stores, case, buffers, &many)),
     }
 }
@@ -96,9 +102,9 @@ fn compare_call(stores: &mut [Box<dyn Store>], case: u64, buffers: &mut Buffers,
         let got = store.call(&mut other, call);
         if got != expected || other != *buffers {
             println!("case {} differs on {:?} with {} cells", case, call, before.values.len());
-            show("before", &"", &before, session_of(call));
-            show("reference", &expected, buffers, session_of(call));
-            show(&store.name(), &got, &other, session_of(call));
+            show("before", &"", &before, call.session());
+            show("reference", &expected, buffers, call.session());
+            show(&store.name(), &got, &other, call.session());
             exit(1);
         }
     }
@@ -146,15 +152,6 @@ fn single_reads(store: &mut dyn Store, buffers: &mut Buffers, many: &mut ManyRea
         many.words[index] = answer.value;
     }
     ManyAnswer { number: VALUE, count: length as u32 }
-}
-
-/// The session that calls, but at set-up.
-fn session_of(call: Call) -> Option<u8> {
-    match call {
-        Call::SetUp => None,
-        Call::Begin { session } | Call::Seal { session } | Call::Advance { session } | Call::Abandon { session } => Some(session),
-        Call::Read { session, .. } | Call::Write { session, .. } | Call::Peek { session, .. } => Some(session),
-    }
 }
 
 /// Prints the session's record and log, and the locks and values of the cells in it, as far as they are there.
