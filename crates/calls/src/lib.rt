@@ -161,7 +161,7 @@ fn entries_fit(log: &[u32], n: usize, x: Session) -> bool
     log::all_below(log, count as usize, n as u32)
 }
 
-// The same, and in phases 2 to 4 a cell not below next that publishes.
+// The same, and in phases 2 to 4 a cell that publishes, not below next.
 fn record_fits(log: &[u32], n: usize, x: Session) -> bool
     requires { ⌜ (length (now log) ≡ 128) × (n ≤ 1024) ⌝ }
     ensures { λ r. ⌜ r ≡ recordFits n (now (log .entry)) x ⌝ }
@@ -442,7 +442,7 @@ pub enum Due {
     Slot(u32, bool),
 }
 
-// The first entry of the lowest cell not below next that publishes, or 9 or 2.
+// The first entry of the lowest cell that publishes, not below next, or 9 or 2.
 pub fn due_slot(log: &[u32], n: usize, x: Session) -> Due
     requires { ⌜ (length (now log) ≡ 128) × (n ≤ 1024) ⌝ }
     ensures { λ r. ⌜ r ≡ dueOn n (now (log .entry)) x ⌝ }

@@ -27,7 +27,7 @@ unfoldable pub slotOf : List ℕ → ℕ → Option ℕ → Option ℕ
 slotOf log m none = none
 slotOf log m (some c) = slotIn log m c
 
--- the first entry of the lowest cell not below a cell that publishes
+-- the first entry of the lowest cell that publishes, not below a cell
 unfoldable pub targetSlot : List ℕ → ℕ → ℕ → Option ℕ
 targetSlot log m from = slotOf log m (targetIn log m from)
 

@@ -123,7 +123,7 @@ fn lowest_publishing(log: &[u32], count: usize, n: u32, from: u32) -> u32
     cell
 }
 
-// The first entry of the lowest cell not below from that publishes, or count where there is none: the entry that an advance handles.
+// The first entry of the lowest cell that publishes, not below from, or count where there is none: the entry that an advance handles.
 // A cell is found among the entries that publish by themselves. If its first entry does, that is the one; if not, the search goes on above it.
 pub fn target(log: &[u32], count: usize, n: u32, from: u32) -> usize
     requires { ⌜ (4 * count ≤ length (now log)) × (n ≤ 1024) × (below n (cellAt (now log)) count ≡ true) ⌝ }

@@ -101,7 +101,7 @@ abbrev pub isDirty : Option Entry → Bool
 isDirty none = false
 isDirty (some e) = e .dirty
 
--- an entry publishes, that is counts as written from the seal on, by that bit where the present value is not the one found (document 02, Paper 2)
+-- an entry publishes, that is counts as written from the seal on, where that bit is set and the present value is not the one found (document 02, Paper 2)
 unfoldable pub publishes : Entry → Bool
 publishes e = e .dirty && not (eqb (e .current) (e .snapshot))
 
@@ -113,7 +113,7 @@ isPublished (some e) = publishes e
 unfoldable pub publishesIn : List ℕ → ℕ → ℕ → Bool
 publishesIn log m c = isPublished (lookIn log m c)
 
--- the lowest cell not below a cell that publishes
+-- the lowest cell that publishes, not below a cell
 unfoldable pub targetIn : List ℕ → ℕ → ℕ → Option ℕ
 targetIn log m from = lowest (λ c. leb from c && publishesIn log m c) (cellAt log) m
 

@@ -29,7 +29,7 @@ admit B s p = require (lengthsFit B) (Refuse 7) (require (ltb s 16) (Refuse 1) p
 unfoldable pub entriesFit : ℕ → List ℕ → Session → Bool
 entriesFit n log x = leb (x .phase) 4 && (eqb (x .phase) 0 || (leb (x .count) 32 && below n (cellAt log) (x .count)))
 
--- and unless, in phases 2 to 4, there is a cell not below next that publishes
+-- and unless, in phases 2 to 4, there is a cell that publishes, not below next
 unfoldable pub recordFits : ℕ → List ℕ → Session → Bool
 recordFits n log x = entriesFit n log x && (leb (x .phase) 1 || some? (targetIn log (x .count) (x .next)))
 
@@ -82,7 +82,7 @@ unfoldable pub promotePlan : ℕ → ℕ → Lock → Plan
 promotePlan s c l =
     cond (claimed l && not (eqb (l .claimant) s)) RollBack (cond (eqb (otherReaders s (l .readers)) 0) (Acquire c) (Wait c))
 
--- advance at the lowest cell not below next that publishes, where there is one: where not, `guard` has refused by 9
+-- advance at the lowest cell that publishes, not below next, where there is one: where not, `guard` has refused by 9
 unfoldable pub advanceTarget : ℕ → List ℕ → Session → (ℕ → Lock) → Option ℕ → Plan
 advanceTarget s log x lock none = Refuse 9
 advanceTarget s log x lock (some c) =
