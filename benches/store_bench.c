@@ -2,6 +2,7 @@
    Under callgrind the counts of each call's function are read off the profile (benches/instructions).
    usage: store_bench WORKLOAD ENTRIES CELLS SESSIONS CYCLES
    Every value that `commit` and `update` write is a change; `written-back` reads ENTRIES cells, writes the same values and seals, which commits.
+   `look-up-known-read`, `look-up-new-read` and the two of writes make that call in a log of ENTRIES entries.
    The workloads `many` and `singles` read a session's ENTRIES cells as new ones, by one call for many reads and by a loop of single reads, which counts
    as one call here; `many-known` and `singles-known` read them when they are in the log. */
 #include "plain_store.h"
@@ -210,10 +211,31 @@ static void list_workload(uint32_t kind, int known, uint32_t entries, uint32_t n
     }
 }
 
+/* One call of a kind that looks a cell up in a log of ENTRIES entries, which calls of the other kind entered: each of its cells in turn, or a new one. */
+static void look_up_workload(int write, int known, uint32_t entries, uint32_t n, uint32_t sessions, uint32_t cycles)
+{
+    for (uint32_t k = 0; k < cycles; k++) {
+        for (uint32_t s = 0; s < sessions; s++) {
+            add(BEGIN, s, 0, 0);
+            for (uint32_t i = 0; i < entries; i++) {
+                add(write ? READ : WRITE, s, cell_of(s, i, n, sessions, entries + 1), k & 0xff);
+            }
+            for (uint32_t i = known ? 0 : entries; i < (known ? entries : entries + 1); i++) {
+                add(write ? WRITE : READ, s, cell_of(s, i, n, sessions, entries + 1), k & 0xff);
+            }
+            add(ABANDON, s, 0, 0);
+        }
+    }
+}
+
 static void workload(const char *name, uint32_t entries, uint32_t n, uint32_t sessions, uint32_t cycles)
 {
     if (!strncmp(name, "many", 4) || !strncmp(name, "singles", 7)) {
         list_workload(name[0] == 'm' ? MANY : SINGLES, strstr(name, "-known") != NULL, entries, n, sessions, cycles);
+        return;
+    }
+    if (!strncmp(name, "look-up-", 8)) {
+        look_up_workload(strstr(name, "write") != NULL, strstr(name, "known") != NULL, entries, n, sessions, cycles);
         return;
     }
     for (uint32_t k = 0; k < cycles; k++) {

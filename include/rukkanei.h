@@ -1,4 +1,4 @@
-/* Rukkanei for C99 and C++: the call fields and the store of document 01, with Papers 1 and 2 of document 02. One archive has every function of
+/* Rukkanei for C99 and C++: the call fields and the store of document 01, with Papers 1 to 3 of document 02. One archive has every function of
  * this file: link librukkanei.a, which scripts/install puts beside this header. It needs memcpy and memset of the C library at most.
  *
  * Every function answers for every number and every content of what it is lent. None keeps a pointer, allocates, or calls anything of yours.

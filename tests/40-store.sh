@@ -41,7 +41,7 @@ benchmark() {
             target/bench/store_bench $list $entries 1024 16 20 || return 1
         done
     done
-    for list in many singles many-known singles-known; do
+    for list in look-up-known-read look-up-new-read look-up-known-write look-up-new-write many singles many-known singles-known; do
         for entries in 2 8 32; do
             target/bench/store_bench $list $entries 1024 16 20 || return 1
         done

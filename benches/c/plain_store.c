@@ -1,4 +1,4 @@
-/* A plain C store with the steps of document 01 and Papers 1 and 2 of document 02. Every call judges its lent buffers and its session's record anew. */
+/* A plain C store with the steps of document 01 and Papers 1 to 3 of document 02. Every call judges its lent buffers and its session's record anew. */
 #include "plain_store.h"
 
 #include <string.h>

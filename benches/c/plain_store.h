@@ -1,4 +1,4 @@
-/* A plain C store with the steps of document 01 and Papers 1 and 2 of document 02, on lent buffers: the baseline of the proved store's speed. */
+/* A plain C store with the steps of document 01 and Papers 1 to 3 of document 02, on lent buffers: the baseline of the proved store's speed. */
 #ifndef PLAIN_STORE_H
 #define PLAIN_STORE_H
 

@@ -1,9 +1,10 @@
 //! Lent buffers with arbitrary contents, single calls on them, and arbitrary fields: what no replay can reach.
 
 use crate::field::Field;
+use crate::logs::{asked_cell, log, Focus};
 use crate::many_reads::{MANY, MANY_AFTER_A_VALUE, MANY_AND_A_CELL_AGAIN};
 use crate::random::Random;
-use crate::store::{Buffers, Call, Session, CAPS, LOG_WORDS, MAX_ENTRIES, NOBODY, SESSIONS};
+use crate::store::{Buffers, Call, Session, CAPS, LOG_WORDS, MAX_ENTRIES, NOBODY, RUNNING, SESSIONS};
 use crate::written_back;
 use std::collections::BTreeMap;
 use std::fmt;
@@ -78,7 +79,7 @@ pub fn kind(call: Call) -> &'static str {
 }
 
 /// Buffers of any contents. Most have lengths that fit, so that the later refusals and the steps are reached.
-pub fn buffers(random: &Random) -> Buffers {
+pub fn buffers(random: &Random) -> (Buffers, Focus) {
     let n = random.pick(&[1, 2, 3, 3, 4, 6, 9, 40, 1024, random.range(1, 1024)]);
     let tame = random.percent(30);
     let classes: Vec<u8> = (0..n).map(|_| class(random, tame)).collect();
@@ -91,14 +92,19 @@ pub fn buffers(random: &Random) -> Buffers {
         logs: Vec::with_capacity(LOG_WORDS),
         sessions: [Session::default(); SESSIONS],
     };
+    let focus = Focus { session: random.below(SESSIONS) as u8, cell: random.below(n) as u32 };
     for session in 0..SESSIONS {
-        buffers.sessions[session] = record(random, n);
-        log(random, &buffers.values, &mut buffers.logs);
+        let mut record = record(random, n);
+        if session == focus.session as usize && random.percent(25) {
+            record.phase = RUNNING;
+        }
+        log(random, &buffers.values, record.count as usize, focus.cell, &mut buffers.logs);
+        buffers.sessions[session] = record;
     }
     if random.percent(5) {
         misfit(random, &mut buffers);
     }
-    buffers
+    (buffers, focus)
 }
 
 fn class(random: &Random, tame: bool) -> u8 {
@@ -134,11 +140,11 @@ fn record(random: &Random, n: usize) -> Session {
         5 => random.pick(&[5, 255, random.byte()]),
         phase => phase as u8,
     };
-    let count = match random.weighted(&[50, 25, 12, 8, 5]) {
+    let count = match random.weighted(&[18, 40, 25, 12, 5]) {
         0 => random.below(7) as u8,
         1 => random.below(MAX_ENTRIES + 1) as u8,
-        2 => MAX_ENTRIES as u8,
-        3 => MAX_ENTRIES as u8 - 1,
+        2 => random.range(24, MAX_ENTRIES) as u8,
+        3 => MAX_ENTRIES as u8,
         _ => random.pick(&[33, 34, 128, 255, random.byte()]),
     };
     let next = match random.weighted(&[55, 35, 10]) {
@@ -147,32 +153,6 @@ fn record(random: &Random, n: usize) -> Session {
         _ => random.pick(&[1023, 1024, 1025, 65_535, random.word() as u16]),
     };
     Session { phase, count, next }
-}
-
-/// Appends one session's 128 words: few different cells, so that a cell often has several entries; now and then one not below n. In some logs
-/// most entries have the value that they found, in others few.
-fn log(random: &Random, values: &[u32], logs: &mut Vec<u32>) {
-    let n = values.len();
-    let back = random.pick(&[2, 5, 30, 60, 95]);
-    let pool = random.pick(&[n, n, n.min(3), n.min(8)]);
-    let first = random.below(n - pool + 1);
-    let stray = if random.percent(12) { Some(random.below(MAX_ENTRIES)) } else { None };
-    let clean = random.percent(15);
-    for index in 0..MAX_ENTRIES {
-        let cell = if stray == Some(index) { stray_cell(random, n) } else { (first + random.below(pool)) as u32 };
-        let dirty = random.pick(&[0, 1, random.word(), 2, 3, u32::MAX]);
-        let (snapshot, current) = entry_values(random, values.get(cell as usize).copied().unwrap_or(0), back);
-        logs.extend_from_slice(&[cell, snapshot, current, if clean { dirty & !1 } else { dirty }]);
-    }
-}
-
-/// The value found and the current one, equal so many times in a hundred, else often different in one bit. Either may be the store's.
-fn entry_values(random: &Random, stored: u32, back: usize) -> (u32, u32) {
-    let snapshot = random.pick(&[stored, random.word()]);
-    if random.percent(back) {
-        return (snapshot, snapshot);
-    }
-    (snapshot, random.pick(&[stored, snapshot ^ 1 << random.below(32), random.word()]))
 }
 
 /// Gives one buffer a wrong length, or all of them a length that no store has.
@@ -210,21 +190,18 @@ pub fn session(random: &Random, own: u8) -> u8 {
     own
 }
 
-/// Any call, mostly of one session and on cells of the store.
-pub fn call(random: &Random, buffers: &Buffers, own: u8) -> Call {
+/// Any call, mostly of one session and on cells of the store; a running session mostly looks a cell up.
+pub fn call(random: &Random, buffers: &Buffers, focus: Focus) -> Call {
+    let own = focus.session;
     let session = session(random, own);
     let n = buffers.values.len();
-    let cell = if random.percent(5) || n == 0 {
-        stray_cell(random, n)
-    } else if random.percent(40) {
-        buffers.logs.get(128 * own as usize).copied().unwrap_or(0)
-    } else {
-        random.below(n) as u32
-    };
+    let cell = if random.percent(5) { stray_cell(random, n) } else { asked_cell(random, buffers, focus) };
     let cap = buffers.classes.get(cell as usize).and_then(|class| CAPS.get(*class as usize)).copied().unwrap_or(0);
     let found = buffers.found(own, cell).unwrap_or(0);
-    let value = random.pick(&[0, cap, cap.wrapping_add(1), random.word(), found]);
-    match random.weighted(&[2, 8, 20, 24, 10, 24, 4, 8]) {
+    let value = random.pick(&[0, 1, cap, cap.wrapping_add(1), random.word(), found]);
+    let running = buffers.sessions[own as usize].phase == RUNNING;
+    let weights = if running { [1, 5, 26, 30, 10, 6, 3, 19] } else { [2, 8, 18, 20, 8, 32, 4, 8] };
+    match random.weighted(&weights) {
         0 => Call::SetUp,
         1 => Call::Begin { session },
         2 => Call::Read { session, cell },

@@ -1,6 +1,7 @@
 //! Random many reads: lists of cells and targets on both sides of every limit, on arbitrary buffers; and what their answers are counted as.
 
 use crate::arbitrary::{session, stray_cell, Numbers};
+use crate::logs::{asked_cell, Focus};
 use crate::random::Random;
 use crate::store::{Buffers, ManyAnswer, ManyReads, MAX_ENTRIES, NOBODY, SESSION_WORDS, VALUE};
 
@@ -48,13 +49,19 @@ pub fn with_target(random: &Random, session: u8, cells: Vec<u32>) -> ManyReads {
     ManyReads { session, cells, words, lent }
 }
 
-/// Many reads on arbitrary buffers, mostly of one session. Most cells can be read; every other list has one that can hardly be, at any place.
-pub fn on_buffers(random: &Random, buffers: &Buffers, own: u8) -> ManyReads {
+/// Many reads on arbitrary buffers, mostly of one session. Most cells can be read; every other list has one that can hardly be, at any place. The
+/// first is often one that single calls ask for.
+pub fn on_buffers(random: &Random, buffers: &Buffers, focus: Focus) -> ManyReads {
+    let own = focus.session;
     let length = length(random);
     let odd = if random.percent(50) { Some(random.below(length + 1)) } else { None };
     let mut cells = Vec::with_capacity(length);
     for index in 0..length {
-        cells.push(if odd == Some(index) { odd_cell(random, buffers) } else { listed_cell(random, buffers, own, &cells) });
+        cells.push(match index {
+            _ if odd == Some(index) => odd_cell(random, buffers),
+            0 if random.percent(75) => asked_cell(random, buffers, focus),
+            _ => listed_cell(random, buffers, own, &cells),
+        });
     }
     with_target(random, session(random, own), cells)
 }

@@ -1,4 +1,4 @@
-//! The store's calls: document 01, 'The steps' and 'When a call is turned down', and document 02, Papers 1 and 2.
+//! The store's calls: document 01, 'The steps' and 'When a call is turned down', and document 02, Papers 1 to 3.
 //! Every call is total: it says what happens for any contents and any lengths of the lent buffers.
 
 pub use crate::lent::*;

@@ -4,6 +4,7 @@
 Usage: wrong_stores.py COMPARE TARGET [SEED]. COMPARE is the comparison linked with libplain.so, TARGET a directory to build in."""
 
 import os
+import signal
 import subprocess
 import sys
 
@@ -11,7 +12,12 @@ ROOT = os.path.dirname(os.path.dirname(os.path.dirname(os.path.abspath(__file__)
 STORE = os.path.join(ROOT, "benches/c/plain_store.c")
 FLAGS = ["-O1", "-std=c99", "-fPIC", "-I" + os.path.join(ROOT, "benches/c"), "-I" + os.path.join(ROOT, "tools/src")]
 
+CRASHES = (-signal.SIGSEGV, -signal.SIGBUS, -signal.SIGABRT)
 REPLAY, RUN, BUFFERS = "on replays", "in runs", "on arbitrary buffers"
+
+# The search for a cell's entry, and the test of the entries' cells.
+SEARCH = "    while (i < count && log[PLAIN_ENTRY_WORDS * i + CELL] != cell) {\n        i++;\n    }\n    return i;\n"
+JUDGED = "    for (uint32_t i = 0; i < record.count; i++) {\n        stray |= log[PLAIN_ENTRY_WORDS * i + CELL] >= n;\n"
 
 # Each wrong store: its name, where it must show, and the edit, an old text and a new one or several such pairs. Those that show on replays or in runs
 # must show on arbitrary buffers too.
@@ -286,6 +292,42 @@ EDITS = [
      "    plain_session *record = &sessions[session];\n    const uint32_t *log = entry_at(lent, session, 0);\n"
      "    uint64_t seen[PLAIN_MAX_CELLS / 64] = {0};\n    for (uint32_t i = 0; i < record->count; i++) {\n"
      "        uint32_t cell = log[PLAIN_ENTRY_WORDS * i + CELL] % PLAIN_MAX_CELLS;\n"),
+    ("look-up: the last entry of a cell", BUFFERS,
+     SEARCH, "    for (i = count; i > 0 && log[PLAIN_ENTRY_WORDS * (i - 1) + CELL] != cell;) {\n        i--;\n    }\n    return i > 0 ? i - 1 : count;\n"),
+    ("look-up: an entry past the entries", RUN,
+     SEARCH, "    while (i < PLAIN_MAX_ENTRIES && log[PLAIN_ENTRY_WORDS * i + CELL] != cell) {\n        i++;\n    }\n"
+     "    return i < PLAIN_MAX_ENTRIES ? i : count;\n",
+     "    if (i < record->count) {\n", "    if (i < PLAIN_MAX_ENTRIES && (*entry)[CELL] == cell) {\n",
+     "    return i < count ? 100 : 14;\n", "    return i < PLAIN_MAX_ENTRIES && (*entry)[CELL] == cell ? 100 : 14;\n"),
+    ("look-up: the entry right past the entries", RUN,
+     "    if (i < record->count) {\n", "    if (i < PLAIN_MAX_ENTRIES && (*entry)[CELL] == cell) {\n",
+     "    return i < count ? 100 : 14;\n", "    return i < PLAIN_MAX_ENTRIES && (*entry)[CELL] == cell ? 100 : 14;\n"),
+    ("look-up: the count taken for a place", RUN,
+     "    if (i < record->count) {\n", "    if (i <= record->count && i < PLAIN_MAX_ENTRIES) {\n"),
+    ("look-up: in session 0's log", RUN,
+     "find(entry_at(lent, session, 0), record->count, cell), entry);", "find(entry_at(lent, 0, 0), record->count, cell), entry);"),
+    ("look-up: a peek in session 0's log", BUFFERS,
+     "find(entry_at(lent, session, 0), count, cell);", "find(entry_at(lent, 0, 0), count, cell);"),
+    ("look-up: the first entry passed over", RUN,
+     "    uint32_t i = 0;\n" + SEARCH, "    uint32_t i = count > 0;\n" + SEARCH),
+    ("look-up: the last entry passed over", RUN,
+     SEARCH, "    while (i + 1 < count && log[PLAIN_ENTRY_WORDS * i + CELL] != cell) {\n        i++;\n    }\n    return i + 1 < count ? i : count;\n"),
+    ("look-up: the last place of a full log passed over", RUN,
+     SEARCH, SEARCH.replace("i < count", "i < count && i < PLAIN_MAX_ENTRIES - 1").replace("return i;", "return i < PLAIN_MAX_ENTRIES - 1 ? i : count;")),
+    ("look-up: the value found taken for the cell", RUN,
+     SEARCH, SEARCH.replace("CELL", "SNAPSHOT_VALUE")),
+    ("look-up: the low eight bits of the cells", BUFFERS,
+     SEARCH, SEARCH.replace("log[", "(uint8_t)log[").replace("!= cell", "!= (uint8_t)cell")),
+    ("cells judged: the first entry's not", BUFFERS,
+     JUDGED, JUDGED.replace("i = 0", "i = 1")),
+    ("cells judged: the last entry's not", BUFFERS,
+     JUDGED, JUDGED.replace("i < record.count", "i + 1 < record.count")),
+    ("cells judged: in session 0's log", BUFFERS,
+     JUDGED, JUDGED.replace("= log[", "= lent->logs[")),
+    ("cells judged: one past the entries too", BUFFERS,
+     JUDGED, JUDGED.replace("i < record.count", "i <= record.count && i < PLAIN_MAX_ENTRIES")),
+    ("cells judged: all 32 places", BUFFERS,
+     JUDGED, JUDGED.replace("i < record.count", "i < PLAIN_MAX_ENTRIES")),
 ]
 
 
@@ -300,9 +342,9 @@ def build(target, source):
 
 
 def tells(command, environment=None):
-    """Whether a comparison ran and found a difference."""
+    """Whether a comparison ran and found a difference, or the wrong store left its buffers and crashed."""
     result = subprocess.run(command, env=environment, stdout=subprocess.PIPE, stderr=subprocess.STDOUT, text=True)
-    return result.returncode == 1 and " differs" in result.stdout
+    return result.returncode in CRASHES or result.returncode == 1 and " differs" in result.stdout
 
 
 def main():

@@ -150,6 +150,15 @@ module _ (n : ℕ) (log : List ℕ) (x : Session) where
         let f = entries-cells (omega arith) (omega arith) i b e in
         test b (λ z. z ∙ rw (sym (record-early b f z (omega arith)), eq-eqb (x .phase) 1 h)) (λ z. z ∙ odd (sym z ∙ f))
 
+  -- where they do not: 9 in phase 1, and in any other the number of a call that does not fit
+  pub refusal-running : eqb (tested (recordFits n log x) (eqb (x .phase) 1)) 0 ≡ false → x .phase ≡ 1 → 9 ≡ tested (recordFits n log x) (eqb (x .phase) 1)
+  unfolding tested
+  refusal-running z h =
+      test (recordFits n log x) (λ w. absurd (clash true refl (rw (w, eq-eqb (x .phase) 1 h) at z))) (λ w. rw w)
+
+  pub refusal-else : (x .phase ≡ 1 → ⊥) → (r : ℕ) → r ≡ tested (recordFits n log x) false → r ≡ tested (recordFits n log x) (eqb (x .phase) 1)
+  refusal-else h r e = rw (ne-eqb (x .phase) 1 h) e
+
   -- so with the answer b: the tests' number is 0, or another
   module _ (b : Bool) (e : b ≡ eqb (tested (recordFits n log x) (eqb (x .phase) 1)) 0) where
     pub run-passes : b ≡ true → tested (recordFits n log x) (eqb (x .phase) 1) ≡ 0

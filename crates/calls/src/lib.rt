@@ -205,7 +205,19 @@ pub fn runs(log: &[u32], n: usize, x: Session) -> bool
     if 32 < count {
         return false;
     }
-    log::all_below(log, count as usize, n as u32)
+    log::all_below_by_fours(log, count as usize, n as u32)
+}
+
+// The number where they do not pass for a call of a running session: 9 or 2.
+pub fn running_refusal(log: &[u32], n: usize, x: Session) -> u8
+    requires { ⌜ (length (now log) ≡ 128) × (n ≤ 1024) × (eqb (tested (recordFits n (now log) x) (eqb (x .phase) 1)) 0 ≡ false) ⌝ }
+    ensures { λ r. ⌜ r ≡ tested (recordFits n (now (log .entry)) x) (eqb (x .phase) 1) ⌝ }
+{
+    let phase = x.phase;
+    if phase == 1 {
+        return 9;
+    }
+    tests(log, n, x, false)
 }
 
 // An answer with the locks as they were.
@@ -303,16 +315,17 @@ pub fn read_plan(log: &[u32], n: usize, x: Session, cell: u32) -> Plan
     requires { ⌜ (length (now log) ≡ 128) × (n ≤ 1024) ⌝ }
     ensures { λ r. ⌜ r ≡ readPlan n (now (log .entry)) x free cell ⌝ }
 {
-    let phase = x.phase;
     let count = x.count as usize;
     if !runs(log, n, x) {
-        return Plan::Refuse(tests(log, n, x, phase == 1));
+        return Plan::Refuse(running_refusal(log, n, x));
     }
     if n <= cell as usize {
         return Plan::Refuse(3);
     }
-    let k = log::find(log, count, cell);
-    if k < count {
+    let place = log::locate(log, count, cell);
+    let known = place.known;
+    let k = place.slot;
+    if known {
         return Plan::Tell(log::current(log, k));
     }
     new_cell(x, Plan::Enter(cell))
@@ -347,8 +360,10 @@ fn write_capped(log: &[u32], x: Session, cell: u32, value: u32, most: u32) -> Pl
     if most < value {
         return Plan::Refuse(4);
     }
-    let k = log::find(log, count, cell);
-    if k < count {
+    let place = log::locate(log, count, cell);
+    let known = place.known;
+    let k = place.slot;
+    if known {
         return Plan::Update(k as u32, value);
     }
     new_cell(x, Plan::EnterUpdate(cell, value))
@@ -359,10 +374,9 @@ pub fn write_plan(log: &[u32], classes: &[u8], x: Session, cell: u32, value: u32
     requires { ⌜ (length (now log) ≡ 128) × (length (now classes) ≤ 1024) ⌝ }
     ensures { λ r. ⌜ r ≡ writePlan (now (classes .entry)) (length (now (classes .entry))) (now (log .entry)) x free cell value ⌝ }
 {
-    let phase = x.phase;
     let n = classes.len();
     if !runs(log, n, x) {
-        return Plan::Refuse(tests(log, n, x, phase == 1));
+        return Plan::Refuse(running_refusal(log, n, x));
     }
     let c = cell as usize;
     if n <= c {
@@ -413,10 +427,9 @@ pub fn take_seal(log: &[u32], n: usize, x: Session) -> Turn
     requires { ⌜ (length (now log) ≡ 128) × (n ≤ 1024) ⌝ }
     ensures { λ r. ⌜ TurnsLog (sealPlan n (now (log .entry)) x) log x r ⌝ }
 {
-    let phase = x.phase;
     let count = x.count as usize;
     if !runs(log, n, x) {
-        return keeps(Answer::Refused(tests(log, n, x, phase == 1)), x);
+        return keeps(Answer::Refused(running_refusal(log, n, x)), x);
     }
     if log::any_publishes(log, count, 0) {
         let y = x.sealed();
@@ -596,16 +609,17 @@ pub fn peek_plan(log: &[u32], n: usize, x: Session, cell: u32) -> Plan
     requires { ⌜ (length (now log) ≡ 128) × (n ≤ 1024) ⌝ }
     ensures { λ r. ⌜ r ≡ peekPlan n (now (log .entry)) x cell ⌝ }
 {
-    let phase = x.phase;
     let count = x.count as usize;
     if !runs(log, n, x) {
-        return Plan::Refuse(tests(log, n, x, phase == 1));
+        return Plan::Refuse(running_refusal(log, n, x));
     }
     if n <= cell as usize {
         return Plan::Refuse(3);
     }
-    let k = log::find(log, count, cell);
-    if count <= k {
+    let place = log::locate(log, count, cell);
+    let known = place.known;
+    let k = place.slot;
+    if !known {
         return Plan::Refuse(14);
     }
     if log::dirty(log, k) {

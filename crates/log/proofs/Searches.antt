@@ -1,18 +1,18 @@
 -- Laws of the searches over the entries of a log: what one entry more makes of them, and how a loop's answer is the model's.
 use Prim.Native.Nat.{ℕ, zero, suc, _+_, _*_, _<_, _≤_}
-use mathlib.Core.Bool.{true, false}
+use mathlib.Core.Bool.{Bool, true, false}
 use mathlib.Core.List.{List}
 use mathlib.Core.Option.{Option, none, some}
 use mathlib.Core.Path.{_≡_, refl, sym, ap, _∙_}
 use native.Mathlib.Numerals.{add-one}
 use native.Mathlib.Omega.{arith}
 use lib.ListN.{getD, set}
-use borrow.Author.Tests.{lt-ltb, le-ltb, eq-eqb, ne-eqb}
+use borrow.Author.Tests.{lt-ltb, le-ltb, ltb-true, ltb-false, eq-eqb, ne-eqb}
 use Rattle.model.specs.Buffers.{word, cellAt, slotIn, appended, updated}
 use Rattle.model.specs.Search.{orElse, find, below}
 use Rattle.model.proofs.Laws.{find-some}
 use Rattle.model.proofs.Tools.{same, which, and-false}
-use Rattle.log.specs.Slots.{found}
+use Rattle.log.specs.Slots.{found, Locates}
 
 -- ---- the words of a log
 
@@ -81,6 +81,16 @@ pub below-more : (n : ℕ) (cell : ℕ → ℕ) (k : ℕ) → below n cell k ≡
 unfolding below
 below-more n cell k h l = simp (h, lt-ltb (cell k) n l)
 
+-- the same, where the place after k is written another way
+pub below-past : (n : ℕ) (cell : ℕ → ℕ) (k : ℕ) {j : ℕ} → below n cell k ≡ true → cell k < n → j ≡ k + 1 → below n cell j ≡ true
+below-past n cell k h l e = rw (e, add-one) (below-more n cell k h l)
+
+-- what is not below n among k entries is not among more
+pub below-fails : (n : ℕ) (cell : ℕ → ℕ) (k m : ℕ) → k ≤ m → below n cell k ≡ false → below n cell m ≡ false
+unfolding below
+below-fails n cell k zero l h = let e : k ≡ 0 = omega arith in rw e at h
+below-fails n cell k (suc m) l h = same k (suc m) (λ e. rw e at h) (λ d. simp (below-fails n cell k m (omega arith) h, and-false))
+
 -- ---- how the loops end
 
 module _ (log : List ℕ) (count c : ℕ) where
@@ -93,9 +103,39 @@ module _ (log : List ℕ) (count c : ℕ) where
   unfolding found
   slot-nowhere h = simp (h, le-ltb count count (omega arith))
 
-pub slot-step : (log : List ℕ) (c i : ℕ) → slotIn log i c ≡ none → (cellAt log i ≡ c → ⊥) → slotIn log (i + 1) c ≡ none
+-- ---- what looking a cell up answers
+
+-- a cell that is known has a place among the entries, and only such a cell
+pub known-within : (log : List ℕ) (m c : ℕ) (known : Bool) (i : ℕ) → Locates log m c known i → known ≡ true → i < m
+known-within log m c known i w t = ltb-true i m (sym (w .known-is) ∙ t)
+
+pub unknown-past : (log : List ℕ) (m c : ℕ) (known : Bool) (i : ℕ) → Locates log m c known i → known ≡ false → m ≤ i
+unknown-past log m c known i w t = ltb-false i m (sym (w .known-is) ∙ t)
+
+module _ (log : List ℕ) (count c : ℕ) where
+  pub located-here : (i : ℕ) → slotIn log i c ≡ none → cellAt log i ≡ c → i < count → Locates log count c true i
+  located-here i h e l = record { slot-is = slot-here log count c i h e l; known-is = sym (lt-ltb i count l) }
+
+  pub located-nowhere : slotIn log count c ≡ none → Locates log count c false count
+  located-nowhere h = record { slot-is = slot-nowhere log count c h; known-is = sym (le-ltb count count (omega arith)) }
+
+  -- what is known among fewer entries is known among all, at its place
+  pub located-among : (m : ℕ) (known : Bool) (i : ℕ) → Locates log m c known i → known ≡ true → m ≤ count → Locates log count c known i
+  unfolding slotIn found
+  located-among m known i w t u =
+      let l = known-within log m c known i w t in
+      let e : find (cellAt log) m c ≡ some i = sym (simp (lt-ltb i m l) at (w .slot-is)) in
+      let v : i < count = omega arith in
+      record { slot-is = simp (lt-ltb i count v) (sym (find-up (cellAt log) c m count u e)); known-is = t ∙ sym (lt-ltb i count v) }
+
+-- what is not known among some entries is at none of them
+pub located-missed : (log : List ℕ) (m c : ℕ) (known : Bool) (i : ℕ) → Locates log m c known i → known ≡ false → slotIn log m c ≡ none
+unfolding found
+located-missed log m c known i w t = sym (simp (sym (w .known-is) ∙ t) at (w .slot-is))
+
+pub slot-past : (log : List ℕ) (c i : ℕ) {j : ℕ} → slotIn log i c ≡ none → (cellAt log i ≡ c → ⊥) → j ≡ i + 1 → slotIn log j c ≡ none
 unfolding slotIn
-slot-step log c i h m = rw add-one (find-miss (cellAt log) c i h m)
+slot-past log c i h m e = rw (e, add-one) (find-miss (cellAt log) c i h m)
 
 pub slot-start : (log : List ℕ) (c : ℕ) → slotIn log 0 c ≡ none
 unfolding slotIn find

@@ -12,6 +12,11 @@ use Rattle.model.specs.Buffers.{cellAt, entryAt, slotIn, publishes, targetIn}
 unfoldable pub found : ℕ → ℕ → Option ℕ
 found m k = cond (ltb k m) (some k) none
 
+-- a cell looked up among m entries: whether it is known, and its place
+pub record Locates (log : List ℕ) (m c : ℕ) (known : Bool) (slot : ℕ) : Type 0 where
+  pub slot-is : found m slot ≡ slotIn log m c
+  pub known-is : known ≡ ltb slot m
+
 -- the lower of a cell so far and entry k's, where that is not below a cell and the entry publishes by itself
 unfoldable pub better : List ℕ → ℕ → ℕ → ℕ → ℕ
 better log from k held =

@@ -36,7 +36,8 @@ fn slot_of(log: &[u32], count: usize, entered: &[u64; 16], cell: u32) -> usize
     if !locks::is_marked(entered, cell) {
         return count;
     }
-    log::find(log, count, cell)
+    let place = log::locate(log, count, cell);
+    place.slot
 }
 
 // ---- one read, past the tests of 7, 1, 9 and 2

@@ -9,3 +9,4 @@ pub mod Started
 pub mod Anomalies
 pub mod ReadWords
 pub mod ReadClaims
+pub mod PastTheCount

@@ -11,7 +11,7 @@ returns-2 : tie.Need-returns-2
 returns-2 c = runs-many _ _ _ (c .before .if1 .left) (c .if2 .taken)
 
 returns-3 : tie.Need-returns-3
-returns-3 c = runs-cells _ _ _ (c .before .before .if1 .left) (c .before .if2 .left) _ (c .all-below .ensures)
+returns-3 c = runs-cells _ _ _ (c .before .before .if1 .left) (c .before .if2 .left) _ (c .all-below-by-fours .ensures)
 
 pub runs-spec : {M : Type 1} → statement M
 runs-spec =

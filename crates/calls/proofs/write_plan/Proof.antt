@@ -1,4 +1,5 @@
 -- Each return is a way through `writePlan`: the tests' number, the cell outside, an odd class, or what the cap leaves.
+use mathlib.Core.Path.{sym, _∙_}
 use borrow.Author.Tests.{not-true, not-false}
 use Rattle.model.specs.Plans.{writePlan}
 use Rattle.calls.proofs.Ways.{run-refused, few, write-outside, write-odd, write-class}
@@ -6,9 +7,12 @@ use borrow.Author.Needs.{needs}
 use Rattle.calls.proofs.write_plan.Statement.{statement}
 use Rattle.calls.proofs.write_plan.Tie as tie
 
+running-refusal-requires : tie.Need-running-refusal-requires
+running-refusal-requires c κs = (c .before .before .before .before .pre .0, c .before .before .before .before .pre .1, sym (c .before .runs .ensures) ∙ not-true _ (c .if1 .taken))
+
 returns : tie.Need-returns
 unfolding writePlan
-returns c = run-refused _ _ _ _ (c .before .before .runs .ensures) (not-true _ (c .before .if1 .taken)) _ (c .tests .ensures) _
+returns c = run-refused _ _ _ _ (c .before .before .runs .ensures) (not-true _ (c .before .if1 .taken)) _ (c .running-refusal .ensures) _
 
 returns-2 : tie.Need-returns-2
 returns-2 c = write-outside _ _ _ _ (c .before .before .runs .ensures) (not-false _ (c .before .if1 .left)) _ _ _ _ (c .if2 .taken)
@@ -28,4 +32,4 @@ returns-4 c = write-class _ _ _ _ (c .before .before .before .before .before .be
 pub write-plan-spec : {M : Type 1} → statement M
 write-plan-spec =
     tie.close
-    (tie.spec (λ c κs. search needs) (λ c κs. search needs) returns returns-2 shared-slice-read-class returns-3 (λ c κs. search needs) write-capped-requires returns-4)
+    (tie.spec (λ c κs. search needs) running-refusal-requires returns returns-2 shared-slice-read-class returns-3 (λ c κs. search needs) write-capped-requires returns-4)

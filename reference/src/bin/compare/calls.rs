@@ -3,12 +3,13 @@
 use crate::{close, stop, Run};
 use reference::arbitrary::{self, Numbers, REQUIRED, REQUIRED_FIELDS};
 use reference::boundary::{Fields, Reference, Store};
+use reference::look_ups::{self, LookUps};
 use reference::many_reads;
 use reference::random::Random;
 use reference::runs::{self, Next};
-use reference::store::{Answer, Buffers, Call, ManyAnswer, ManyReads, Part, MAX_LIST, SESSIONS, SHORT_TARGET, VALUE, WRONG_LIST};
+use reference::store::{Answer, Buffers, Call, ManyAnswer, ManyReads, Part, MAX_LIST, SHORT_TARGET, VALUE, WRONG_LIST};
 use reference::written_back;
-use std::fmt::Debug;
+use std::fmt::{self, Debug, Display, Formatter};
 use std::process::exit;
 
 /// The stores that are linked in, at least one.
@@ -31,23 +32,35 @@ fn linked_fields() -> Vec<Box<dyn Fields>> {
     ]
 }
 
+/// What the calls met.
+#[derive(Default)]
+struct Counted {
+    numbers: Numbers,
+    look_ups: LookUps,
+}
+
+impl Display for Counted {
+    fn fmt(&self, f: &mut Formatter) -> fmt::Result {
+        write!(f, "{}{}", self.numbers, self.look_ups)
+    }
+}
+
 /// At least `count` calls, a few on end on each set of buffers.
 pub fn compare_calls(run: &Run) {
     let mut stores = linked_stores();
-    let mut numbers = Numbers::default();
+    let mut counted = Counted::default();
     let mut made = 0;
     let mut case = run.from;
     while made < run.count {
         let random = Random::for_case(run.seed, case);
-        let mut buffers = arbitrary::buffers(&random);
-        let own = random.below(SESSIONS) as u8;
+        let (mut buffers, focus) = arbitrary::buffers(&random);
         for _ in 0..random.range(1, 6) {
             let next = if random.percent(16) {
-                Next::Many(many_reads::on_buffers(&random, &buffers, own))
+                Next::Many(many_reads::on_buffers(&random, &buffers, focus))
             } else {
-                Next::One(arbitrary::call(&random, &buffers, own))
+                Next::One(arbitrary::call(&random, &buffers, focus))
             };
-            compare_next(&mut stores, case, &mut buffers, next, &mut numbers);
+            compare_next(&mut stores, case, &mut buffers, next, &mut counted);
             made += 1;
         }
         case += 1;
@@ -55,41 +68,50 @@ pub fn compare_calls(run: &Run) {
     for store in &stores {
         println!("reference beside {}: {} calls on {} sets of buffers", store.name(), made, case - run.from);
     }
-    print!("{}", numbers);
-    close(run, [numbers.missing(&REQUIRED), numbers.missing(&written_back::REQUIRED)].concat());
+    print!("{}", counted);
+    let Counted { numbers, look_ups } = counted;
+    close(run, [numbers.missing(&REQUIRED), numbers.missing(&written_back::REQUIRED), look_ups.missing_on_buffers()].concat());
 }
 
 /// `count` runs, each from a store that is set up.
 pub fn compare_runs(run: &Run) {
     let mut stores = linked_stores();
-    let mut numbers = Numbers::default();
+    let mut counted = Counted::default();
     let mut made = 0;
     for case in run.cases() {
         let random = Random::for_case(run.seed, case);
         let (shape, mut buffers) = runs::start(&random);
         for _ in 0..random.range(20, 150) {
             let next = runs::next(&random, &shape, &buffers);
-            compare_next(&mut stores, case, &mut buffers, next, &mut numbers);
+            compare_next(&mut stores, case, &mut buffers, next, &mut counted);
             made += 1;
         }
     }
     for store in &stores {
         println!("reference beside {}: {} calls in {} runs", store.name(), made, run.count);
     }
-    print!("{}", numbers);
-    close(run, [numbers.missing(&runs::REQUIRED), numbers.missing(&written_back::REQUIRED)].concat());
+    print!("{}", counted);
+    let Counted { numbers, look_ups } = counted;
+    close(run, [numbers.missing(&runs::REQUIRED), numbers.missing(&written_back::REQUIRED), look_ups.missing_in_runs()].concat());
 }
 
 /// One call or many reads on every store, counted.
-fn compare_next(stores: &mut [Box<dyn Store>], case: u64, buffers: &mut Buffers, next: Next, numbers: &mut Numbers) {
+fn compare_next(stores: &mut [Box<dyn Store>], case: u64, buffers: &mut Buffers, next: Next, counted: &mut Counted) {
+    let Counted { numbers, look_ups } = counted;
     match next {
         Next::One(call) => {
-            let kinds = written_back::kinds(buffers, call);
+            let (kinds, look_up) = (written_back::kinds(buffers, call), look_ups::of_call(buffers, call));
             let number = compare_call(stores, case, buffers, call).number;
             numbers.add(arbitrary::kind(call), number);
             kinds.into_iter().for_each(|kind| numbers.add(kind, number));
+            look_ups.add(look_up, number);
         }
-        Next::Many(many) => many_reads::count(numbers, &many, compare_many(stores, case, buffers, &many)),
+        Next::Many(many) => {
+            let look_up = look_ups::of_many(buffers, &many);
+            let answer = compare_many(stores, case, buffers, &many);
+            many_reads::count(numbers, &many, answer);
+            look_ups.add_many(look_up, answer);
+        }
     }
 }
 
