@@ -97,7 +97,7 @@ not-a-cell log m k j w p q = other-word log m (4 * k + j) w (λ a l e. omega ari
 -- ---- in the logs of all sessions
 
 module _ (logs : List ℕ) (s w : ℕ) where
-  -- a word before a session's log, or d words into it or past it
+  -- a word before a session's log; one in it and one past it, d words from its beginning
   before-log : (i : ℕ) → i < 128 * s → logIn (set logs i w) s ≡ logIn logs s
   unfolding logIn
   before-log i l = ap (take 128) (drop-set-lt (128 * s) logs i w l)
