@@ -1,8 +1,9 @@
 /* The same list of calls on the proved store and on the plain C store, in one process: answers compared, then nanoseconds a call.
    Under callgrind the counts of each call's function are read off the profile (benches/instructions).
    usage: store_bench WORKLOAD ENTRIES CELLS SESSIONS CYCLES
-   Every value that `commit` and `update` write is a change; `written-back` reads ENTRIES cells, writes the same values and seals, which commits.
-   `look-up-known-read`, `look-up-new-read` and the two of writes make that call in a log of ENTRIES entries.
+   Every value that `commit` and `update` write is a change; `written-back` reads ENTRIES cells, writes the same values and seals, which commits; `held` is
+   `commit` with holds in place of reads, so that every cell is advanced.
+   `look-up-known-read`, `look-up-new-read` and the same of writes and holds make that call in a log of ENTRIES entries.
    The workloads `many` and `singles` read a session's ENTRIES cells as new ones, by one call for many reads and by a loop of single reads, which counts
    as one call here; `many-known` and `singles-known` read them when they are in the log. */
 #include "plain_store.h"
@@ -13,7 +14,7 @@
 #include <string.h>
 #include <time.h>
 
-enum { BEGIN = 1, READ, WRITE, SEAL, ADVANCE, ABANDON, PEEK, MANY, SINGLES };
+enum { BEGIN = 1, READ, HOLD, WRITE, SEAL, ADVANCE, ABANDON, PEEK, MANY, SINGLES };
 enum { MAX_CALLS = 1 << 20 };
 
 static uint32_t calls[4 * MAX_CALLS];
@@ -78,6 +79,9 @@ __attribute__((noinline)) static uint32_t plain_run(size_t n)
             break;
         case READ:
             a = plain_read(&lent, sessions, (uint8_t)c[1], c[2]);
+            break;
+        case HOLD:
+            a = plain_hold(&lent, sessions, (uint8_t)c[1], c[2]);
             break;
         case WRITE:
             a = plain_write(&lent, sessions, (uint8_t)c[1], c[2], c[3]);
@@ -147,6 +151,9 @@ __attribute__((noinline)) static uint32_t proved_run(size_t n)
         case READ:
             r = rukkanei_read(*own, LENT, s, c[2]);
             break;
+        case HOLD:
+            r = rukkanei_hold(*own, LENT, s, c[2]);
+            break;
         case WRITE:
             r = rukkanei_write(*own, LENT, s, c[2], c[3]);
             break;
@@ -211,17 +218,17 @@ static void list_workload(uint32_t kind, int known, uint32_t entries, uint32_t n
     }
 }
 
-/* One call of a kind that looks a cell up in a log of ENTRIES entries, which calls of the other kind entered: each of its cells in turn, or a new one. */
-static void look_up_workload(int write, int known, uint32_t entries, uint32_t n, uint32_t sessions, uint32_t cycles)
+/* One call of this kind, which looks a cell up, in a log of ENTRIES entries, which calls of another kind entered: each of its cells in turn, or a new one. */
+static void look_up_workload(uint32_t kind, int known, uint32_t entries, uint32_t n, uint32_t sessions, uint32_t cycles)
 {
     for (uint32_t k = 0; k < cycles; k++) {
         for (uint32_t s = 0; s < sessions; s++) {
             add(BEGIN, s, 0, 0);
             for (uint32_t i = 0; i < entries; i++) {
-                add(write ? READ : WRITE, s, cell_of(s, i, n, sessions, entries + 1), k & 0xff);
+                add(kind == WRITE ? READ : WRITE, s, cell_of(s, i, n, sessions, entries + 1), k & 0xff);
             }
             for (uint32_t i = known ? 0 : entries; i < (known ? entries : entries + 1); i++) {
-                add(write ? WRITE : READ, s, cell_of(s, i, n, sessions, entries + 1), k & 0xff);
+                add(kind, s, cell_of(s, i, n, sessions, entries + 1), k & 0xff);
             }
             add(ABANDON, s, 0, 0);
         }
@@ -235,17 +242,20 @@ static void workload(const char *name, uint32_t entries, uint32_t n, uint32_t se
         return;
     }
     if (!strncmp(name, "look-up-", 8)) {
-        look_up_workload(strstr(name, "write") != NULL, strstr(name, "known") != NULL, entries, n, sessions, cycles);
+        uint32_t kind = strstr(name, "write") ? WRITE : strstr(name, "hold") ? HOLD : READ;
+        look_up_workload(kind, strstr(name, "known") != NULL, entries, n, sessions, cycles);
         return;
     }
+    int held = !strcmp(name, "held");
+    int commit = held || !strcmp(name, "commit");
     for (uint32_t k = 0; k < cycles; k++) {
         for (uint32_t s = 0; s < sessions; s++) {
             add(BEGIN, s, 0, 0);
         }
         for (uint32_t i = 0; i < entries; i++) {
             for (uint32_t s = 0; s < sessions; s++) {
-                int write = !strcmp(name, "write") || (!strcmp(name, "commit") && i % 2 == 1) || !strcmp(name, "update");
-                add(write ? WRITE : READ, s, cell_of(s, i, n, sessions, entries), k & 0xff);
+                int write = !strcmp(name, "write") || (commit && i % 2 == 1) || !strcmp(name, "update");
+                add(write ? WRITE : held ? HOLD : READ, s, cell_of(s, i, n, sessions, entries), k & 0xff);
             }
         }
         for (uint32_t i = 0; !strcmp(name, "written-back") && i < entries; i++) {
@@ -261,12 +271,12 @@ static void workload(const char *name, uint32_t entries, uint32_t n, uint32_t se
                 }
             }
         }
-        if (!strcmp(name, "commit") || !strcmp(name, "update") || !strcmp(name, "reads") || !strcmp(name, "written-back")) {
-            uint32_t changed = !strcmp(name, "commit") ? entries / 2 : !strcmp(name, "update") ? entries : 0;
+        if (commit || !strcmp(name, "update") || !strcmp(name, "reads") || !strcmp(name, "written-back")) {
+            uint32_t published = held || !strcmp(name, "update") ? entries : commit ? entries / 2 : 0;
             for (uint32_t s = 0; s < sessions; s++) {
                 add(SEAL, s, 0, 0);
             }
-            for (uint32_t i = 0; i < 3 * changed; i++) {
+            for (uint32_t i = 0; i < 3 * published; i++) {
                 for (uint32_t s = 0; s < sessions; s++) {
                     add(ADVANCE, s, 0, 0);
                 }

@@ -1,4 +1,4 @@
-/* Rukkanei for C99 and C++: the call fields and the store of document 01, with Papers 1 to 3 of document 02. One archive has every function of
+/* Rukkanei for C99 and C++: the call fields and the store of document 01, with Papers 1 to 4 of document 02. One archive has every function of
  * this file: link librukkanei.a, which scripts/install puts beside this header. It needs memcpy and memset of the C library at most.
  *
  * Every function answers for every number and every content of what it is lent. None keeps a pointer, allocates, or calls anything of yours.
@@ -23,9 +23,9 @@ extern "C" {
 
 /* Good answers. */
 #define RUKKANEI_DONE 100          /* done: of a field too */
-#define RUKKANEI_VALUE 101         /* read, and the value is beside it */
-#define RUKKANEI_SEALED 102        /* sealed, with changed cells to promote */
-#define RUKKANEI_MOVED 103         /* one changed cell further */
+#define RUKKANEI_VALUE 101         /* read or held, and the value is beside it */
+#define RUKKANEI_SEALED 102        /* sealed, with cells to publish */
+#define RUKKANEI_MOVED 103         /* one cell further, of those to publish */
 #define RUKKANEI_WAITING 104       /* others read the cell that is to be promoted */
 #define RUKKANEI_COMMITTED 105     /* the transaction is over, and the session idle */
 #define RUKKANEI_END_OF_FIELDS 106 /* no bytes are left at the place */
@@ -36,7 +36,7 @@ extern "C" {
 #define RUKKANEI_WRONG_LENGTHS 7   /* n outside 1 to 1,024, classes or locks not n long, logs not 2,048 words */
 #define RUKKANEI_NO_SUCH_SESSION 1 /* session above 15 */
 #define RUKKANEI_DAMAGED_RECORD 9  /* phase above 4; in phases 1 to 4 a count above 32 or an entered cell not below n;
-                                      in phases 2 to 4 no changed cell at or above next */
+                                      in phases 2 to 4 no cell to publish at or above next */
 #define RUKKANEI_WRONG_PHASE 2     /* the call does not fit the session's phase */
 #define RUKKANEI_NO_SUCH_CELL 3    /* cell not below n */
 #define RUKKANEI_NO_SUCH_CLASS 8   /* class above 15; at set-up also a value above its cap */
@@ -62,6 +62,7 @@ extern "C" {
  *   05    advance         session (1)                                                    4
  *   06    abandon         session (1)                                                    4
  *   08    starting cell   class (1), value (4)                                           8
+ *   09    hold            session (1), cell (2)                                          6
  *
  * No session, class, cell or value is judged here: the store does that. */
 #define RUKKANEI_TAG_BEGIN 0x01
@@ -71,6 +72,7 @@ extern "C" {
 #define RUKKANEI_TAG_ADVANCE 0x05
 #define RUKKANEI_TAG_ABANDON 0x06
 #define RUKKANEI_TAG_STARTING_CELL 0x08
+#define RUKKANEI_TAG_HOLD 0x09
 
 /* A target of this many bytes has room for any field. */
 #define RUKKANEI_FIELD_MAX 10
@@ -103,7 +105,7 @@ uint8_t rukkanei_field_read(const uint8_t *bytes, size_t bytes_len, size_t place
 uint8_t rukkanei_field_write(uint8_t *target, size_t target_len, uint8_t tag, uint8_t session, uint8_t cell_class, uint16_t cell,
                              uint32_t value, size_t *length);
 
-/* ---- The store: one function for each call of document 01, and one for many reads ----
+/* ---- The store: one function for each call of document 01, one for many reads and one for hold ----
  *
  * The caller lends every buffer and keeps it between calls. With n cells, n from 1 to 1,024:
  *
@@ -118,8 +120,10 @@ uint8_t rukkanei_field_write(uint8_t *target, size_t target_len, uint8_t tag, ui
  * reply; the caller puts it in its place, whatever the number. A record belongs to its session's number: what is promised of a list of calls is of
  * a list in which each session is passed the record that set-up or its own last call handed back.
  *
- * A session has changed a cell if it wrote it and the value that it wrote last is not the one that it found there when the cell was entered in its
- * log. From the seal on a cell that it wrote and did not change counts as read: writing back the value found collides with nobody.
+ * From its seal on a session has these cells to publish: those that it held, and those that it changed. It has changed a cell if it wrote it and the
+ * value that it wrote last is not the one that it found there when the cell was entered in its log. A cell that it held is published with the value
+ * that it wrote last, or, where it wrote none, with the one found. Any other cell in its log counts as read: writing back the value found collides
+ * with nobody.
  *
  * In a reply `number` is one of the answers above, and `value` is 0 except with 101. A refusal other than 6 leaves everything as before and hands the
  * record back as it came; 6 has rolled the session back. Of many reads this holds of the read that was refused: what the reads before it left stays.
@@ -175,8 +179,19 @@ rukkanei_reply rukkanei_read(rukkanei_session record, const uint32_t *values, si
                              uint16_t *readers, size_t readers_len, uint8_t *claimants, size_t claimants_len, uint8_t *exclusives,
                              size_t exclusives_len, uint32_t *logs, size_t logs_len, uint8_t session, uint32_t cell);
 
+/* A running session reads a cell and holds it: what rukkanei_read answers and leaves, and with 101 the cell is one to publish, written or not. A hold keeps
+ * nobody out: several sessions may hold a cell, and at their advances one gets it while the others wait, 104, or are rolled back, 6.
+ *
+ * Hold what you read where two sessions must not change cells crosswise, each by what it read of the other's. If each committed transaction that
+ * changed or held a cell changed or held every cell that it read before writing it, by many reads too, then all that they read, and the values
+ * whenever no session is in phase 3, are as if they had run whole, one after the other: by the answer 103 that promoted the last cell, or by the
+ * seal of one that had none to publish. */
+rukkanei_reply rukkanei_hold(rukkanei_session record, const uint32_t *values, size_t values_len, const uint8_t *classes, size_t classes_len,
+                             uint16_t *readers, size_t readers_len, uint8_t *claimants, size_t claimants_len, uint8_t *exclusives,
+                             size_t exclusives_len, uint32_t *logs, size_t logs_len, uint8_t session, uint32_t cell);
+
 /* A running session reads the cells of a list, 1 to 32 of them: what rukkanei_read would answer for each in turn, up to the first answer other than
- * 101. A cell that comes again is not entered again: its value is the log's.
+ * 101. A cell that comes again is not entered again: its value is the log's. None becomes held by this, and held cells stay held.
  *
  * Answers, in the order of the tests:
  *    15  the list is empty or longer than 32
@@ -194,17 +209,18 @@ rukkanei_read_many_reply rukkanei_read_many(rukkanei_session record, const uint3
                                             size_t exclusives_len, uint32_t *logs, size_t logs_len, uint8_t session, const uint32_t *cells,
                                             size_t cells_len, uint32_t *target, size_t target_len);
 
-/* A running session writes a cell, into its log, also where the value is the one found. 100; a new cell is locked and entered as by read. */
+/* A running session writes a cell, into its log, also where the value is the one found. 100; a new cell is locked and entered as by read, a held one
+   stays held. */
 rukkanei_reply rukkanei_write(rukkanei_session record, const uint32_t *values, size_t values_len, const uint8_t *classes, size_t classes_len,
                               uint16_t *readers, size_t readers_len, uint8_t *claimants, size_t claimants_len, uint8_t *exclusives,
                               size_t exclusives_len, uint32_t *logs, size_t logs_len, uint8_t session, uint32_t cell, uint32_t written);
 
-/* A running session takes its snapshot: it leaves the readers of each cell that it did not change. 105 where it changed none, and it is idle; else 102. */
+/* A running session takes its snapshot: it leaves the readers of every cell but those to publish. 105 where there are none, and it is idle; else 102. */
 rukkanei_reply rukkanei_seal(rukkanei_session record, const uint32_t *values, size_t values_len, const uint8_t *classes, size_t classes_len,
                              uint16_t *readers, size_t readers_len, const uint8_t *claimants, size_t claimants_len, const uint8_t *exclusives,
                              size_t exclusives_len, const uint32_t *logs, size_t logs_len, uint8_t session);
 
-/* A sealed session goes one changed cell further: promotes, publishes or releases it. 103; 104 while others read the cell; 105 at the end. */
+/* A sealed session goes one cell further, of those to publish: promotes, publishes or releases it. 103; 104 while others read the cell; 105 at the end. */
 rukkanei_reply rukkanei_advance(rukkanei_session record, uint32_t *values, size_t values_len, const uint8_t *classes, size_t classes_len,
                                 uint16_t *readers, size_t readers_len, uint8_t *claimants, size_t claimants_len, uint8_t *exclusives,
                                 size_t exclusives_len, const uint32_t *logs, size_t logs_len, uint8_t session);
@@ -226,8 +242,8 @@ rukkanei_reply rukkanei_peek_number(rukkanei_session record, const uint32_t *val
 #define RUKKANEI_IN_LOGS 2
 
 /* The word that a running session's peek shows, in place of the part that a peek hands back: the store's own, `values[*index]`, of a cell that
-   it has not written, or the log's own, `logs[*index]`, of one that it has, whatever the value. 0, with *index as before, where the peek is refused;
-   rukkanei_peek_number tells why. */
+   it has not written, held or not, or the log's own, `logs[*index]`, of one that it has, whatever the value. 0, with *index as before, where the
+   peek is refused; rukkanei_peek_number tells why. */
 uint8_t rukkanei_peek_place(rukkanei_session record, const uint32_t *values, size_t values_len, const uint8_t *classes, size_t classes_len,
                             const uint16_t *readers, size_t readers_len, const uint8_t *claimants, size_t claimants_len,
                             const uint8_t *exclusives, size_t exclusives_len, const uint32_t *logs, size_t logs_len, uint8_t session,

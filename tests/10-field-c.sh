@@ -32,7 +32,7 @@ if [ "$groups" -ne 5 ] || [ "$status" -ne 0 ]; then
 fi
 
 check "the comparison is clean under valgrind" valgrind -q --leak-check=full --error-exitcode=9 "$work/fields" "$seed" 5000
-for fault in 1 2 3 4 5 6; do
+for fault in 1 2 3 4 5 6 7; do
     check "the comparison notices fault $fault of what it expects" notices "$fault"
 done
 

@@ -26,7 +26,7 @@ flags() {
 
 exports() {
     grep -o '\brukkanei_[a-z_]*(' "$prefix/include/rukkanei.h" | tr -d '(' | sort >"$work/declared"
-    nm -g --defined-only "$prefix/lib/librukkanei.a" | awk '$2 == "T" { print $3 }' | sort | diff "$work/declared" - && [ "$(wc -l <"$work/declared")" -eq 12 ]
+    nm -g --defined-only "$prefix/lib/librukkanei.a" | awk '$2 == "T" { print $3 }' | sort | diff "$work/declared" - && [ "$(wc -l <"$work/declared")" -eq 13 ]
 }
 
 needs() {
@@ -39,7 +39,7 @@ alone() {
     "$@" $strict -I"$prefix/include" -c -o "$work/header.o" "$work/header.c"
 }
 
-# One C++ program with a field function, a call and many reads.
+# One C++ program with a field function, calls and many reads.
 from_cpp() {
     cat >"$work/begin.cpp" <<'END'
 #include "rukkanei.h"
@@ -54,8 +54,10 @@ int main() {
     rukkanei_reply begun = rukkanei_begin(up.sessions.records[15], values, 1, classes, 1, readers, 1, claimants, 1, exclusives, 1, logs, RUKKANEI_LOG_WORDS, 15);
     rukkanei_read_many_reply got = rukkanei_read_many(begun.session, values, 1, classes, 1, readers, 1, claimants, 1, exclusives, 1, logs, RUKKANEI_LOG_WORDS, 15,
                                                       cells, 2, target, 2);
+    rukkanei_reply held = rukkanei_hold(got.session, values, 1, classes, 1, readers, 1, claimants, 1, exclusives, 1, logs, RUKKANEI_LOG_WORDS, 15, 0);
     return up.number == RUKKANEI_DONE && begun.number == RUKKANEI_DONE && begun.session.phase == 1 &&
            got.number == RUKKANEI_VALUE && got.count == 2 && got.session.count == 1 && target[0] == 3 && target[1] == 3 &&
+           held.number == RUKKANEI_VALUE && held.value == 3 && held.session.count == 1 && logs[128 * 15 + 3] == 2 &&
            rukkanei_field_write(field, sizeof field, RUKKANEI_TAG_BEGIN, 15, 0, 0, 0, &length) == RUKKANEI_DONE && length == 4 ? 0 : 1;
 }
 END
@@ -72,7 +74,7 @@ same_output() {
 
 check "it is installed" bash scripts/install "$prefix"
 check "three files, and the header as it stands" files
-check "the archive has the twelve functions that the header declares, and no other" exports
+check "the archive has the thirteen functions that the header declares, and no other" exports
 check "the archive needs nothing but memcpy and memset" needs
 check "the header stands alone in C99" alone gcc -std=c99
 check "the header stands alone in C++" alone g++ -x c++ -std=c++98

@@ -7,7 +7,7 @@ cd "$(dirname "$0")/.."
 seed=${SEED:-1}
 work=$PWD/target/reference-tests
 . tests/check.sh
-examples="listing skew mixed written_back"
+examples="listing skew mixed written_back hold"
 
 # refused STATUS WORDS COMMAND...: the command ends with this status, writes nothing, and says these words on standard error.
 refused() {
@@ -25,6 +25,15 @@ example() {
 
 decoded() {
     tools/calls encode <"examples/$1.txt" | tools/calls decode | diff <(sed 's/#.*//; /^ *$/d' "examples/$1.txt") -
+}
+
+# The calls of an example up to session 1's first seal.
+opening() {
+    sed '/^#/d; /^cell/d; /^seal 1$/q' "examples/$1.txt"
+}
+
+skew_with_holds() {
+    diff <(opening skew | sed 's/^read/hold/') <(opening hold)
 }
 
 # The proved field functions in the place of the plain ones.
@@ -71,14 +80,15 @@ hollow() {
 
 # The tool follows random replays to their end, and by that tells each value found.
 random_pictures() {
-    local file count=0
+    local file dropped=0 held=0
     rm -rf "$work/random" && mkdir "$work/random" && "$compare" write --to "$work/random" --seed "$seed" --count 80 || return 1
     for file in "$work/random"/*.bin; do
         "$replay_reference" <"$file" >"$work/random.out" && tools/timeline "$file" "$work/random.out" >"$work/random.svg" || { echo "$file"; return 1; }
-        count=$((count + $(grep -c '>dropped</text>' "$work/random.svg")))
+        dropped=$((dropped + $(grep -c '>dropped</text>' "$work/random.svg")))
+        held=$((held + $(grep -c '>held</text>' "$work/random.svg")))
     done
-    echo "$count dropped writes"
-    [ "$count" -gt 0 ]
+    echo "$dropped dropped writes, $held holds"
+    [ "$dropped" -gt 0 ] && [ "$held" -gt 0 ]
 }
 
 # foreign_output NAME EDIT: the time line of an example's input with an edited output.
@@ -95,10 +105,12 @@ for name in $examples; do
     check "$name on the plain C replay" example "$name" "$plain_replay"
     check "$name to fields and back" decoded "$name"
 done
+check "hold begins as skew does, with a hold for each read" skew_with_holds
 
 echo "-- the text form"
 check "an unknown word" refused 1 "line 2: unknown word 'bogus'" encode_text 'begin 0\nbogus 1\n'
 check "a number missing" refused 1 "line 1: read takes 2 numbers, not 1" encode_text 'read 0\nbegin 0\n'
+check "a number missing after hold" refused 1 "line 1: hold takes 2 numbers, not 1" encode_text 'hold 0\n'
 check "a number too many" refused 1 "line 3: seal takes 1 number, not 2" encode_text '# one\n\nseal 0 0\n'
 check "a cell too large" refused 1 "line 1: cell '65536' is not a number from 0 to 65535" encode_text 'read 0 65536\n'
 check "a figure too large" refused 1 "line 1: figure '4294967296' is not a number" encode_text 'write 0 0 4294967296\n'
@@ -124,11 +136,19 @@ check "dropped writes are counted" shows written_back "3 cells, 40 calls, 7 tran
 check "dropped writes are marked, and no others" marks written_back "dropped" "5 6 14 16 17 39"
 check "a dropped write is a hollow square" hollow written_back 7
 check "commits go by the cells that are changed" marks written_back "commit" "7 8 24 25 26 35 40"
-check "a seal that drops nothing is refused" refused 1 "call 7 is answered 102 with 0 cells changed" foreign_output written_back 's/^7 105$/7 102/'
-check "a seal that drops a change is refused" refused 1 "call 22 is answered 105 with 1 cell changed" foreign_output written_back 's/^22 102$/22 105/'
-check "an advance for a dropped write is refused" refused 1 "call 30 is answered 103, advance 3 of 1 cell changed" \
+check "a seal that drops nothing is refused" refused 1 "call 7 is answered 102 with 0 cells to publish" foreign_output written_back 's/^7 105$/7 102/'
+check "a seal that drops a change is refused" refused 1 "call 22 is answered 105 with 1 cell to publish" foreign_output written_back 's/^22 102$/22 105/'
+check "an advance for a dropped write is refused" refused 1 "call 30 is answered 103, advance 3 of 1 cell to publish" \
     foreign_output written_back 's/^30 105$/30 103/'
-check "an end with a cell left is refused" refused 1 "call 28 is answered 105, advance 2 of 1 cell changed" foreign_output written_back 's/^28 103$/28 105/'
+check "an end with a cell left is refused" refused 1 "call 28 is answered 105, advance 2 of 1 cell to publish" foreign_output written_back 's/^28 103$/28 105/'
+check "holds are marked" marks hold "held" "3 4 5 6 20 24 40"
+check "a write back to a held cell is not dropped" marks hold "dropped" "22"
+check "a held cell is stored with the value found" marks hold "= 5" "16"
+check "commits go by the cells that are held or changed" marks hold "commit" "14 32 34 42"
+check "holds are counted as calls, and no write of theirs as dropped" shows hold "3 cells, 44 calls, 6 transactions, 4 committed, 2 rolled back, 2 waits, 1 write dropped"
+check "a hold of a value that the cell has not is refused" refused 1 "call 4 reads 4 where the cell has 5" foreign_output hold 's/^4 101 5$/4 101 4/'
+check "a seal that lets a held cell go is refused" refused 1 "call 41 is answered 105 with 1 cell to publish" foreign_output hold 's/^41 102$/41 105/'
+check "an end with a held cell left is refused" refused 1 "call 15 is answered 105, advance 3 of 2 cells to publish" foreign_output hold 's/^15 103$/15 105/'
 check "random replays" random_pictures
 
 echo "-- the proved fields, seed $seed"

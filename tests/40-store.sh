@@ -36,12 +36,12 @@ corpus() {
 # The lists of the benchmark: the same answers and buffers on the proved store and on plain C.
 benchmark() {
     bash benches/build || return 1
-    for list in known reads write commit update written-back; do
+    for list in known reads write commit update written-back held; do
         for entries in 2 32; do
             target/bench/store_bench $list $entries 1024 16 20 || return 1
         done
     done
-    for list in look-up-known-read look-up-new-read look-up-known-write look-up-new-write many singles many-known singles-known; do
+    for list in look-up-{known,new}-{read,hold,write} many singles many-known singles-known; do
         for entries in 2 8 32; do
             target/bench/store_bench $list $entries 1024 16 20 || return 1
         done
@@ -55,7 +55,7 @@ check "the replay on the fuzzer's corpus" shown corpus
 check "the proved replay on random files" shown "$compare" replays --program "$PWD/target/bin/replay" --mode spawn --seed "$seed" --count "$replays"
 
 # What stands on the archive for C comes last: it may still be in the making.
-for name in listing skew mixed written_back; do
+for name in listing skew mixed written_back hold; do
     check "the replay of $name" example $name
 done
 check "the calls for C are built" calls_for_c

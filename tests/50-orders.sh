@@ -26,6 +26,9 @@ check "cell n-1 reads, cell n is 3" prints "$work/edge.txt" "$work/edge.expected
 { echo "1 100"; for i in $(seq 2 33); do echo "$i 101 3"; done; echo "34 5"; echo "35 101 3"; } >"$work/full.expected"
 check "a 32nd new cell reads, a 33rd is 5, a known one still reads" prints "$work/full.txt" "$work/full.expected" 35
 
+sed 's/^read/hold/' "$work/full.txt" >"$work/full_of_holds.txt"
+check "a 32nd new cell is held, a 33rd is 5, a known one is still held" prints "$work/full_of_holds.txt" "$work/full.expected" 35
+
 { cells 1024; printf 'begin 0\nread 0 1023\nread 0 1024\n'; } >"$work/most.txt"
 { printf '1 100\n2 101 3\n3 3\n'; for i in $(seq 0 1023); do echo "c $i 3"; done; } >"$work/most.expected"
 check "n of 1,024 is set up" prints "$work/most.txt" "$work/most.expected"
@@ -39,7 +42,7 @@ check "n of 1,025 is 7" prints "$work/many.txt" "$work/seven.expected"
 odd_buffers() {
     gcc -Wall -Wextra -Werror -std=c99 -O2 -Iinclude tests/c/odd_buffers.c "$(bash scripts/archive)" -o "$work/odd" && "$work/odd" | diff tests/c/odd_buffers.expected -
 }
-check "numbers 9 and 14, values written back, many reads, odd buffers and odd records" odd_buffers
+check "numbers 9 and 14, values written back, holds, many reads, odd buffers and odd records" odd_buffers
 check "the same, clean under valgrind" valgrind -q --error-exitcode=9 "$work/odd"
 
 finish

@@ -18,6 +18,7 @@ static size_t body_of(uint8_t tag)
     case TAG_ABANDON:
         return 1;
     case TAG_READ:
+    case TAG_HOLD:
         return 3;
     case TAG_CELL:
         return 5;
@@ -85,6 +86,7 @@ field_reading read_field(const uint8_t *bytes, size_t len, size_t place)
         reading.field.value = little_endian(at + 3, 4);
         /* fall through */
     case TAG_READ:
+    case TAG_HOLD:
         reading.field.cell = (uint16_t)little_endian(at + 1, 2);
         /* fall through */
     default:
@@ -112,7 +114,7 @@ field_writing write_field(uint8_t *target, size_t len, call_field field)
     } else {
         target[3] = field.session;
     }
-    if (field.tag == TAG_READ || field.tag == TAG_WRITE) {
+    if (field.tag == TAG_READ || field.tag == TAG_HOLD || field.tag == TAG_WRITE) {
         put_little_endian(target + 4, 2, field.cell);
     }
     if (field.tag == TAG_WRITE) {

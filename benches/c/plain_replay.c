@@ -1,4 +1,4 @@
-/* The replay of document 01 in plain C over plain_store: the baseline of the proved replay's speed.
+/* The replay of document 01 and Paper 4 of document 02 in plain C over plain_store: the baseline of the proved replay's speed.
    With --batch it takes one framed input after the other (four little-endian bytes of length, then the bytes), and frames its outputs. */
 #include "plain_store.h"
 
@@ -12,9 +12,10 @@ enum {
     MAX_OUTPUT = MAX_INPUT / 4 * 22 + PLAIN_MAX_CELLS * 18 + 64
 };
 
-enum { HEAD = 3, BEGIN = 1, READ = 2, WRITE = 3, SEAL = 4, ADVANCE = 5, ABANDON = 6, STARTING_CELL = 8 };
+enum { HEAD = 3, BEGIN = 1, READ = 2, WRITE = 3, SEAL = 4, ADVANCE = 5, ABANDON = 6, STARTING_CELL = 8, HOLD = 9 };
 
-static const uint8_t body_length[9] = {[BEGIN] = 1, [READ] = 3, [WRITE] = 7, [SEAL] = 1, [ADVANCE] = 1, [ABANDON] = 1, [STARTING_CELL] = 5};
+static const uint8_t body_length[10] = {[BEGIN] = 1,   [READ] = 3,    [WRITE] = 7,         [SEAL] = 1,
+                                        [ADVANCE] = 1, [ABANDON] = 1, [STARTING_CELL] = 5, [HOLD] = 3};
 
 static uint8_t input[MAX_INPUT + 1];
 static char output[MAX_OUTPUT];
@@ -87,6 +88,8 @@ static plain_answer call(const plain_lent *lent, uint8_t tag, const uint8_t *bod
         return plain_begin(lent, sessions, session);
     case READ:
         return plain_read(lent, sessions, session, load16(body + 1));
+    case HOLD:
+        return plain_hold(lent, sessions, session, load16(body + 1));
     case WRITE:
         return plain_write(lent, sessions, session, load16(body + 1), load32(body + 3));
     case SEAL:

@@ -1,11 +1,14 @@
-/* A plain C store with the steps of document 01 and Papers 1 to 3 of document 02. Every call judges its lent buffers and its session's record anew. */
+/* A plain C store with the steps of document 01 and Papers 1 to 4 of document 02. Every call judges its lent buffers and its session's record anew. */
 #include "plain_store.h"
 
 #include <string.h>
 
 enum { IDLE, RUNNING, PROMOTING, PUBLISHING, RELEASING };
 
-enum { CELL, SNAPSHOT_VALUE, CURRENT_VALUE, DIRTY };
+enum { CELL, SNAPSHOT_VALUE, CURRENT_VALUE, MARKS };
+
+/* The marks of an entry; bits above them stand for nothing, and go where a mark is set. */
+enum { DIRTY = 1, HELD = 2 };
 
 static const uint32_t caps[16] = {1, 6, 8, 10, 12, 15, 18, 21, 24, 27, 30, 36, 42, 48, 60, 4294967295u};
 
@@ -47,10 +50,12 @@ static inline uint32_t find(const uint32_t *log, uint32_t count, uint32_t cell)
     return i;
 }
 
-/* Whether an entry counts as written from the seal on: it is dirty, and its value is not the one found. Not `&&`: a branch for each costs more. */
+/* Whether an entry counts as written from the seal on: it is held, or it is dirty and its value is not the one found. Not `&&`: a branch for each
+   costs more. */
 static inline int publishes(const uint32_t *entry)
 {
-    return (entry[DIRTY] & 1) & (entry[CURRENT_VALUE] != entry[SNAPSHOT_VALUE]);
+    uint32_t changed = entry[CURRENT_VALUE] != entry[SNAPSHOT_VALUE];
+    return (entry[MARKS] & (HELD | DIRTY * changed)) != 0;
 }
 
 /* What an advance handles: the entry of the lowest cell not below next that publishes, and whether a higher one is left. */
@@ -189,7 +194,7 @@ static inline uint32_t enter_at(const plain_lent *lent, plain_session *record, u
     (*entry)[CELL] = cell;
     (*entry)[SNAPSHOT_VALUE] = value;
     (*entry)[CURRENT_VALUE] = value;
-    (*entry)[DIRTY] = 0;
+    (*entry)[MARKS] = 0;
     record->count++;
     return 0;
 }
@@ -234,18 +239,34 @@ plain_answer plain_begin(const plain_lent *lent, plain_session *sessions, uint8_
     return answer(100);
 }
 
-plain_answer plain_read(const plain_lent *lent, plain_session *sessions, uint8_t session, uint32_t cell)
+/* A read; with 101 `entry` becomes the cell's entry. */
+static inline plain_answer read_entry(const plain_lent *lent, plain_session *sessions, uint8_t session, uint32_t cell, uint32_t **entry)
 {
     uint32_t refused = admit_cell(lent, sessions, session, cell);
     if (refused) {
         return answer(refused);
     }
-    uint32_t *entry;
-    refused = enter(lent, &sessions[session], session, cell, &entry);
+    refused = enter(lent, &sessions[session], session, cell, entry);
     if (refused) {
         return answer(refused);
     }
-    plain_answer found = {101, entry[CURRENT_VALUE]};
+    plain_answer found = {101, (*entry)[CURRENT_VALUE]};
+    return found;
+}
+
+plain_answer plain_read(const plain_lent *lent, plain_session *sessions, uint8_t session, uint32_t cell)
+{
+    uint32_t *entry;
+    return read_entry(lent, sessions, session, cell, &entry);
+}
+
+plain_answer plain_hold(const plain_lent *lent, plain_session *sessions, uint8_t session, uint32_t cell)
+{
+    uint32_t *entry = NULL;
+    plain_answer found = read_entry(lent, sessions, session, cell, &entry);
+    if (found.number == 101) {
+        entry[MARKS] = HELD | (entry[MARKS] & DIRTY);
+    }
     return found;
 }
 
@@ -313,7 +334,7 @@ plain_answer plain_write(const plain_lent *lent, plain_session *sessions, uint8_
         return answer(refused);
     }
     entry[CURRENT_VALUE] = value;
-    entry[DIRTY] = 1;
+    entry[MARKS] = DIRTY | (entry[MARKS] & HELD);
     return answer(100);
 }
 
@@ -431,12 +452,12 @@ plain_answer plain_peek_number(const plain_lent *lent, const plain_session *sess
 
 plain_part plain_peek(const plain_lent *lent, const plain_session *sessions, uint8_t session, uint32_t cell)
 {
-    const uint32_t *entry;
+    const uint32_t *entry = NULL;
     plain_part part = {NULL, 0};
     if (judge_peek(lent, sessions, session, cell, &entry) != 100) {
         return part;
     }
-    part.words = entry[DIRTY] & 1 ? &entry[CURRENT_VALUE] : &lent->values[cell];
+    part.words = entry[MARKS] & DIRTY ? &entry[CURRENT_VALUE] : &lent->values[cell];
     part.len = 1;
     return part;
 }

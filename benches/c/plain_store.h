@@ -1,4 +1,4 @@
-/* A plain C store with the steps of document 01 and Papers 1 to 3 of document 02, on lent buffers: the baseline of the proved store's speed. */
+/* A plain C store with the steps of document 01 and Papers 1 to 4 of document 02, on lent buffers: the baseline of the proved store's speed. */
 #ifndef PLAIN_STORE_H
 #define PLAIN_STORE_H
 
@@ -65,6 +65,7 @@ const char *store_name(void);
 plain_answer plain_set_up(const plain_lent *lent, plain_session *sessions);
 plain_answer plain_begin(const plain_lent *lent, plain_session *sessions, uint8_t session);
 plain_answer plain_read(const plain_lent *lent, plain_session *sessions, uint8_t session, uint32_t cell);
+plain_answer plain_hold(const plain_lent *lent, plain_session *sessions, uint8_t session, uint32_t cell);
 plain_many_answer plain_read_many(const plain_lent *lent, plain_session *sessions, uint8_t session, const uint32_t *cells, size_t cells_len,
                                   uint32_t *target, size_t target_len);
 plain_answer plain_write(const plain_lent *lent, plain_session *sessions, uint8_t session, uint32_t cell, uint32_t value);

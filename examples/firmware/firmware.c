@@ -1,6 +1,6 @@
 /* A start for a maker's firmware. First the fields: it writes a begin, two reads, a write and a seal into one buffer, reads them back and prints
- * them, and shows what each refusal looks like. Then the store: it carries out one transaction, call for call as fields bring them. Last a tablet's
- * round: many cells read in one call. Build it with
+ * them, and shows what each refusal looks like. Then the store: it carries out one transaction, call for call as fields bring them. Then a tablet's
+ * round: many cells read in one call. Last two desks that move shares crosswise, and hold what they read. Build it with
  *
  *   bash scripts/install PREFIX
  *   export PKG_CONFIG_PATH=PREFIX/lib/pkgconfig
@@ -25,6 +25,8 @@ static const char *kind(uint8_t tag) {
         return "begin";
     case RUKKANEI_TAG_READ:
         return "read";
+    case RUKKANEI_TAG_HOLD:
+        return "hold";
     case RUKKANEI_TAG_WRITE:
         return "write";
     case RUKKANEI_TAG_SEAL:
@@ -76,7 +78,7 @@ static void print_call(const struct call *c) {
         printf(" class %u value %" PRIu32, c->cell_class, c->value);
     else
         printf(" session %u", c->session);
-    if (c->tag == RUKKANEI_TAG_READ || c->tag == RUKKANEI_TAG_WRITE)
+    if (c->tag == RUKKANEI_TAG_READ || c->tag == RUKKANEI_TAG_HOLD || c->tag == RUKKANEI_TAG_WRITE)
         printf(" cell %u", c->cell);
     if (c->tag == RUKKANEI_TAG_WRITE)
         printf(" value %" PRIu32, c->value);
@@ -132,6 +134,9 @@ static rukkanei_reply carry_out(const struct call *c) {
         break;
     case RUKKANEI_TAG_READ:
         reply = rukkanei_read(*own, LENT, c->session, c->cell);
+        break;
+    case RUKKANEI_TAG_HOLD:
+        reply = rukkanei_hold(*own, LENT, c->session, c->cell);
         break;
     case RUKKANEI_TAG_WRITE:
         reply = rukkanei_write(*own, LENT, c->session, c->cell, c->value);
@@ -218,6 +223,31 @@ static int draw_round(void) {
     return wrong;
 }
 
+/* A desk begins, holds the share of one cell and changes that of another. */
+static int move_share(uint8_t session, uint16_t held, uint16_t cell, uint32_t value) {
+    int wrong = carried((struct call){RUKKANEI_TAG_BEGIN, session, 0, 0, 0}, RUKKANEI_DONE);
+    wrong += carried((struct call){RUKKANEI_TAG_HOLD, session, 0, held, 0}, RUKKANEI_VALUE);
+    wrong += carried((struct call){RUKKANEI_TAG_WRITE, session, 0, cell, value}, RUKKANEI_DONE);
+    return wrong;
+}
+
+/* Two desks, sessions 4 and 5: each reads the share that the other changes. With holds in place of reads the second that advances is rolled back, and
+ * would begin again; the first has two cells to publish, the held one with the value that it found. */
+static int move_shares(void) {
+    int wrong = move_share(4, 0, 1, 7) + move_share(5, 1, 0, 2);
+
+    wrong += carried((struct call){RUKKANEI_TAG_SEAL, 4, 0, 0, 0}, RUKKANEI_SEALED);
+    wrong += carried((struct call){RUKKANEI_TAG_SEAL, 5, 0, 0, 0}, RUKKANEI_SEALED);
+    wrong += carried((struct call){RUKKANEI_TAG_ADVANCE, 4, 0, 0, 0}, RUKKANEI_WAITING);
+    wrong += carried((struct call){RUKKANEI_TAG_ADVANCE, 5, 0, 0, 0}, RUKKANEI_CONFLICT);
+    for (int i = 0; i < 5; i++)
+        wrong += carried((struct call){RUKKANEI_TAG_ADVANCE, 4, 0, 0, 0}, RUKKANEI_MOVED);
+    wrong += carried((struct call){RUKKANEI_TAG_ADVANCE, 4, 0, 0, 0}, RUKKANEI_COMMITTED);
+    for (size_t i = 0; i < 2; i++)
+        printf("cell %zu: %" PRIu32 "\n", i, values[i]);
+    return wrong;
+}
+
 int main(void) {
     static const struct call calls[] = {
         {RUKKANEI_TAG_BEGIN, 2, 0, 0, 0}, {RUKKANEI_TAG_READ, 2, 0, 5, 0},  {RUKKANEI_TAG_READ, 2, 0, 300, 0},
@@ -258,5 +288,6 @@ int main(void) {
 
     wrong += transact();
     wrong += draw_round();
+    wrong += move_shares();
     return wrong != 0;
 }

@@ -10,10 +10,11 @@ use std::collections::BTreeMap;
 use std::fmt;
 
 /// The numbers that each call must be seen to answer over a run on arbitrary buffers.
-pub const REQUIRED: [(&str, &[u32]); 17] = [
+pub const REQUIRED: [(&str, &[u32]); 18] = [
     ("set-up", &[7, 8, 100]),
     ("begin", &[1, 2, 7, 9, 100]),
     ("read", &[1, 2, 3, 5, 6, 7, 9, 101]),
+    ("hold", &[1, 2, 3, 5, 6, 7, 9, 101]),
     (MANY, &[1, 2, 3, 5, 6, 7, 9, 13, 15, 101]),
     (MANY_AFTER_A_VALUE, &[3, 5, 6]),
     (MANY_AND_A_CELL_AGAIN, &[3, 5, 6, 101]),
@@ -70,6 +71,7 @@ pub fn kind(call: Call) -> &'static str {
         Call::SetUp => "set-up",
         Call::Begin { .. } => "begin",
         Call::Read { .. } => "read",
+        Call::Hold { .. } => "hold",
         Call::Write { .. } => "write",
         Call::Seal { .. } => "seal",
         Call::Advance { .. } => "advance",
@@ -200,15 +202,16 @@ pub fn call(random: &Random, buffers: &Buffers, focus: Focus) -> Call {
     let found = buffers.found(own, cell).unwrap_or(0);
     let value = random.pick(&[0, 1, cap, cap.wrapping_add(1), random.word(), found]);
     let running = buffers.sessions[own as usize].phase == RUNNING;
-    let weights = if running { [1, 5, 26, 30, 10, 6, 3, 19] } else { [2, 8, 18, 20, 8, 32, 4, 8] };
+    let weights = if running { [1, 4, 20, 20, 25, 9, 5, 3, 13] } else { [2, 8, 13, 13, 14, 8, 30, 4, 8] };
     match random.weighted(&weights) {
         0 => Call::SetUp,
         1 => Call::Begin { session },
         2 => Call::Read { session, cell },
-        3 => Call::Write { session, cell, value },
-        4 => Call::Seal { session },
-        5 => Call::Advance { session },
-        6 => Call::Abandon { session },
+        3 => Call::Hold { session, cell },
+        4 => Call::Write { session, cell, value },
+        5 => Call::Seal { session },
+        6 => Call::Advance { session },
+        7 => Call::Abandon { session },
         _ => Call::Peek { session, cell },
     }
 }
@@ -216,7 +219,7 @@ pub fn call(random: &Random, buffers: &Buffers, focus: Focus) -> Call {
 /// Any field to write, and a target of any length and contents.
 pub fn field(random: &Random) -> (Field, Vec<u8>) {
     let field = Field {
-        tag: random.pick(&[1, 2, 3, 4, 5, 6, 8, random.byte()]),
+        tag: random.pick(&[1, 2, 3, 4, 5, 6, 8, 9, random.byte()]),
         session: random.byte(),
         cell: random.word() as u16,
         class: random.byte(),
@@ -231,7 +234,7 @@ pub fn bytes(random: &Random) -> (Vec<u8>, usize) {
     let mut bytes: Vec<u8> = (0..random.below(12)).map(|_| random.byte()).collect();
     let place = random.below(bytes.len() + 3);
     if let Some(tag) = bytes.get_mut(place) {
-        *tag = random.pick(&[1, 2, 3, 4, 5, 6, 8, *tag]);
+        *tag = random.pick(&[1, 2, 3, 4, 5, 6, 8, 9, *tag]);
         let own = crate::field::body_length(*tag).unwrap_or(1) as u8;
         if random.percent(80) && place + 2 < bytes.len() {
             bytes[place + 1] = own;

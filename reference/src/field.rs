@@ -1,4 +1,4 @@
-//! The call fields: document 01, 'Call fields' and the rows 10 to 13 of 'When a call is turned down'.
+//! The call fields: document 01, 'Call fields' and the rows 10 to 13 of 'When a call is turned down', and the tag of document 02, Paper 4.
 
 pub const BEGIN: u8 = 0x01;
 pub const READ: u8 = 0x02;
@@ -7,6 +7,7 @@ pub const SEAL: u8 = 0x04;
 pub const ADVANCE: u8 = 0x05;
 pub const ABANDON: u8 = 0x06;
 pub const CELL: u8 = 0x08;
+pub const HOLD: u8 = 0x09;
 
 pub const GOOD: u32 = 100;
 pub const CUT_SHORT: u32 = 10;
@@ -41,11 +42,16 @@ pub struct Reading {
 pub fn body_length(tag: u8) -> Option<usize> {
     match tag {
         BEGIN | SEAL | ADVANCE | ABANDON => Some(1),
-        READ => Some(3),
+        READ | HOLD => Some(3),
         WRITE => Some(7),
         CELL => Some(5),
         _ => None,
     }
+}
+
+/// Whether a tag's field carries a cell's number.
+pub fn has_cell(tag: u8) -> bool {
+    matches!(tag, READ | HOLD | WRITE)
 }
 
 /// Reads the field whose first byte is at `place`; past the last byte there is none.
@@ -76,7 +82,7 @@ pub fn read_field(bytes: &[u8], place: usize) -> Reading {
     } else {
         field.session = body[0];
     }
-    if tag == READ || tag == WRITE {
+    if has_cell(tag) {
         field.cell = u16::from_le_bytes([body[1], body[2]]);
     }
     if tag == WRITE || tag == CELL {
@@ -95,7 +101,7 @@ pub fn write_field(target: &mut [u8], field: &Field) -> (u32, usize) {
     };
     bytes.extend_from_slice(&(own as u16).to_le_bytes());
     bytes.push(if field.tag == CELL { field.class } else { field.session });
-    if field.tag == READ || field.tag == WRITE {
+    if has_cell(field.tag) {
         bytes.extend_from_slice(&field.cell.to_le_bytes());
     }
     if field.tag == WRITE || field.tag == CELL {

@@ -14,6 +14,8 @@ pub struct Shape {
     pub sweeping: bool,
     /// Of a hundred writes, those that put back the value found.
     pub back: usize,
+    /// Of a hundred reads, those that hold.
+    pub held: usize,
 }
 
 /// The input of one case.
@@ -73,6 +75,7 @@ pub fn set_up(random: &Random, bytes: &mut Vec<u8>) -> (Shape, Buffers) {
         hot: random.range(1, n.min(4)),
         sweeping,
         back: random.pick(&[2, 10, 40, 85]),
+        held: random.pick(&[0, 10, 40, 80]),
     };
     (shape, buffers)
 }
@@ -117,7 +120,10 @@ pub fn next_call(random: &Random, shape: &Shape, buffers: &Buffers) -> Field {
         RUNNING => [2, 38, 36, 19, 2, 3],
         _ => [1, 2, 2, 1, 91, 3],
     };
-    let tag = tags[random.weighted(&weights)];
+    let tag = match tags[random.weighted(&weights)] {
+        field::READ if random.percent(shape.held) => field::HOLD,
+        tag => tag,
+    };
     let cell = choose_cell(random, shape, buffers, session);
     let value = if random.percent(shape.back) { buffers.found(session, cell as u32) } else { None };
     let value = value.unwrap_or_else(|| choose_value(random, buffers, cell));
@@ -127,7 +133,7 @@ pub fn next_call(random: &Random, shape: &Shape, buffers: &Buffers) -> Field {
 /// A field with the numbers that its tag carries.
 fn carried(tag: u8, session: u8, cell: u16, value: u32) -> Field {
     match tag {
-        field::READ => Field { tag, session, cell, ..Field::default() },
+        field::READ | field::HOLD => Field { tag, session, cell, ..Field::default() },
         field::WRITE => Field { tag, session, cell, value, ..Field::default() },
         _ => Field { tag, session, ..Field::default() },
     }
@@ -160,7 +166,7 @@ fn choose_value(random: &Random, buffers: &Buffers, cell: u16) -> u32 {
 
 /// Any call, with any session byte.
 fn any_call(random: &Random, buffers: &Buffers) -> Field {
-    let tag = random.pick(&[field::BEGIN, field::READ, field::WRITE, field::SEAL, field::ADVANCE, field::ABANDON]);
+    let tag = random.pick(&[field::BEGIN, field::READ, field::HOLD, field::WRITE, field::SEAL, field::ADVANCE, field::ABANDON]);
     let session = random.pick(&[15, 16, 17, 255, random.byte()]);
     let cell = random.below(buffers.values.len() + 1) as u16;
     carried(tag, session, cell, random.word())
@@ -222,7 +228,7 @@ fn damage(random: &Random, bytes: &mut Vec<u8>) {
             bytes.remove(at);
         }
         4 if at < bytes.len() => bytes[at] = random.byte(),
-        5 if field_start < bytes.len() => bytes[field_start] = random.pick(&[0, 7, 9, 255, 8, random.byte()]),
+        5 if field_start < bytes.len() => bytes[field_start] = random.pick(&[0, 7, 10, 255, 8, random.byte()]),
         6 if field_start + 2 < bytes.len() => {
             let which = random.range(1, 2);
             bytes[field_start + which] = random.byte();

@@ -1,5 +1,5 @@
 //! What the caller lends, the session records, the calls and their answers: document 01, 'What the caller lends' and the numbers, and
-//! document 02, Paper 1.
+//! document 02, Papers 1 and 4.
 
 /// The number of sessions.
 pub const SESSIONS: usize = 16;
@@ -7,7 +7,7 @@ pub const SESSIONS: usize = 16;
 pub const MAX_CELLS: usize = 1024;
 /// The most entries in one session's log.
 pub const MAX_ENTRIES: usize = 32;
-/// Words of one entry: cell, snapshot value (figure found), current value (present figure), dirty (written).
+/// Words of one entry: cell, snapshot value (figure found), current value (present figure), marks: 1 for dirty (written) and 2 for held.
 pub const ENTRY_WORDS: usize = 4;
 /// Words of one session's log.
 pub const SESSION_WORDS: usize = 128;
@@ -85,6 +85,7 @@ pub enum Call {
     SetUp,
     Begin { session: u8 },
     Read { session: u8, cell: u32 },
+    Hold { session: u8, cell: u32 },
     Write { session: u8, cell: u32, value: u32 },
     Seal { session: u8 },
     Advance { session: u8 },
@@ -100,7 +101,8 @@ impl Call {
             Call::Begin { session } | Call::Seal { session } | Call::Advance { session } | Call::Abandon { session } => {
                 Some(session)
             }
-            Call::Read { session, .. } | Call::Write { session, .. } | Call::Peek { session, .. } => Some(session),
+            Call::Read { session, .. } | Call::Hold { session, .. } => Some(session),
+            Call::Write { session, .. } | Call::Peek { session, .. } => Some(session),
         }
     }
 }

@@ -1,10 +1,11 @@
-//! Document 01 and Papers 1 to 3 of document 02 read a second time, from the papers alone: the store, the call fields and the replay, and the
+//! Document 01 and Papers 1 to 4 of document 02 read a second time, from the papers alone: the store, the call fields and the replay, and the
 //! random lists that compare them with other programs. Nothing here is shared with the proved crates.
 
 pub mod arbitrary;
 pub mod boundary;
 pub mod field;
 pub mod generate;
+pub mod holds;
 pub mod lent;
 pub mod logs;
 pub mod look_ups;

@@ -11,14 +11,15 @@ pub struct Focus {
     pub cell: u32,
 }
 
-/// Appends one session's 128 words. In some logs most entries have the value that they found, in others few.
+/// Appends one session's 128 words. In some logs most entries have the value that they found, in others few; in some none is held, in some none
+/// written.
 pub fn log(random: &Random, values: &[u32], count: usize, asked: u32, logs: &mut Vec<u32>) {
     let back = random.pick(&[2, 5, 30, 60, 95]);
-    let clean = random.percent(15);
+    let without = [0, 2, 1, 3][random.weighted(&[35, 40, 12, 13])];
     for cell in cells(random, values.len(), count.min(MAX_ENTRIES), asked) {
-        let dirty = random.pick(&[0, 1, random.word(), 2, 3, u32::MAX]);
+        let marks = random.pick(&[0, 1, random.word(), 2, 3, u32::MAX]);
         let (snapshot, current) = entry_values(random, values.get(cell as usize).copied().unwrap_or(0), back);
-        logs.extend_from_slice(&[cell, snapshot, current, if clean { dirty & !1 } else { dirty }]);
+        logs.extend_from_slice(&[cell, snapshot, current, marks & !without]);
     }
 }
 

@@ -11,20 +11,21 @@ use std::fmt;
 use std::ops::Range;
 
 /// The calls that look a cell up. Many reads count by the first cell of their list.
-const CALLS: [&str; 4] = ["read", "many reads", "write", "peek"];
+const CALLS: [&str; 5] = ["read", "many reads", "write", "peek", "hold"];
 const READ: usize = 0;
 const MANY: usize = 1;
 const WRITE: usize = 2;
 const PEEK: usize = 3;
+const HOLD: usize = 4;
 
 /// The numbers that each of the calls must be seen to answer.
-type Answers = [&'static [u32]; 4];
-const FOUND: Answers = [&[101], &[101], &[100], &[100]];
-const NEW: Answers = [&[6, 101], &[6, 101], &[6, 100], &[14]];
-const FULL: Answers = [&[5], &[5], &[5], &[14]];
-const NEW_OR_FULL: Answers = [&[5, 6, 101], &[5, 6, 101], &[5, 6, 100], &[14]];
-const NEW_OR_FOUND: Answers = [&[6, 101], &[6, 101], &[6, 100], &[14, 100]];
-const REFUSED: Answers = [&[DAMAGED]; 4];
+type Answers = [&'static [u32]; 5];
+const FOUND: Answers = [&[101], &[101], &[100], &[100], &[101]];
+const NEW: Answers = [&[6, 101], &[6, 101], &[6, 100], &[14], &[6, 101]];
+const FULL: Answers = [&[5], &[5], &[5], &[14], &[5]];
+const NEW_OR_FULL: Answers = [&[5, 6, 101], &[5, 6, 101], &[5, 6, 100], &[14], &[5, 6, 101]];
+const NEW_OR_FOUND: Answers = [&[6, 101], &[6, 101], &[6, 100], &[14, 100], &[6, 101]];
+const REFUSED: Answers = [&[DAMAGED]; 5];
 
 /// A kind of look-ups: its name, whether one is of it, and its answers.
 type Kind = (&'static str, fn(&LookUp) -> bool, Answers);
@@ -114,7 +115,7 @@ impl LookUp<'_> {
     /// Whether one of the cell's later entries would give another answer, or another word to change or to hand back.
     fn later_differs(&self) -> bool {
         let differs = |first: usize, later: usize| match self.call {
-            WRITE => true,
+            WRITE | HOLD => true,
             PEEK => (self.word(self.session, first, 3) | self.word(self.session, later, 3)) % 2 == 1,
             _ => self.word(self.session, first, 2) != self.word(self.session, later, 2),
         };
@@ -134,6 +135,7 @@ pub struct Met {
 pub fn of_call(buffers: &Buffers, call: Call) -> Option<Met> {
     match call {
         Call::Read { session, cell } => met(buffers, READ, session, cell),
+        Call::Hold { session, cell } => met(buffers, HOLD, session, cell),
         Call::Write { session, cell, value } => {
             let class = *buffers.classes.get(cell as usize)?;
             CAPS.get(class as usize).filter(|cap| value <= **cap)?;
@@ -173,9 +175,9 @@ fn met(buffers: &Buffers, call: usize, session: u8, cell: u32) -> Option<Met> {
 /// How often each call met each kind with each answer, each entry count and each place found.
 #[derive(Default)]
 pub struct LookUps {
-    kinds: [Numbers; 4],
-    counts: [BTreeMap<usize, u64>; 4],
-    places: [BTreeMap<usize, u64>; 4],
+    kinds: [Numbers; 5],
+    counts: [BTreeMap<usize, u64>; 5],
+    places: [BTreeMap<usize, u64>; 5],
 }
 
 impl LookUps {

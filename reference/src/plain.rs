@@ -79,6 +79,7 @@ extern "C" {
     fn plain_set_up(lent: *const Lent, sessions: *mut Record) -> CAnswer;
     fn plain_begin(lent: *const Lent, sessions: *mut Record, session: u8) -> CAnswer;
     fn plain_read(lent: *const Lent, sessions: *mut Record, session: u8, cell: u32) -> CAnswer;
+    fn plain_hold(lent: *const Lent, sessions: *mut Record, session: u8, cell: u32) -> CAnswer;
     fn plain_read_many(
         lent: *const Lent,
         sessions: *mut Record,
@@ -149,6 +150,7 @@ impl Store for Plain {
                 Call::SetUp => plain_set_up(&lent, all),
                 Call::Begin { session } => plain_begin(&lent, all, session),
                 Call::Read { session, cell } => plain_read(&lent, all, session, cell),
+                Call::Hold { session, cell } => plain_hold(&lent, all, session, cell),
                 Call::Write { session, cell, value } => plain_write(&lent, all, session, cell, value),
                 Call::Seal { session } => plain_seal(&lent, all, session),
                 Call::Advance { session } => plain_advance(&lent, all, session),

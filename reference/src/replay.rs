@@ -14,6 +14,7 @@ pub fn call_of(field: &Field) -> Option<Call> {
     match field.tag {
         field::BEGIN => Some(Call::Begin { session }),
         field::READ => Some(Call::Read { session, cell }),
+        field::HOLD => Some(Call::Hold { session, cell }),
         field::WRITE => Some(Call::Write { session, cell, value: field.value }),
         field::SEAL => Some(Call::Seal { session }),
         field::ADVANCE => Some(Call::Advance { session }),

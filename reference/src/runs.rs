@@ -10,9 +10,10 @@ use crate::store::{Buffers, Call, ManyReads, RUNNING, SESSIONS};
 use crate::written_back;
 
 /// The numbers that each call must be seen to answer over the runs: every one that it can give on a store that is set up.
-pub const REQUIRED: [(&str, &[u32]); 11] = [
+pub const REQUIRED: [(&str, &[u32]); 12] = [
     ("begin", &[1, 2, 100]),
     ("read", &[1, 2, 3, 5, 6, 101]),
+    ("hold", &[1, 2, 3, 5, 6, 101]),
     (MANY, &[1, 2, 3, 5, 6, 13, 15, 101]),
     (MANY_AFTER_A_VALUE, &[3, 5, 6]),
     (MANY_AND_A_CELL_AGAIN, &[3, 5, 6, 101]),

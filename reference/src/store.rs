@@ -1,4 +1,4 @@
-//! The store's calls: document 01, 'The steps' and 'When a call is turned down', and document 02, Papers 1 to 3.
+//! The store's calls: document 01, 'The steps' and 'When a call is turned down', and document 02, Papers 1 to 4.
 //! Every call is total: it says what happens for any contents and any lengths of the lent buffers.
 
 pub use crate::lent::*;
@@ -10,19 +10,28 @@ pub struct Entry {
     pub cell: u32,
     pub snapshot: u32,
     pub current: u32,
+    /// The fourth word as it stands: its two lowest bits are the marks.
+    pub marks: u32,
     /// Written, whatever the value: peek goes by this.
     pub dirty: bool,
+    /// Held, written or not.
+    pub held: bool,
 }
 
 impl Entry {
-    /// What counts as written from the seal on: dirty, and with another value than the one found.
+    /// What counts as written from the seal on: held, or changed.
     pub fn publishes(&self) -> bool {
+        self.held || self.changed()
+    }
+
+    /// Dirty, and with another value than the one found.
+    pub fn changed(&self) -> bool {
         self.dirty && self.current != self.snapshot
     }
 
-    /// Dirty, and yet with the value found: from the seal on the same as read.
-    pub fn written_back(&self) -> bool {
-        self.dirty && self.current == self.snapshot
+    /// Dirty, and yet with the value found, and not held: from the seal on the same as read.
+    pub fn dropped(&self) -> bool {
+        self.dirty && !self.publishes()
     }
 }
 
@@ -61,6 +70,7 @@ impl Buffers {
             Call::SetUp => self.set_up(),
             Call::Begin { session } => self.begin(session),
             Call::Read { session, cell } => self.read(session, cell),
+            Call::Hold { session, cell } => self.hold(session, cell),
             Call::Write { session, cell, value } => self.write(session, cell, value),
             Call::Seal { session } => self.seal(session),
             Call::Advance { session } => self.advance(session),
@@ -108,6 +118,16 @@ impl Buffers {
         }
     }
 
+    /// Hold: a read that marks the entry held. The written mark stays, higher bits go.
+    pub fn hold(&mut self, session: u8, cell: u32) -> Answer {
+        let answer = self.read(session, cell);
+        if answer.number == VALUE {
+            let entry = self.entries(session).find(cell).expect("a cell that was read is in the log");
+            self.logs[entry.at + 3] = 2 + entry.dirty as u32;
+        }
+        answer
+    }
+
     /// Many reads: what single reads in the list's order give, up to the first answer that is not 101.
     pub fn read_many(&mut self, session: u8, cells: &[u32], target: &mut [u32]) -> ManyAnswer {
         if cells.is_empty() || cells.len() > MAX_LIST {
@@ -146,8 +166,9 @@ impl Buffers {
         }
         match self.enter(session, cell, &entries) {
             Ok(at) => {
+                let held = self.logs[at + 3] / 2 % 2;
                 self.logs[at + 2] = value;
-                self.logs[at + 3] = 1;
+                self.logs[at + 3] = 1 + 2 * held;
                 good(DONE)
             }
             Err(number) => refuse(number),
@@ -267,6 +288,13 @@ impl Buffers {
         Ok(entries)
     }
 
+    /// The record and the entries of the session that calls, where a call has one and neither 7, 1 nor 9 is due for them.
+    pub fn caller(&self, call: Call) -> Option<(Session, Entries)> {
+        let session = call.session()?;
+        let entries = self.sound_entries(session).ok()?;
+        Some((self.sessions[session as usize], entries))
+    }
+
     /// Refusals 7, 1 and 9, this one without the cause that sealed sessions alone have; otherwise the session's entries. An idle session has none,
     /// whatever its count.
     pub fn sound_entries(&self, session: u8) -> Result<Entries, u32> {
@@ -300,7 +328,8 @@ impl Buffers {
         let entry = |index: usize| {
             let at = start + ENTRY_WORDS * index;
             let words = &self.logs[at..at + ENTRY_WORDS];
-            Entry { at, cell: words[0], snapshot: words[1], current: words[2], dirty: words[3] % 2 == 1 }
+            let (dirty, held) = (words[3] % 2 == 1, words[3] / 2 % 2 == 1);
+            Entry { at, cell: words[0], snapshot: words[1], current: words[2], marks: words[3], dirty, held }
         };
         Entries((0..count).map(entry).collect())
     }

@@ -2,6 +2,7 @@
 
 use crate::arbitrary::Numbers;
 use crate::field;
+use crate::holds;
 use crate::replay::{call_of, starting_cells};
 use crate::store::{Buffers, Call, Entry};
 use crate::written_back;
@@ -24,7 +25,8 @@ pub struct Tally {
     pub field: BTreeMap<u32, u64>,
     pub calls: BTreeMap<u32, u64>,
     pub events: BTreeMap<&'static str, u64>,
-    pub written_back: Numbers,
+    /// What the calls are of Papers 2 and 4.
+    pub kinds: Numbers,
 }
 
 impl Tally {
@@ -44,7 +46,7 @@ impl Tally {
                 "c" => (),
                 _ => {
                     *self.calls.entry(number(1)).or_default() += 1;
-                    if let Some(event) = walk.step(number(1), &mut self.written_back) {
+                    if let Some(event) = walk.step(number(1), &mut self.kinds) {
                         *self.events.entry(event).or_default() += 1;
                     }
                 }
@@ -66,7 +68,8 @@ impl Tally {
         if self.size == 0 {
             missing.push("size".to_string());
         }
-        missing.extend(self.written_back.missing(&written_back::REQUIRED));
+        missing.extend(self.kinds.missing(&written_back::REQUIRED));
+        missing.extend(holds::missing_in_replays(&self.kinds));
         missing
     }
 }
@@ -80,7 +83,7 @@ impl fmt::Display for Tally {
         for (event, times) in &self.events {
             writeln!(f, "  {}: {}", event, times)?;
         }
-        write!(f, "{}", self.written_back)
+        write!(f, "{}", self.kinds)
     }
 }
 
@@ -106,12 +109,12 @@ impl<'a> Walk<'a> {
         Walk { input, place, buffers }
     }
 
-    /// The event of the next call, given its answer; what it is of Paper 2 is counted.
+    /// The event of the next call, given its answer; what it is of Papers 2 and 4 is counted.
     fn step(&mut self, answer: u32, numbers: &mut Numbers) -> Option<&'static str> {
         let reading = field::read_field(self.input, self.place);
         self.place += reading.length;
         let call = call_of(&reading.field)?;
-        for kind in written_back::kinds(&self.buffers, call) {
+        for kind in [written_back::kinds(&self.buffers, call), holds::kinds(&self.buffers, call)].concat() {
             numbers.add(kind, answer);
         }
         let event = self.event(call, answer);
@@ -126,11 +129,12 @@ impl<'a> Walk<'a> {
             }
             (Call::Seal { .. }, 105) => Some("commits of no cell"),
             (Call::Read { .. }, 6) => Some("roll-backs on a read"),
+            (Call::Hold { .. }, 6) => Some("roll-backs on a hold"),
             (Call::Write { .. }, 6) => Some("roll-backs on a write"),
             (Call::Advance { .. }, 6) => Some("roll-backs on an advance"),
             (Call::Abandon { .. }, 100) => Some("roll-backs on an abandon"),
             (Call::Advance { .. }, 104) => Some("waits"),
-            (Call::Read { .. }, 5) | (Call::Write { .. }, 5) => Some("full logs"),
+            (Call::Read { .. }, 5) | (Call::Hold { .. }, 5) | (Call::Write { .. }, 5) => Some("full logs"),
             _ => None,
         }
     }

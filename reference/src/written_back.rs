@@ -1,5 +1,5 @@
 //! Document 02, Paper 2: the calls on which a value that was written back matters, by what the session's log is before them, and what they are
-//! counted as.
+//! counted as. The cell that is written back, or changed instead, is not held: held ones are in `holds`.
 
 use crate::store::{Buffers, Call, Entries, Entry, Session, PROMOTING, PUBLISHING, RELEASING, RUNNING};
 
@@ -38,33 +38,33 @@ pub const REQUIRED: [(&str, &[u32]); 7] = [
 
 /// The kinds that a call is of, on the buffers as they are before it.
 pub fn kinds(buffers: &Buffers, call: Call) -> Vec<&'static str> {
-    let session = match call.session() {
-        Some(session) => session,
+    let (record, entries) = match buffers.caller(call) {
+        Some(caller) => caller,
         None => return Vec::new(),
     };
-    let entries = match buffers.sound_entries(session) {
-        Ok(entries) => entries,
-        Err(_) => return Vec::new(),
-    };
-    let record = buffers.sessions[session as usize];
     match (record.phase, call) {
         (RUNNING, Call::Write { cell, value, .. }) => {
             write(entries.find(cell), buffers.values.get(cell as usize).copied(), value).into_iter().collect()
         }
-        (RUNNING, Call::Peek { cell, .. }) => entries.find(cell).filter(Entry::written_back).map(|_| PEEK).into_iter().collect(),
+        (RUNNING, Call::Peek { cell, .. }) => entries.find(cell).filter(Entry::dropped).map(|_| PEEK).into_iter().collect(),
         (RUNNING, Call::Seal { .. }) => seal(&entries),
         (PROMOTING..=RELEASING, call) => sealed(&entries, record, call),
         _ => Vec::new(),
     }
 }
 
+/// Changed and not held, so that its value alone makes it count as written.
+fn changed_unheld(entry: &Entry) -> bool {
+    entry.changed() && !entry.held
+}
+
 fn write(entry: Option<Entry>, stored: Option<u32>, value: u32) -> Option<&'static str> {
     let back = entry.map(|entry| entry.snapshot).or(stored) == Some(value);
     match (entry, back) {
         (None, true) => Some(WRITE_TO_A_NEW_CELL),
-        (Some(entry), true) if !entry.dirty => Some(WRITE_TO_A_READ_CELL),
-        (Some(entry), true) if entry.publishes() => Some(WRITE_TO_A_CHANGED_CELL),
-        (Some(entry), false) if entry.written_back() => Some(CHANGE),
+        (Some(entry), true) if !entry.dirty && !entry.held => Some(WRITE_TO_A_READ_CELL),
+        (Some(entry), true) if changed_unheld(&entry) => Some(WRITE_TO_A_CHANGED_CELL),
+        (Some(entry), false) if entry.dropped() => Some(CHANGE),
         _ => None,
     }
 }
@@ -75,13 +75,13 @@ fn seal(entries: &Entries) -> Vec<&'static str> {
     };
     let first = |wanted: fn(&Entry) -> bool| entries.counting().filter(wanted);
     let mut kinds = Vec::new();
-    if first(Entry::written_back).next().is_some() {
+    if first(Entry::dropped).next().is_some() {
         kinds.push(SEAL);
     }
-    if first(Entry::written_back).any(|entry| has_later(entry, Entry::publishes)) {
+    if first(Entry::dropped).any(|entry| has_later(entry, changed_unheld)) {
         kinds.push(SEAL_DROPPED_BY_THE_FIRST);
     }
-    if first(Entry::publishes).any(|entry| has_later(entry, Entry::written_back)) {
+    if first(changed_unheld).any(|entry| has_later(entry, Entry::dropped)) {
         kinds.push(SEAL_KEPT_BY_THE_FIRST);
     }
     kinds
@@ -90,7 +90,7 @@ fn seal(entries: &Entries) -> Vec<&'static str> {
 fn sealed(entries: &Entries, record: Session, call: Call) -> Vec<&'static str> {
     let next = record.next as u32;
     let dropped: Vec<u32> =
-        entries.counting().filter(Entry::written_back).map(|entry| entry.cell).filter(|cell| *cell >= next).collect();
+        entries.counting().filter(Entry::dropped).map(|entry| entry.cell).filter(|cell| *cell >= next).collect();
     let cell = match entries.lowest_publishing(next) {
         Some(entry) => entry.cell,
         None if dropped.is_empty() => return Vec::new(),

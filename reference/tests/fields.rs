@@ -13,7 +13,9 @@ fn samples() -> Vec<(Field, Vec<u8>)> {
     for tag in [1, 4, 5, 6] {
         samples.push((Field { tag, ..all }, vec![tag, 1, 0, 0x11]));
     }
-    samples.push((Field { tag: 2, ..all }, vec![2, 3, 0, 0x11, 0x22, 0x33]));
+    for tag in [2, 9] {
+        samples.push((Field { tag, ..all }, vec![tag, 3, 0, 0x11, 0x22, 0x33]));
+    }
     samples.push((Field { tag: 3, ..all }, vec![3, 7, 0, 0x11, 0x22, 0x33, 0x55, 0x66, 0x77, 0x88]));
     samples.push((Field { tag: 8, ..all }, vec![8, 5, 0, 0x44, 0x55, 0x66, 0x77, 0x88]));
     samples
@@ -23,7 +25,7 @@ fn samples() -> Vec<(Field, Vec<u8>)> {
 fn carried(field: Field) -> Field {
     let Field { tag, session, class, value, .. } = field;
     match tag {
-        2 => Field { class: 0, value: 0, ..field },
+        2 | 9 => Field { class: 0, value: 0, ..field },
         3 => Field { class: 0, ..field },
         8 => Field { tag, class, value, ..Field::default() },
         _ => Field { tag, session, ..Field::default() },
@@ -61,7 +63,7 @@ fn a_target_that_just_fits_is_written_and_a_shorter_one_is_13() {
 
 #[test]
 fn an_unknown_tag_is_11_before_13() {
-    for tag in (0..=255).filter(|tag| ![1, 2, 3, 4, 5, 6, 8].contains(tag)) {
+    for tag in (0..=255).filter(|tag| ![1, 2, 3, 4, 5, 6, 8, 9].contains(tag)) {
         let field = Field { tag, ..Field::default() };
         assert_eq!(write_field(&mut [], &field), (11, 0));
         let mut target = [0xee; 12];
@@ -77,7 +79,7 @@ fn no_bytes_left_is_106_and_one_or_two_are_10() {
     assert_eq!(reading(&[], 0).number, 106);
     assert_eq!(reading(&[1, 1, 0, 0], 4).number, 106);
     assert_eq!(reading(&[1, 1, 0, 0], 9).number, 106);
-    for rest in [&[1u8][..], &[9], &[1, 1], &[9, 9], &[1, 9]] {
+    for rest in [&[1u8][..], &[7], &[1, 1], &[7, 7], &[1, 7], &[9], &[9, 3]] {
         assert_eq!(reading(rest, 0).number, 10);
     }
 }

@@ -22,7 +22,7 @@ fn full() -> Vec<[u32; 4]> {
     (0..32).map(|cell| [cell, 3, 4, 1]).collect()
 }
 
-/// Asserts that read, many reads, write and peek of session 5 find the cell at this place.
+/// Asserts that read, many reads, hold, write and peek of session 5 find the cell at this place.
 fn found(buffers: &Buffers, cell: u32, place: usize) {
     let at = LOG + 4 * place;
     let current = buffers.logs[at + 2];
@@ -36,6 +36,11 @@ fn found(buffers: &Buffers, cell: u32, place: usize) {
     written.logs[at + 2..at + 4].copy_from_slice(&[8, 1]);
     run(&mut after, &[(write(5, cell, 8), number(100))]);
     assert_eq!(after, written);
+    let mut after = buffers.clone();
+    let mut held = buffers.clone();
+    held.logs[at + 3] = 2 + buffers.logs[at + 3] % 2;
+    run(&mut after, &[(hold(5, cell), value(current))]);
+    assert_eq!(after, held);
 }
 
 /// Asserts that none of them finds it: a new cell is entered at the count, or rolls the session back where its lock has a claimant.
@@ -55,13 +60,20 @@ fn not_found(buffers: &Buffers, cell: u32) {
     answered(&claimed, cell, (number(6), &idle), (number(6), &idle));
 }
 
-/// Asserts that a peek of session 5 is 14, and what its reads and a write of 8 answer and leave.
+/// Asserts that a peek of session 5 is 14, and what its reads, a hold and a write of 8 answer and leave.
 fn answered(buffers: &Buffers, cell: u32, reads: (Answer, &Buffers), writes: (Answer, &Buffers)) {
     assert!(buffers.peek(5, cell).is_empty());
     assert_eq!(buffers.peek_number(5, cell), number(14));
     let mut after = buffers.clone();
     run(&mut after, &[(read(5, cell), reads.0)]);
     assert_eq!(&after, reads.1);
+    let mut after = buffers.clone();
+    let mut held = reads.1.clone();
+    if reads.0.number == 101 {
+        held.logs[LOG + 4 * buffers.sessions[5].count as usize + 3] = 2;
+    }
+    run(&mut after, &[(hold(5, cell), reads.0)]);
+    assert_eq!(after, held);
     let mut after = buffers.clone();
     let (last, count, target) = read_many(&mut after, 5, &[cell], 1);
     assert_eq!(last, reads.0.number);
@@ -150,6 +162,7 @@ fn a_stray_cell_counts_among_the_entries_alone() {
             for cell in 0..40 {
                 let mut after = buffers.clone();
                 run(&mut after, &[(peek(5, cell), number(9)), (read(5, cell), number(9)), (write(5, cell, 8), number(9))]);
+                run(&mut after, &[(hold(5, cell), number(9))]);
                 assert_eq!(read_many(&mut after, 5, &[cell], 1), (9, 0, lent_target(1)));
                 assert_eq!(after, buffers);
             }

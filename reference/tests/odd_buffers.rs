@@ -40,6 +40,7 @@ fn a_session_above_15_is_1_even_with_a_cell_that_is_not_there() {
         for call in [
             begin(session),
             read(session, 9),
+            hold(session, 9),
             write(session, 9, 9),
             seal(session),
             advance(session),
@@ -90,7 +91,7 @@ fn words_past_the_count_are_not_judged() {
 fn an_idle_session_is_judged_by_its_phase_alone() {
     let mut buffers = entered(0, &[[u32::MAX, 0, 1, 1]]);
     buffers.sessions[3] = Session { phase: 0, count: 255, next: 65_535 };
-    for call in [read(3, 0), write(3, 0, 1), seal(3), advance(3), abandon(3), peek(3, 0)] {
+    for call in [read(3, 0), hold(3, 0), write(3, 0, 1), seal(3), advance(3), abandon(3), peek(3, 0)] {
         assert_eq!(buffers.call(call), number(2));
     }
     assert_eq!(buffers.begin(3), number(100));
@@ -101,7 +102,7 @@ fn an_idle_session_is_judged_by_its_phase_alone() {
 fn no_written_cell_at_or_above_next_is_9_in_phases_2_to_4() {
     for phase in 2..=4 {
         all_refused(&entered(phase, &[]), 9);
-        all_refused(&entered(phase, &[[0, 0, 1, 0], [1, 0, 1, 2]]), 9);
+        all_refused(&entered(phase, &[[0, 0, 1, 0], [1, 0, 1, 4]]), 9);
         let mut past = entered(phase, &[[0, 0, 1, 1], [1, 0, 1, 1]]);
         for next in [2, 3, 65_535] {
             past.sessions[3].next = next;
@@ -133,8 +134,8 @@ fn nine_comes_before_two() {
 }
 
 #[test]
-fn the_fourth_word_is_judged_by_its_lowest_bit() {
-    let mut buffers = entered(1, &[[0, 3, 4, 2], [1, 3, 4, u32::MAX], [2, 3, 4, 0x8000_0000]]);
+fn the_fourth_word_is_judged_by_its_two_lowest_bits() {
+    let mut buffers = entered(1, &[[0, 3, 4, 4], [1, 3, 4, u32::MAX], [2, 3, 4, 0x8000_0000]]);
     buffers.readers = vec![8, 8, 8];
     run(&mut buffers, &[(seal(3), number(102))]);
     assert_eq!(buffers.readers, [0, 8, 0]);
@@ -142,11 +143,13 @@ fn the_fourth_word_is_judged_by_its_lowest_bit() {
 }
 
 #[test]
-fn a_write_sets_the_fourth_word_of_the_first_entry_to_1() {
-    let mut buffers = entered(1, &[[1, 3, 4, 6], [1, 3, 5, 8]]);
-    run(&mut buffers, &[(read(3, 1), value(4)), (write(3, 1, 2), number(100)), (read(3, 1), value(2))]);
-    assert_eq!(buffers.logs[128 * 3..128 * 3 + 8], [1, 3, 2, 1, 1, 3, 5, 8]);
-    assert_eq!(buffers.sessions[3].count, 2);
+fn a_write_sets_the_fourth_word_of_the_first_entry_to_1_or_to_3_where_it_is_held() {
+    for (before, after) in [(0, 1), (1, 1), (4, 1), (5, 1), (2, 3), (3, 3), (6, 3), (7, 3)] {
+        let mut buffers = entered(1, &[[1, 3, 4, before], [1, 3, 5, 8 + (before ^ 2)]]);
+        run(&mut buffers, &[(read(3, 1), value(4)), (write(3, 1, 2), number(100)), (read(3, 1), value(2))]);
+        assert_eq!(buffers.logs[128 * 3..128 * 3 + 8], [1, 3, 2, after, 1, 3, 5, 8 + (before ^ 2)]);
+        assert_eq!(buffers.sessions[3].count, 2);
+    }
 }
 
 #[test]
@@ -154,7 +157,7 @@ fn a_known_cell_needs_no_lock_and_no_room() {
     let entries: Vec<[u32; 4]> = (0..32).map(|_| [1, 3, 4, 0]).collect();
     let mut buffers = entered(1, &entries);
     buffers.claimants = vec![0, 5, 0];
-    run(&mut buffers, &[(read(3, 1), value(4)), (write(3, 1, 2), number(100))]);
+    run(&mut buffers, &[(read(3, 1), value(4)), (hold(3, 1), value(4)), (write(3, 1, 2), number(100))]);
     assert_eq!(buffers.sessions[3].phase, 1);
 }
 
@@ -164,7 +167,7 @@ fn a_full_log_comes_before_a_claim() {
     let mut buffers = entered(1, &entries);
     buffers.claimants[0] = 7;
     let before = buffers.clone();
-    run(&mut buffers, &[(read(3, 0), number(5)), (write(3, 0, 1), number(5)), (peek(3, 0), number(14))]);
+    run(&mut buffers, &[(read(3, 0), number(5)), (hold(3, 0), number(5)), (write(3, 0, 1), number(5)), (peek(3, 0), number(14))]);
     assert_eq!(buffers, before);
 }
 
@@ -183,7 +186,7 @@ fn the_class_comes_before_the_cap_and_the_cap_before_the_log() {
 #[test]
 fn any_claimant_but_16_is_somebody() {
     for claimant in [0, 3, 15, 17, 200, 255] {
-        for call in [read(3, 0), write(3, 0, 1)] {
+        for call in [read(3, 0), hold(3, 0), write(3, 0, 1)] {
             let mut buffers = entered(1, &[[1, 3, 4, 1], [2, 3, 3, 0]]);
             buffers.readers = vec![8, 8 | 1, 8];
             buffers.claimants = vec![claimant, 3, 4];
@@ -199,10 +202,10 @@ fn any_claimant_but_16_is_somebody() {
 }
 
 #[test]
-fn a_class_above_15_does_not_hinder_a_read() {
+fn a_class_above_15_does_not_hinder_a_read_or_a_hold() {
     let mut buffers = entered(1, &[]);
-    buffers.classes[0] = 99;
-    run(&mut buffers, &[(read(3, 0), value(3))]);
+    buffers.classes = vec![99, 16, 2];
+    run(&mut buffers, &[(read(3, 0), value(3)), (hold(3, 1), value(3))]);
 }
 
 #[test]

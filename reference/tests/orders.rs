@@ -158,9 +158,9 @@ fn thirty_two_cells_fit_in_a_log() {
         run(&mut buffers, &[(read(0, cell), value(3))]);
     }
     let full = buffers.clone();
-    run(&mut buffers, &[(read(0, 32), number(5)), (write(0, 32, 1), number(5))]);
+    run(&mut buffers, &[(read(0, 32), number(5)), (hold(0, 32), number(5)), (write(0, 32, 1), number(5))]);
     assert_eq!(buffers, full);
-    run(&mut buffers, &[(read(0, 31), value(3)), (write(0, 0, 1), number(100)), (read(0, 0), value(1))]);
+    run(&mut buffers, &[(read(0, 31), value(3)), (hold(0, 31), value(3)), (write(0, 0, 1), number(100)), (read(0, 0), value(1))]);
 }
 
 #[test]

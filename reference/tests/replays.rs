@@ -34,6 +34,15 @@ fn the_listing() {
 }
 
 #[test]
+fn a_hold_prints_its_value_and_is_published() {
+    let mut fields = vec![cell(2, 3), cell(2, 5), call(1, 0, 0, 0), call(9, 0, 1, 0), call(3, 0, 1, 6), call(9, 0, 1, 0)];
+    fields.extend([call(9, 0, 2, 0), call(9, 16, 0, 0), call(4, 0, 0, 0), call(9, 0, 0, 0)]);
+    fields.extend([call(5, 0, 0, 0), call(5, 0, 0, 0), call(5, 0, 0, 0)]);
+    let expected = "1 100\n2 101 5\n3 100\n4 101 6\n5 3\n6 1\n7 102\n8 2\n9 103\n10 103\n11 105\nc 0 3\nc 1 6\n";
+    assert_eq!(text(&bytes(&fields)), expected);
+}
+
+#[test]
 fn no_cell_is_7() {
     assert_eq!(text(&[]), "setup 7\n");
     assert_eq!(text(&bytes(&[call(1, 0, 0, 0)])), "setup 7\n");
@@ -79,7 +88,15 @@ fn a_late_cell_is_first_judged_as_a_field() {
 
 #[test]
 fn each_refused_field_ends_the_calls() {
-    for (tail, number) in [(&[5, 1][..], 10), (&[7, 1, 0, 0], 11), (&[5, 2, 0, 0], 12), (&[5, 1, 0], 10)] {
+    for (tail, number) in [
+        (&[5, 1][..], 10),
+        (&[7, 1, 0, 0], 11),
+        (&[10, 3, 0, 0, 0, 0], 11),
+        (&[5, 2, 0, 0], 12),
+        (&[5, 1, 0], 10),
+        (&[9, 1, 0, 0], 12),
+        (&[9, 3, 0, 0, 0], 10),
+    ] {
         let mut input = bytes(&[cell(0, 1), call(1, 0, 0, 0)]);
         input.extend_from_slice(tail);
         assert_eq!(text(&input), format!("1 100\nfield 12 {}\nc 0 1\n", number));

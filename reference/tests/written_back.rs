@@ -127,7 +127,7 @@ fn the_first_entry_of_a_cell_decides() {
 
 #[test]
 fn another_value_without_the_written_bit_is_only_read() {
-    let mut buffers = entered(1, &[[0, 6, 7, 0], [1, 6, 7, 2]]);
+    let mut buffers = entered(1, &[[0, 6, 7, 0], [1, 6, 7, 4]]);
     buffers.readers = vec![8, 8, 8];
     assert_eq!(located(&buffers, buffers.peek(3, 1)), Part::Value(1));
     run(&mut buffers, &[(read(3, 0), value(7)), (seal(3), number(105))]);
@@ -135,8 +135,8 @@ fn another_value_without_the_written_bit_is_only_read() {
 }
 
 #[test]
-fn any_odd_fourth_word_is_written_and_every_bit_of_the_values_counts() {
-    for dirty in [1, 3, 0x8000_0001, u32::MAX] {
+fn any_bits_above_the_marks_may_stand_and_every_bit_of_the_values_counts() {
+    for dirty in [1, 5, 0x8000_0001, 0xffff_fffd] {
         run(&mut entered(1, &[[0, 6, 6, dirty]]), &[(seal(3), number(105))]);
         for bit in 0..32 {
             run(&mut entered(1, &[[0, 6, 6 ^ 1 << bit, dirty]]), &[(seal(3), number(102))]);
@@ -160,7 +160,7 @@ fn the_value_found_is_the_logs_and_not_the_stores() {
 fn written_back_cells_alone_at_or_above_next_are_9_in_phases_2_to_4() {
     for phase in 2..=4 {
         all_refused(&entered(phase, &[[0, 6, 6, 1]]), 9);
-        all_refused(&entered(phase, &[[0, 6, 6, 1], [1, 3, 3, 3], [2, 3, 4, 0]]), 9);
+        all_refused(&entered(phase, &[[0, 6, 6, 1], [1, 3, 3, 5], [2, 3, 4, 0]]), 9);
         let mut past = entered(phase, &[[2, 6, 6, 1], [0, 6, 7, 1]]);
         past.sessions[3].next = 1;
         all_refused(&past, 9);

@@ -1,5 +1,5 @@
-/* A second reader and writer of fields, made from document 01 alone: it shares no number, table or function with the proved code or with
- * include/rukkanei.h. With BROKEN set to 1 .. 6 it has one fault each, so that the comparison can be seen to fail. */
+/* A second reader and writer of fields, made from documents 01 and 02 alone: it shares no number, table or function with the proved code or with
+ * include/rukkanei.h. With BROKEN set to 1 .. 7 it has one fault each, so that the comparison can be seen to fail. */
 #ifndef EXPECTED_FIELDS_H
 #define EXPECTED_FIELDS_H
 
@@ -27,6 +27,8 @@ static const char *body_of(unsigned tag) {
         return "s";
     case 2:
         return BROKEN == 1 ? "sccc" : "scc";
+    case 9:
+        return BROKEN == 7 ? NULL : "scc";
     case 3:
         return "sccvvvv";
     case 8:

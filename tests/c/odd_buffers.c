@@ -1,5 +1,5 @@
 /* Calls on buffers that no run leaves, through the calls for C: numbers 9 and 14, duplicate entries, any fourth word, any claimant byte, any record,
-   values written back; and many reads, numbers 15 and 13 among them. Two cells of class 2, values 3 and 5; the session is passed the record; session 0's log begins with the
+   values written back, holds; and many reads, numbers 15 and 13 among them. Two cells of class 2, values 3 and 5; the session is passed the record; session 0's log begins with the
    words. Prints a line for each row, with the record that came back. */
 #include "rukkanei.h"
 
@@ -19,9 +19,9 @@ typedef struct {
 } row;
 
 static const row rows[] = {
-    {"the first entry counts", 1, 2, 0, {0, 3, 4, 6, 0, 3, 5, 7}, {1, 0}, {16, 16}, 'r', 0, 0, 0},
-    {"6 in its fourth word is not written", 1, 2, 0, {0, 3, 4, 6, 0, 3, 5, 7}, {1, 0}, {16, 16}, 's', 0, 0, 0},
-    {"7 is written", 1, 2, 0, {0, 3, 4, 7, 0, 3, 5, 6}, {1, 0}, {16, 16}, 's', 0, 0, 0},
+    {"the first entry counts", 1, 2, 0, {0, 3, 4, 4, 0, 3, 5, 5}, {1, 0}, {16, 16}, 'r', 0, 0, 0},
+    {"4 in its fourth word is not written", 1, 2, 0, {0, 3, 4, 4, 0, 3, 5, 5}, {1, 0}, {16, 16}, 's', 0, 0, 0},
+    {"5 is written", 1, 2, 0, {0, 3, 4, 5, 0, 3, 5, 4}, {1, 0}, {16, 16}, 's', 0, 0, 0},
     {"claimant 200 is somebody", 1, 0, 0, {0}, {0, 0}, {16, 200}, 'r', 0, 1, 0},
     {"another session alone in the set", 2, 1, 0, {0, 3, 4, 1}, {2, 0}, {16, 16}, 'a', 0, 0, 0},
     {"an own claim is no obstacle", 2, 1, 0, {0, 3, 4, 1}, {0, 0}, {0, 16}, 'a', 0, 0, 0},
@@ -51,10 +51,10 @@ static const row rows[] = {
     {"a record of another session's number", 2, 1, 0, {0, 3, 4, 1}, {3, 0}, {16, 16}, 'a', 1, 0, 0},
     {"a value written back", 1, 1, 0, {0, 4, 4, 1}, {3, 0}, {16, 16}, 's', 0, 0, 0},
     {"the store's value, and not the one found", 1, 1, 0, {0, 4, 3, 1}, {3, 0}, {16, 16}, 's', 0, 0, 0},
-    {"one of two written back", 1, 2, 0, {0, 4, 4, 7, 1, 4, 6, 7}, {1, 1}, {16, 16}, 's', 0, 0, 0},
+    {"one of two written back", 1, 2, 0, {0, 4, 4, 5, 1, 4, 6, 5}, {1, 1}, {16, 16}, 's', 0, 0, 0},
     {"the first entry written back, the second not", 1, 2, 0, {0, 4, 4, 1, 0, 4, 6, 1}, {1, 0}, {16, 16}, 's', 0, 0, 0},
     {"the second entry written back, the first not", 1, 2, 0, {0, 4, 6, 1, 0, 4, 4, 1}, {1, 0}, {16, 16}, 's', 0, 0, 0},
-    {"another value without the written bit", 1, 1, 0, {0, 4, 6, 2}, {1, 0}, {16, 16}, 's', 0, 0, 0},
+    {"another value without the written bit", 1, 1, 0, {0, 4, 6, 4}, {1, 0}, {16, 16}, 's', 0, 0, 0},
     {"a written-back cell peeked", 1, 1, 0, {0, 4, 4, 1}, {1, 0}, {16, 16}, 'p', 0, 0, 0},
     {"the value found written to a new cell", 1, 0, 0, {0}, {0, 0}, {16, 16}, 'w', 0, 0, 3},
     {"nothing but a written-back cell to promote", 2, 1, 0, {0, 4, 4, 1}, {1, 0}, {16, 16}, 'a', 0, 0, 0},
@@ -63,6 +63,42 @@ static const row rows[] = {
     {"a written-back cell not published", 3, 2, 0, {0, 4, 4, 1, 1, 4, 6, 1}, {0, 1}, {16, 0}, 'a', 0, 0, 0},
     {"a written-back cell not released", 4, 2, 0, {0, 4, 4, 1, 1, 4, 6, 1}, {1, 1}, {0, 0}, 'a', 0, 0, 0},
     {"a written-back cell above the last to release", 4, 2, 0, {1, 4, 4, 1, 0, 4, 6, 1}, {1, 1}, {0, 0}, 'a', 0, 0, 0},
+    {"a new cell held", 1, 0, 0, {9, 9, 9, 9}, {2, 0}, {16, 16}, 'h', 0, 0, 0},
+    {"a read cell held", 1, 1, 0, {0, 4, 6, 0}, {1, 0}, {3, 16}, 'h', 0, 0, 0},
+    {"a written cell held", 1, 1, 0, {0, 4, 6, 1}, {1, 0}, {16, 16}, 'h', 0, 0, 0},
+    {"a held cell held", 1, 1, 0, {0, 4, 6, 2}, {1, 0}, {16, 16}, 'h', 0, 0, 0},
+    {"4294967292 held", 1, 1, 0, {0, 4, 6, 4294967292u}, {1, 0}, {16, 16}, 'h', 0, 0, 0},
+    {"4294967295 held", 1, 1, 0, {0, 4, 6, 4294967295u}, {1, 0}, {16, 16}, 'h', 0, 0, 0},
+    {"4294967294 written", 1, 1, 0, {0, 4, 6, 4294967294u}, {1, 0}, {16, 16}, 'w', 0, 0, 7},
+    {"4294967293 written", 1, 1, 0, {0, 4, 6, 4294967293u}, {1, 0}, {16, 16}, 'w', 0, 0, 7},
+    {"the first of two entries held", 1, 2, 0, {0, 4, 6, 1, 0, 4, 7, 0}, {1, 0}, {16, 16}, 'h', 0, 0, 0},
+    {"a held cell read", 1, 1, 0, {0, 4, 6, 2}, {1, 0}, {16, 16}, 'r', 0, 0, 0},
+    {"a held cell peeked", 1, 1, 0, {0, 4, 6, 2}, {1, 0}, {16, 16}, 'p', 0, 0, 0},
+    {"a held and written cell peeked", 1, 1, 0, {0, 4, 6, 3}, {1, 0}, {16, 16}, 'p', 0, 0, 0},
+    {"a claimed cell held", 1, 1, 0, {0, 4, 6, 2}, {1, 0}, {0, 200}, 'h', 0, 1, 0},
+    {"a cell not below n held", 1, 1, 0, {0, 4, 6, 2}, {1, 0}, {16, 16}, 'h', 0, 2, 0},
+    {"a full log and a claimed cell held", 1, 32, 0, {0}, {1, 0}, {16, 3}, 'h', 0, 1, 0},
+    {"a full log and a known cell held", 1, 32, 0, {0}, {1, 0}, {3, 3}, 'h', 0, 0, 0},
+    {"an entered cell not below n, and a hold", 1, 1, 0, {2, 3, 4, 1}, {1, 0}, {16, 16}, 'h', 0, 0, 0},
+    {"a sealed session holds", 2, 1, 0, {0, 4, 4, 2}, {1, 0}, {16, 16}, 'h', 0, 0, 0},
+    {"session 16 holds", 1, 1, 3, {0, 3, 4, 1}, {1, 0}, {16, 16}, 'h', 16, 0, 0},
+    {"phase 9 holds", 9, 1, 2, {0, 3, 4, 1}, {1, 0}, {16, 16}, 'h', 0, 0, 0},
+    {"a held cell sealed", 1, 1, 0, {0, 4, 4, 2}, {3, 0}, {16, 16}, 's', 0, 0, 0},
+    {"a held cell written back", 1, 1, 0, {0, 4, 4, 7}, {3, 0}, {16, 16}, 's', 0, 0, 0},
+    {"a held cell and a written-back one", 1, 2, 0, {0, 4, 4, 1, 1, 4, 4, 6}, {1, 1}, {16, 16}, 's', 0, 0, 0},
+    {"the first entry held, the second not", 1, 2, 0, {0, 4, 4, 2, 0, 4, 4, 0}, {1, 0}, {16, 16}, 's', 0, 0, 0},
+    {"the second entry held, the first not", 1, 2, 0, {0, 4, 4, 0, 0, 4, 4, 2}, {1, 0}, {16, 16}, 's', 0, 0, 0},
+    {"a held cell promoted", 2, 1, 0, {0, 4, 4, 2}, {1, 0}, {16, 16}, 'a', 0, 0, 0},
+    {"a held cell with another reader", 2, 1, 0, {0, 4, 4, 2}, {3, 0}, {16, 16}, 'a', 0, 0, 0},
+    {"a held cell claimed by another", 2, 1, 0, {0, 4, 4, 2}, {1, 0}, {3, 16}, 'a', 0, 0, 0},
+    {"a held cell published", 3, 1, 0, {0, 4, 4, 2}, {1, 0}, {0, 16}, 'a', 0, 0, 0},
+    {"a held cell with a value neither found nor written", 3, 1, 0, {0, 4, 6, 2}, {1, 0}, {0, 16}, 'a', 0, 0, 0},
+    {"a held cell released", 4, 1, 0, {0, 4, 4, 2}, {1, 0}, {0, 16}, 'a', 0, 0, 0},
+    {"nothing but a held cell to promote", 2, 1, 0, {1, 4, 4, 2}, {0, 1}, {16, 16}, 'b', 0, 0, 0},
+    {"nothing but a held cell below next", 2, 1, 1, {0, 4, 4, 2}, {1, 0}, {16, 16}, 'b', 0, 0, 0},
+    {"nothing but a held second entry", 4, 2, 0, {0, 4, 4, 0, 0, 4, 4, 2}, {1, 0}, {0, 16}, 'a', 0, 0, 0},
+    {"nothing but a bit above the marks", 3, 1, 0, {0, 4, 6, 4}, {1, 0}, {0, 16}, 'a', 0, 0, 0},
+    {"a held cell abandoned", 2, 1, 0, {0, 4, 4, 2}, {3, 0}, {0, 16}, 'n', 0, 0, 0},
 };
 
 /* Many reads: the list, and how long the target is. */
@@ -74,6 +110,7 @@ typedef struct {
 } many_row;
 
 static const many_row many_rows[] = {
+    {{"a held cell and a new one", 1, 1, 0, {0, 4, 6, 2}, {1, 0}, {3, 16}, 'm', 0, 0, 0}, 3, {0, 1, 0}, 3},
     {{"new cells", 1, 0, 0, {0}, {2, 0}, {16, 16}, 'm', 0, 0, 0}, 2, {1, 0}, 2},
     {{"a cell again", 1, 0, 0, {0}, {0, 0}, {16, 16}, 'm', 0, 0, 0}, 4, {1, 1, 0, 1}, 6},
     {{"32 cells", 1, 0, 9, {0}, {0, 0}, {16, 16}, 'm', 15, 0, 0}, 32, {1}, 32},
@@ -137,6 +174,7 @@ static void try(const row *r)
     switch (r->call) {
     case 'b': reply = rukkanei_begin(record, LENT, r->session); break;
     case 'r': reply = rukkanei_read(record, LENT, r->session, r->cell); break;
+    case 'h': reply = rukkanei_hold(record, LENT, r->session, r->cell); break;
     case 'w': reply = rukkanei_write(record, LENT, r->session, r->cell, r->written); break;
     case 's': reply = rukkanei_seal(record, LENT, r->session); break;
     case 'a': reply = rukkanei_advance(record, LENT, r->session); break;

@@ -62,6 +62,11 @@ plain_answer plain_read(const plain_lent *lent, plain_session *sessions, uint8_t
     return answered(sessions, session, rukkanei_read(record_of(sessions, session), LENT, session, cell));
 }
 
+plain_answer plain_hold(const plain_lent *lent, plain_session *sessions, uint8_t session, uint32_t cell)
+{
+    return answered(sessions, session, rukkanei_hold(record_of(sessions, session), LENT, session, cell));
+}
+
 plain_many_answer plain_read_many(const plain_lent *lent, plain_session *sessions, uint8_t session, const uint32_t *cells, size_t cells_len,
                                   uint32_t *target, size_t target_len)
 {

@@ -19,6 +19,13 @@ REPLAY, RUN, BUFFERS = "on replays", "in runs", "on arbitrary buffers"
 SEARCH = "    while (i < count && log[PLAIN_ENTRY_WORDS * i + CELL] != cell) {\n        i++;\n    }\n    return i;\n"
 JUDGED = "    for (uint32_t i = 0; i < record.count; i++) {\n        stray |= log[PLAIN_ENTRY_WORDS * i + CELL] >= n;\n"
 
+# What counts as written from the seal on, and what a write and a hold leave in the fourth word.
+CHANGED = "    uint32_t changed = entry[CURRENT_VALUE] != entry[SNAPSHOT_VALUE];\n"
+PUBLISHES = "    return (entry[MARKS] & (HELD | DIRTY * changed)) != 0;\n"
+WRITTEN = "    entry[MARKS] = DIRTY | (entry[MARKS] & HELD);\n"
+HOLD = "    plain_answer found = read_entry(lent, sessions, session, cell, &entry);\n    if (found.number == 101) {\n"
+MARKED = "        entry[MARKS] = HELD | (entry[MARKS] & DIRTY);\n"
+
 # Each wrong store: its name, where it must show, and the edit, an old text and a new one or several such pairs. Those that show on replays or in runs
 # must show on arbitrary buffers too.
 EDITS = [
@@ -53,9 +60,9 @@ EDITS = [
     ("105 with values unpublished", REPLAY,
      "        lent->values[cell] = entry[CURRENT_VALUE];\n", "        ;\n"),
     ("100 and nothing logged", REPLAY,
-     "    entry[CURRENT_VALUE] = value;\n    entry[DIRTY] = 1;\n", "    (void)entry;\n"),
+     "    entry[CURRENT_VALUE] = value;\n" + WRITTEN, "    (void)entry;\n"),
     ("101 with the same value each time", REPLAY,
-     "plain_answer found = {101, entry[CURRENT_VALUE]};", "plain_answer found = {101, 3};"),
+     "plain_answer found = {101, (*entry)[CURRENT_VALUE]};", "plain_answer found = {101, 3};"),
     ("a claimant waited for and not met with 6", REPLAY,
      "            roll_back(lent, record, session);\n            return answer(6);\n        }\n        lent->claimants",
      "            return answer(104);\n        }\n        lent->claimants"),
@@ -78,7 +85,7 @@ EDITS = [
     ("later entries of a cell judged at the seal", BUFFERS,
      "            continue;\n        }\n        seen", "            ;\n        }\n        seen"),
     ("the fourth word judged whole", BUFFERS,
-     "    return (entry[DIRTY] & 1) & ", "    return entry[DIRTY] && "),
+     PUBLISHES, "    return (entry[MARKS] & HELD) || (entry[MARKS] && changed);\n"),
     ("the own bit counted among the readers", BUFFERS,
      "        if (lent->readers[cell] & ~(1u << session)) {",
      "        uint32_t all = lent->readers[cell];\n        if (all & (all - 1)) {"),
@@ -97,7 +104,7 @@ EDITS = [
     ("no 9 without a written cell left while publishing", BUFFERS,
      "        if (step->entry == record.count) {", "        if (step->entry == record.count && record.phase != PUBLISHING) {"),
     ("a peek of an unwritten cell from the log", BUFFERS,
-     "    part.words = entry[DIRTY] & 1 ? &entry[CURRENT_VALUE] : &lent->values[cell];", "    part.words = &entry[CURRENT_VALUE];"),
+     "    part.words = entry[MARKS] & DIRTY ? &entry[CURRENT_VALUE] : &lent->values[cell];", "    part.words = &entry[CURRENT_VALUE];"),
     ("a peek of a written cell from the snapshot value", BUFFERS,
      "? &entry[CURRENT_VALUE] : &lent", "? &entry[SNAPSHOT_VALUE] : &lent"),
     ("set-up that leaves the logs", BUFFERS,
@@ -105,21 +112,22 @@ EDITS = [
     ("lengths of the marks not judged", BUFFERS,
      " && lent->exclusives_len == n", ""),
     ("written back: counted as written", REPLAY,
-     "    return (entry[DIRTY] & 1) & (entry[CURRENT_VALUE] != entry[SNAPSHOT_VALUE]);\n", "    return entry[DIRTY] & 1;\n"),
+     PUBLISHES, "    return (entry[MARKS] & (HELD | DIRTY)) != 0;\n"),
     ("written back: another value counted without the written bit", BUFFERS,
-     "    return (entry[DIRTY] & 1) & (", "    return ("),
+     PUBLISHES, "    return (entry[MARKS] & HELD) || changed;\n"),
     ("written back: half of each value compared", BUFFERS,
-     "(entry[CURRENT_VALUE] != entry[SNAPSHOT_VALUE]);\n", "((uint16_t)entry[CURRENT_VALUE] != (uint16_t)entry[SNAPSHOT_VALUE]);\n"),
+     CHANGED, "    uint32_t changed = (uint16_t)entry[CURRENT_VALUE] != (uint16_t)entry[SNAPSHOT_VALUE];\n"),
     ("written back: only a larger value counted", REPLAY,
-     "(entry[CURRENT_VALUE] != entry[SNAPSHOT_VALUE]);\n", "(entry[CURRENT_VALUE] > entry[SNAPSHOT_VALUE]);\n"),
+     CHANGED, CHANGED.replace("!=", ">")),
     ("written back: compared with the store's value at the seal", BUFFERS,
-     "        if (publishes(entry)) {\n", "        if ((entry[DIRTY] & 1) && entry[CURRENT_VALUE] != lent->values[cell]) {\n"),
+     "        if (publishes(entry)) {\n", "        if (entry[MARKS] & HELD || (entry[MARKS] & DIRTY && entry[CURRENT_VALUE] != lent->values[cell])) {\n"),
     ("written back: compared with the store's value on an advance", REPLAY,
      "lowest_publishing(const uint32_t *log, ", "lowest_publishing(const uint32_t *values, const uint32_t *log, ",
-     "        if (!publishes(entry) || ", "        if (!(entry[DIRTY] & 1) || entry[CURRENT_VALUE] == values[cell] || ",
+     "        if (!publishes(entry) || ", "        if (!(entry[MARKS] & HELD || (entry[MARKS] & DIRTY && entry[CURRENT_VALUE] != values[cell])) || ",
      "lowest_publishing(log, ", "lowest_publishing(lent->values, log, "),
     ("written back: compared with the value before the write", REPLAY,
-     "    entry[CURRENT_VALUE] = value;\n    entry[DIRTY] = 1;\n", "    entry[DIRTY] = entry[CURRENT_VALUE] != value;\n    entry[CURRENT_VALUE] = value;\n"),
+     "    entry[CURRENT_VALUE] = value;\n" + WRITTEN,
+     "    entry[MARKS] = (entry[CURRENT_VALUE] != value) | (entry[MARKS] & HELD);\n    entry[CURRENT_VALUE] = value;\n"),
     ("written back: the first write of a new cell taken for the value found", REPLAY,
      "    uint32_t *entry;\n    refused = enter(lent, &sessions[session], session, cell, &entry);\n    if (refused) {\n        return answer(refused);\n    }\n"
      "    entry[CURRENT_VALUE] = value;\n",
@@ -128,11 +136,11 @@ EDITS = [
      "    if (sessions[session].count > count) {\n        entry[SNAPSHOT_VALUE] = value;\n    }\n"
      "    entry[CURRENT_VALUE] = value;\n"),
     ("written back: dropped for good, though another value comes after it", REPLAY,
-     "    entry[DIRTY] = 1;\n", "    entry[DIRTY] = value == entry[SNAPSHOT_VALUE] ? 3 : entry[DIRTY] | 1;\n",
-     "    return (entry[DIRTY] & 1) & ", "    return ((entry[DIRTY] & 3) == 1) & "),
+     WRITTEN, "    entry[MARKS] = DIRTY | (entry[MARKS] & (HELD | 4)) | (value == entry[SNAPSHOT_VALUE] ? 4 : 0);\n",
+     PUBLISHES, "    return (entry[MARKS] & HELD) || ((entry[MARKS] & 5) == DIRTY && changed);\n"),
     ("written back: the write ignored, so that a change before it stays", REPLAY,
-     "    entry[CURRENT_VALUE] = value;\n    entry[DIRTY] = 1;\n",
-     "    if (value != entry[SNAPSHOT_VALUE]) {\n        entry[CURRENT_VALUE] = value;\n    }\n    entry[DIRTY] = 1;\n"),
+     "    entry[CURRENT_VALUE] = value;\n" + WRITTEN,
+     "    if (value != entry[SNAPSHOT_VALUE]) {\n        entry[CURRENT_VALUE] = value;\n    }\n" + WRITTEN),
     ("written back: a new cell not entered", REPLAY,
      "    if (value > caps[class]) {\n        return answer(4);\n    }\n",
      "    if (value > caps[class]) {\n        return answer(4);\n    }\n"
@@ -140,42 +148,42 @@ EDITS = [
      "    if (value == lent->values[cell] && find(entry_at(lent, session, 0), count, cell) == count && lent->claimants[cell] == PLAIN_NOBODY &&\n"
      "        count < PLAIN_MAX_ENTRIES) {\n        return answer(100);\n    }\n"),
     ("written back: no written bit set", RUN,
-     "    entry[DIRTY] = 1;\n", "    entry[DIRTY] = entry[SNAPSHOT_VALUE] != value;\n"),
+     WRITTEN, "    entry[MARKS] = (entry[SNAPSHOT_VALUE] != value) | (entry[MARKS] & HELD);\n"),
     ("written back: the written bit cleared at the seal", RUN,
      "        } else {\n            leave(lent, session, cell);\n",
-     "        } else {\n            entry_at(lent, session, i)[DIRTY] = 0;\n            leave(lent, session, cell);\n"),
+     "        } else {\n            entry_at(lent, session, i)[MARKS] = 0;\n            leave(lent, session, cell);\n"),
     ("written back: the reader lock kept where another cell is changed", REPLAY,
      "        } else {\n            leave(lent, session, cell);\n        }\n    }\n    if (!any) {\n",
-     "        } else if (!(entry[DIRTY] & 1)) {\n            leave(lent, session, cell);\n        }\n    }\n    if (!any) {\n"
+     "        } else if (!(entry[MARKS] & DIRTY)) {\n            leave(lent, session, cell);\n        }\n    }\n    if (!any) {\n"
      "        for (uint32_t i = 0; i < record->count; i++) {\n            leave(lent, session, log[PLAIN_ENTRY_WORDS * i + CELL]);\n        }\n"),
     ("written back: let go by the old rule, answered by the new one", REPLAY,
-     "        } else {\n            leave(lent, session, cell);\n", "        } else if (!(entry[DIRTY] & 1)) {\n            leave(lent, session, cell);\n"),
+     "        } else {\n            leave(lent, session, cell);\n", "        } else if (!(entry[MARKS] & DIRTY)) {\n            leave(lent, session, cell);\n"),
     ("written back: let go by the new rule, answered by the old one", REPLAY,
-     "            any = 1;\n        } else {\n", "            any = 1;\n        } else {\n            any |= entry[DIRTY] & 1;\n"),
+     "            any = 1;\n        } else {\n", "            any = 1;\n        } else {\n            any |= entry[MARKS] & DIRTY;\n"),
     ("written back: passed by but in the promotion", REPLAY,
      "uint32_t count, uint32_t from)\n", "uint32_t count, uint32_t from, uint8_t phase)\n",
-     "        if (!publishes(entry) || ", "        if (!(phase == PROMOTING ? entry[DIRTY] & 1 : (uint32_t)publishes(entry)) || ",
+     "        if (!publishes(entry) || ", "        if (!(phase == PROMOTING ? (entry[MARKS] & (HELD | DIRTY)) != 0 : publishes(entry)) || ",
      "record.count, record.next)", "record.count, record.next, record.phase)"),
     ("written back: passed by but in the publication", REPLAY,
      "uint32_t count, uint32_t from)\n", "uint32_t count, uint32_t from, uint8_t phase)\n",
-     "        if (!publishes(entry) || ", "        if (!(phase == PUBLISHING ? entry[DIRTY] & 1 : (uint32_t)publishes(entry)) || ",
+     "        if (!publishes(entry) || ", "        if (!(phase == PUBLISHING ? (entry[MARKS] & (HELD | DIRTY)) != 0 : publishes(entry)) || ",
      "record.count, record.next)", "record.count, record.next, record.phase)"),
     ("written back: passed by but in the release", REPLAY,
      "uint32_t count, uint32_t from)\n", "uint32_t count, uint32_t from, uint8_t phase)\n",
-     "        if (!publishes(entry) || ", "        if (!(phase == RELEASING ? entry[DIRTY] & 1 : (uint32_t)publishes(entry)) || ",
+     "        if (!publishes(entry) || ", "        if (!(phase == RELEASING ? (entry[MARKS] & (HELD | DIRTY)) != 0 : publishes(entry)) || ",
      "record.count, record.next)", "record.count, record.next, record.phase)"),
     ("written back: passed by below the cell and not above it", REPLAY,
      "        if (cell < lowest) {\n            step.entry = i;\n            lowest = cell;\n        }\n    }\n",
      "        if (cell < lowest) {\n            step.entry = i;\n            lowest = cell;\n        }\n    }\n"
      "    for (uint32_t i = 0; step.entry < count && i < count; i++) {\n"
-     "        step.more |= log[PLAIN_ENTRY_WORDS * i + CELL] > lowest && (log[PLAIN_ENTRY_WORDS * i + DIRTY] & 1) && is_first(log, i);\n"
+     "        step.more |= log[PLAIN_ENTRY_WORDS * i + CELL] > lowest && (log[PLAIN_ENTRY_WORDS * i + MARKS] & DIRTY) && is_first(log, i);\n"
      "    }\n"),
     ("written back: 9 by the old rule", BUFFERS,
      "        if (step->entry == record.count) {\n",
      "        int left = 0;\n"
      "        for (uint32_t i = 0; i < record.count; i++) {\n"
      "            const uint32_t *entry = log + PLAIN_ENTRY_WORDS * i;\n"
-     "            left |= (entry[DIRTY] & 1) && entry[CELL] >= record.next && is_first(log, i);\n"
+     "            left |= (entry[MARKS] & (HELD | DIRTY)) && entry[CELL] >= record.next && is_first(log, i);\n"
      "        }\n"
      "        if (!left) {\n",
      "    if (record->phase < PROMOTING) {\n", "    if (record->phase < PROMOTING || step.entry == record->count) {\n"),
@@ -190,11 +198,148 @@ EDITS = [
      ") {\n            continue;\n        }\n"
      "        int again = 0;\n"
      "        for (uint32_t j = 0; j < i; j++) {\n"
-     "            again |= log[PLAIN_ENTRY_WORDS * j + CELL] == cell && (publishes(log + PLAIN_ENTRY_WORDS * j) || !(log[PLAIN_ENTRY_WORDS * j + DIRTY] & 1));\n"
+     "            again |= log[PLAIN_ENTRY_WORDS * j + CELL] == cell && (publishes(log + PLAIN_ENTRY_WORDS * j) || !(log[PLAIN_ENTRY_WORDS * j + MARKS] & DIRTY));\n"
      "        }\n"
      "        if (again) {\n            continue;\n        }\n"),
     ("written back: peeked in the store", RUN,
-     "    part.words = entry[DIRTY] & 1 ? ", "    part.words = publishes(entry) ? "),
+     "    part.words = entry[MARKS] & DIRTY ? ", "    part.words = entry[MARKS] & DIRTY && entry[CURRENT_VALUE] != entry[SNAPSHOT_VALUE] ? "),
+    ("hold: a read and nothing else", REPLAY,
+     MARKED, ""),
+    ("hold: a read that holds", REPLAY,
+     "    uint32_t *entry;\n    return read_entry(lent, sessions, session, cell, &entry);\n", "    return plain_hold(lent, sessions, session, cell);\n"),
+    ("hold: many reads that hold", RUN,
+     "        target[got] = entry[CURRENT_VALUE];\n", "        target[got] = entry[CURRENT_VALUE];\n        entry[MARKS] |= HELD;\n"),
+    ("hold: higher bits kept", BUFFERS,
+     MARKED, "        entry[MARKS] |= HELD;\n"),
+    ("hold: the written mark dropped", RUN,
+     MARKED, "        entry[MARKS] = HELD;\n"),
+    ("hold: marked written too", RUN,
+     MARKED, "        entry[MARKS] = HELD | DIRTY;\n"),
+    ("hold: a known cell marked written too", RUN,
+     HOLD, "    uint8_t count = sessions[session % PLAIN_SESSIONS].count;\n" + HOLD,
+     MARKED, MARKED + "        entry[MARKS] |= sessions[session].count == count;\n"),
+    ("hold: marked written and not held", REPLAY,
+     MARKED, "        entry[MARKS] = DIRTY | (entry[MARKS] & HELD);\n"),
+    ("hold: held where it was not, let go where it was", REPLAY,
+     MARKED, "        entry[MARKS] = (entry[MARKS] ^ HELD) & (HELD | DIRTY);\n"),
+    ("hold: forgotten by a write", REPLAY,
+     WRITTEN, "    entry[MARKS] = DIRTY;\n"),
+    ("hold: forgotten by a write of the value found", REPLAY,
+     WRITTEN, "    entry[MARKS] = DIRTY | (value == entry[SNAPSHOT_VALUE] ? 0 : entry[MARKS] & HELD);\n"),
+    ("hold: a write that holds", REPLAY,
+     WRITTEN, "    entry[MARKS] = DIRTY | HELD;\n"),
+    ("hold: a change that holds, so that the value found put back is not dropped", REPLAY,
+     WRITTEN, "    entry[MARKS] = DIRTY | (value != entry[SNAPSHOT_VALUE] ? HELD : entry[MARKS] & HELD);\n"),
+    ("hold: higher bits kept by a write", BUFFERS,
+     WRITTEN, "    entry[MARKS] |= DIRTY;\n"),
+    ("hold: the mark of an old entry kept by a new one", REPLAY,
+     "    (*entry)[MARKS] = 0;\n", "    (*entry)[MARKS] &= HELD;\n"),
+    ("hold: a new cell not marked", REPLAY,
+     HOLD, "    uint8_t count = sessions[session % PLAIN_SESSIONS].count;\n" + HOLD.replace("== 101", "== 101 && sessions[session].count == count")),
+    ("hold: a known cell not marked", REPLAY,
+     HOLD, "    uint8_t count = sessions[session % PLAIN_SESSIONS].count;\n" + HOLD.replace("== 101", "== 101 && sessions[session].count > count")),
+    ("hold: the last entry marked, whatever its cell", REPLAY,
+     MARKED, "        entry = entry_at(lent, session, sessions[session].count - 1u);\n" + MARKED),
+    ("hold: the last entry of the cell marked", BUFFERS,
+     MARKED, "        for (uint32_t i = 0; i < sessions[session].count; i++) {\n"
+     "            entry = entry_at(lent, session, i)[CELL] == cell ? entry_at(lent, session, i) : entry;\n        }\n" + MARKED),
+    ("hold: the value found answered", REPLAY,
+     MARKED, MARKED + "        found.value = entry[SNAPSHOT_VALUE];\n"),
+    ("hold: the store's value answered", REPLAY,
+     MARKED, MARKED + "        found.value = lent->values[cell];\n"),
+    ("hold: no value answered", REPLAY,
+     MARKED, MARKED + "        found.value = 0;\n"),
+    ("hold: let in past a claim", REPLAY,
+     HOLD, "    uint8_t none, *claimant = cell < lent->claimants_len ? &lent->claimants[cell] : &none, kept = *claimant;\n    *claimant = PLAIN_NOBODY;\n"
+     + HOLD.replace(";\n    if", ";\n    *claimant = kept;\n    if")),
+    ("hold: 6 to a known cell that another claims", REPLAY,
+     MARKED, "        if (lent->claimants[cell] != PLAIN_NOBODY) {\n            roll_back(lent, &sessions[session], session);\n"
+     "            return answer(6);\n        }\n" + MARKED),
+    ("hold: still running after 6", REPLAY,
+     HOLD, "    plain_session kept = sessions[session % PLAIN_SESSIONS];\n"
+     + HOLD.replace("    if", "    if (found.number == 6) {\n        sessions[session] = kept;\n    }\n    if")),
+    ("hold: the readers not joined", REPLAY,
+     HOLD, "    uint8_t count = sessions[session % PLAIN_SESSIONS].count;\n" + HOLD,
+     MARKED, "        if (sessions[session].count > count) {\n            leave(lent, session, cell);\n        }\n" + MARKED),
+    ("hold: nothing in a full log", REPLAY,
+     HOLD, HOLD.replace("    if", "    if (found.number == 101 && sessions[session].count == PLAIN_MAX_ENTRIES) {\n        return answer(5);\n    }\n    if")),
+    ("hold: let through while promoting", REPLAY,
+     HOLD, "    plain_session *record = &sessions[session % PLAIN_SESSIONS];\n    int promoting = record->phase == PROMOTING;\n"
+     "    record->phase = promoting ? RUNNING : record->phase;\n" + HOLD.replace("    if", "    record->phase = promoting && record->phase ? PROMOTING : record->phase;\n    if")),
+    ("hold: the cell's class judged", BUFFERS,
+     MARKED, MARKED + "        if (lent->classes[cell] > PLAIN_MAX_CLASS) {\n            return answer(8);\n        }\n"),
+    ("hold: unchanged cells let go at the seal", REPLAY,
+     "        if (publishes(entry)) {\n", "        if (publishes(entry) && entry[CURRENT_VALUE] != entry[SNAPSHOT_VALUE]) {\n"),
+    ("hold: the readers of unchanged cells left at the seal", REPLAY,
+     "            any = 1;\n", "            any = 1;\n            if (entry[CURRENT_VALUE] == entry[SNAPSHOT_VALUE]) {\n                leave(lent, session, cell);\n            }\n"),
+    ("hold: a commit at the seal where nothing is changed", REPLAY,
+     "            any = 1;\n", "            any |= entry[MARKS] & DIRTY && entry[CURRENT_VALUE] != entry[SNAPSHOT_VALUE];\n"),
+    ("hold: a commit at the seal where nothing is written", REPLAY,
+     "            any = 1;\n", "            any |= (entry[MARKS] & DIRTY) != 0;\n"),
+    ("hold: dropped where it is written back", REPLAY,
+     PUBLISHES, "    return entry[MARKS] & DIRTY ? changed : (entry[MARKS] & HELD) != 0;\n"),
+    ("hold: nothing where it is not written", REPLAY,
+     PUBLISHES, "    return (entry[MARKS] & DIRTY) && ((entry[MARKS] & HELD) || changed);\n"),
+    ("hold: only with another value than the one found", REPLAY,
+     PUBLISHES, "    return (entry[MARKS] & (HELD | DIRTY)) && changed;\n"),
+    ("hold: a word from 2 on taken for held", BUFFERS,
+     PUBLISHES, "    return entry[MARKS] >= HELD || (entry[MARKS] & DIRTY && changed);\n"),
+    ("hold: a word of 2 alone taken for held", REPLAY,
+     PUBLISHES, "    return entry[MARKS] == HELD || (entry[MARKS] & DIRTY && changed);\n"),
+    ("hold: a word of 2 or 3 alone taken for held", BUFFERS,
+     PUBLISHES, "    return entry[MARKS] / 2 == 1 || (entry[MARKS] & DIRTY && changed);\n"),
+    ("hold: bit 2 taken for bit 1", REPLAY,
+     PUBLISHES, "    return (entry[MARKS] & (4 | DIRTY * changed)) != 0;\n"),
+    ("hold: any entry of a cell counted at the seal", BUFFERS,
+     "        if (publishes(entry)) {\n",
+     "        int held = 0;\n"
+     "        for (uint32_t j = i; j < record->count; j++) {\n"
+     "            held |= log[PLAIN_ENTRY_WORDS * j + CELL] == cell && (log[PLAIN_ENTRY_WORDS * j + MARKS] & HELD);\n"
+     "        }\n"
+     "        if (held || publishes(entry)) {\n"),
+    ("hold: any held entry of a cell counted on an advance", BUFFERS,
+     " || !is_first(log, i)) {\n            continue;\n        }\n",
+     " || !(is_first(log, i) || entry[MARKS] & HELD)) {\n            continue;\n        }\n"),
+    ("hold: passed by in the promotion", REPLAY,
+     "uint32_t count, uint32_t from)\n", "uint32_t count, uint32_t from, uint8_t phase)\n",
+     "        if (!publishes(entry) || ", "        if (!publishes(entry) || (phase == PROMOTING && entry[CURRENT_VALUE] == entry[SNAPSHOT_VALUE]) || ",
+     "record.count, record.next)", "record.count, record.next, record.phase)"),
+    ("hold: passed by in the publication", REPLAY,
+     "uint32_t count, uint32_t from)\n", "uint32_t count, uint32_t from, uint8_t phase)\n",
+     "        if (!publishes(entry) || ", "        if (!publishes(entry) || (phase == PUBLISHING && entry[CURRENT_VALUE] == entry[SNAPSHOT_VALUE]) || ",
+     "record.count, record.next)", "record.count, record.next, record.phase)"),
+    ("hold: passed by in the release", REPLAY,
+     "uint32_t count, uint32_t from)\n", "uint32_t count, uint32_t from, uint8_t phase)\n",
+     "        if (!publishes(entry) || ", "        if (!publishes(entry) || (phase == RELEASING && entry[CURRENT_VALUE] == entry[SNAPSHOT_VALUE]) || ",
+     "record.count, record.next)", "record.count, record.next, record.phase)"),
+    ("hold: 9 by the changed cells alone", REPLAY,
+     "        if (step->entry == record.count) {\n",
+     "        int left = 0;\n"
+     "        for (uint32_t i = 0; i < record.count; i++) {\n"
+     "            const uint32_t *entry = log + PLAIN_ENTRY_WORDS * i;\n"
+     "            left |= (entry[MARKS] & DIRTY) && entry[CURRENT_VALUE] != entry[SNAPSHOT_VALUE] && entry[CELL] >= record.next && is_first(log, i);\n"
+     "        }\n"
+     "        if (!left) {\n"),
+    ("hold: an unchanged cell not stored", BUFFERS,
+     "        lent->values[cell] = entry[CURRENT_VALUE];\n",
+     "        if (entry[CURRENT_VALUE] != entry[SNAPSHOT_VALUE]) {\n            lent->values[cell] = entry[CURRENT_VALUE];\n        }\n"),
+    ("hold: an unwritten cell not stored", BUFFERS,
+     "        lent->values[cell] = entry[CURRENT_VALUE];\n",
+     "        if (entry[MARKS] & DIRTY) {\n            lent->values[cell] = entry[CURRENT_VALUE];\n        }\n"),
+    ("hold: an unwritten cell stored with the value found", BUFFERS,
+     "        lent->values[cell] = entry[CURRENT_VALUE];\n", "        lent->values[cell] = entry[MARKS] & DIRTY ? entry[CURRENT_VALUE] : entry[SNAPSHOT_VALUE];\n"),
+    ("hold: stored with the value found, written or not", REPLAY,
+     "        lent->values[cell] = entry[CURRENT_VALUE];\n", "        lent->values[cell] = entry[MARKS] & HELD ? entry[SNAPSHOT_VALUE] : entry[CURRENT_VALUE];\n"),
+    ("hold: promoted past other readers where unchanged", REPLAY,
+     "        if (lent->readers[cell] & ~(1u << session)) {", "        if (entry[CURRENT_VALUE] != entry[SNAPSHOT_VALUE] && lent->readers[cell] & ~(1u << session)) {"),
+    ("hold: kept over a roll-back", REPLAY,
+     "        leave(lent, session, cell);\n        if (lent->claimants[cell] == session) {\n",
+     "        if (log[PLAIN_ENTRY_WORDS * i + MARKS] & HELD) {\n            continue;\n        }\n"
+     "        leave(lent, session, cell);\n        if (lent->claimants[cell] == session) {\n"),
+    ("hold: peeked in the log", RUN,
+     "    part.words = entry[MARKS] & DIRTY ? ", "    part.words = entry[MARKS] & (HELD | DIRTY) ? "),
+    ("hold: a held and written cell peeked in the store", RUN,
+     "    part.words = entry[MARKS] & DIRTY ? ", "    part.words = (entry[MARKS] & (HELD | DIRTY)) == DIRTY ? "),
     ("many reads: one more after a refusal", RUN,
      "            return many_answer(3, got);\n",
      "            if (got + 1 < cells_len) {\n"

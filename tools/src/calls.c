@@ -1,5 +1,5 @@
 /* Turns a text form of call lists into call fields, and back; all fields pass through the two functions of field_io.h.
-   One line is one field: cell CLASS FIGURE, begin S, read S CELL, write S CELL FIGURE, seal S, advance S, abandon S. */
+   One line is one field: cell CLASS FIGURE, begin S, read S CELL, hold S CELL, write S CELL FIGURE, seal S, advance S, abandon S. */
 #include "field_io.h"
 
 #include <stdio.h>
@@ -26,6 +26,7 @@ static const form forms[] = {
     {"cell", TAG_CELL, 2, {255, UINT32_MAX}, {"class", "figure"}},
     {"begin", TAG_BEGIN, 1, {255}, {"session"}},
     {"read", TAG_READ, 2, {255, 65535}, {"session", "cell"}},
+    {"hold", TAG_HOLD, 2, {255, 65535}, {"session", "cell"}},
     {"write", TAG_WRITE, 3, {255, 65535, UINT32_MAX}, {"session", "cell", "figure"}},
     {"seal", TAG_SEAL, 1, {255}, {"session"}},
     {"advance", TAG_ADVANCE, 1, {255}, {"session"}},
@@ -213,7 +214,7 @@ static void print_field(call_field field)
     }
     unsigned first = field.tag == TAG_CELL ? field.class : field.session;
     printf("%s %u", f->word, first);
-    if (field.tag == TAG_READ || field.tag == TAG_WRITE) {
+    if (field.tag == TAG_READ || field.tag == TAG_HOLD || field.tag == TAG_WRITE) {
         printf(" %u", (unsigned)field.cell);
     }
     if (field.tag == TAG_WRITE || field.tag == TAG_CELL) {

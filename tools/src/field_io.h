@@ -5,7 +5,7 @@
 #include <stddef.h>
 #include <stdint.h>
 
-enum { TAG_BEGIN = 1, TAG_READ = 2, TAG_WRITE = 3, TAG_SEAL = 4, TAG_ADVANCE = 5, TAG_ABANDON = 6, TAG_CELL = 8 };
+enum { TAG_BEGIN = 1, TAG_READ = 2, TAG_WRITE = 3, TAG_SEAL = 4, TAG_ADVANCE = 5, TAG_ABANDON = 6, TAG_CELL = 8, TAG_HOLD = 9 };
 
 /* The longest field. */
 enum { MAX_FIELD = 10 };

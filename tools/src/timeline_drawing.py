@@ -16,6 +16,7 @@ GOOD, WAIT, BAD = "#1d8a4e", "#b87400", "#c8302b"
 
 LEGEND = [
     ("read", "read: value found"),
+    ("hold", "hold: read, and counts as written"),
     ("write", "write"),
     ("dropped", "write dropped: value as found"),
     ("seal", "seal: snapshot"),
@@ -65,6 +66,9 @@ class Canvas:
             self.add(f'<path d="M{x} {y - 8}V{y + 8}" stroke="{MUTED}" stroke-width="3"/>')
         elif kind == "read":
             self.add(f'<circle cx="{x}" cy="{y}" r="6" fill="white" stroke="{INK}" stroke-width="2"/>')
+        elif kind == "hold":
+            self.add(f'<circle cx="{x}" cy="{y}" r="6" fill="white" stroke="{INK}" stroke-width="2"/>'
+                     f'<rect x="{x - 3}" y="{y - 3}" width="6" height="6" fill="{INK}"/>')
         elif kind == "write":
             self.add(f'<rect x="{x - 6}" y="{y - 6}" width="12" height="12" fill="{INK}"/>')
         elif kind == "dropped":
@@ -119,7 +123,7 @@ def split_rows(calls):
 def shown_cells(history):
     """The cells that calls name: the stored ones first, at most twelve, in order; and how many were left out."""
     stored = {call.stored[0] for call in history.calls if call.stored}
-    named = {call.cell for call in history.calls if call.name in ("read", "write") and call.cell < len(history.cells)}
+    named = {call.cell for call in history.calls if call.name in ("read", "hold", "write") and call.cell < len(history.cells)}
     chosen = (sorted(stored) + sorted(named - stored))[:MOST_CELLS]
     return sorted(chosen), len(named | stored) - len(chosen)
 

@@ -1,11 +1,12 @@
 """A replay's input and output as a history: for each call what it did, and for each transaction its snapshot and its commit.
 
 All of it is read off the starting figures, the calls and their answers, as document 01's 'What demand 3 counts' does; so is the value that a
-transaction found in a cell, which no answer need show (document 02, Paper 2): it is the store's when the cell is entered."""
+transaction found in a cell, which no answer need show (document 02, Paper 2): it is the store's when the cell is entered. A cell that it held counts as
+written, changed or not (Paper 4)."""
 
 HEAD = 3
-BODY = {1: 1, 2: 3, 3: 7, 4: 1, 5: 1, 6: 1, 8: 5}
-CALLS = {1: "begin", 2: "read", 3: "write", 4: "seal", 5: "advance", 6: "abandon"}
+BODY = {1: 1, 2: 3, 3: 7, 4: 1, 5: 1, 6: 1, 8: 5, 9: 3}
+CALLS = {1: "begin", 2: "read", 3: "write", 4: "seal", 5: "advance", 6: "abandon", 9: "hold"}
 REFUSALS = {1: "no such session", 2: "wrong phase", 3: "no such cell", 4: "above its cap", 5: "log full"}
 PHASES = ("lock", "store", "free")
 
@@ -30,15 +31,18 @@ class Transaction:
 
     def __init__(self, session, place):
         self.session, self.begin = session, place
-        # The value found in each cell entered, the value last written to each cell, and the calls that wrote.
-        self.found, self.wrote, self.writes = {}, {}, []
-        # The cells that it changed, in order: known at its seal.
-        self.changed = []
+        # The value found in each cell entered, the value last written to each cell, the calls that wrote, and the cells held.
+        self.found, self.wrote, self.writes, self.held = {}, {}, [], set()
+        # The cells that it held or changed, in order: known at its seal.
+        self.publishes = []
         self.snapshot = self.commit = self.end = None
         self.outcome = "open"
         self.moved = 0
         # For each wait its place and that of the session's next call.
         self.waits = []
+
+    def current(self, cell):
+        return self.wrote.get(cell, self.found[cell])
 
 
 class History:
@@ -97,10 +101,15 @@ class History:
 
     def do_read(self, call, transaction):
         self.enter(call, transaction)
-        held = transaction.wrote.get(call.cell, transaction.found[call.cell])
-        if call.got != held:
-            raise Mismatch(f"call {call.place} reads {call.got} where the cell has {held}")
+        current = transaction.current(call.cell)
+        if call.got != current:
+            raise Mismatch(f"call {call.place} reads {call.got} where the cell has {current}")
         call.kind, call.lines = "read", [f"c{call.cell} = {call.got}"]
+
+    def do_hold(self, call, transaction):
+        self.do_read(call, transaction)
+        transaction.held.add(call.cell)
+        call.kind, call.lines = "hold", call.lines + ["held"]
 
     def do_write(self, call, transaction):
         self.enter(call, transaction)
@@ -110,13 +119,14 @@ class History:
 
     def do_seal(self, call, transaction):
         transaction.snapshot = call.place
-        transaction.changed = sorted(cell for cell, value in transaction.wrote.items() if value != transaction.found[cell])
-        if call.number != (102 if transaction.changed else 105):
-            raise Mismatch(f"call {call.place} is answered {call.number} with {several(len(transaction.changed), 'cell')} changed")
-        for cell in transaction.found.keys() - set(transaction.changed):
+        changed = {cell for cell, value in transaction.wrote.items() if value != transaction.found[cell]}
+        transaction.publishes = sorted(changed | transaction.held)
+        if call.number != (102 if transaction.publishes else 105):
+            raise Mismatch(f"call {call.place} is answered {call.number} with {several(len(transaction.publishes), 'cell')} to publish")
+        for cell in transaction.found.keys() - set(transaction.publishes):
             self.readers[cell].discard(call.session)
         for write in transaction.writes:
-            if write.cell not in transaction.changed:
+            if write.cell not in transaction.publishes:
                 write.kind, write.lines = "dropped", write.lines + ["dropped"]
         if call.number == 105:
             transaction.commit = call.place
@@ -126,11 +136,11 @@ class History:
             call.kind, call.lines = "seal", ["seal", "snapshot"]
 
     def do_advance(self, call, transaction):
-        changed = transaction.changed
-        if not changed:
+        cells = transaction.publishes
+        if not cells:
             raise Mismatch(f"call {call.place} is answered {call.number} before a seal answered 102")
-        phase, index = divmod(transaction.moved, len(changed))
-        cell = changed[index]
+        phase, index = divmod(transaction.moved, len(cells))
+        cell = cells[index]
         if phase == 0:
             self.claimant[cell] = call.session
         if call.number == 104:
@@ -140,16 +150,16 @@ class History:
             transaction.waits.append((call.place, None))
             return
         transaction.moved += 1
-        if (call.number == 105) != (transaction.moved == 3 * len(changed)):
-            raise Mismatch(f"call {call.place} is answered {call.number}, advance {transaction.moved} of {several(len(changed), 'cell')} changed")
+        if (call.number == 105) != (transaction.moved == 3 * len(cells)):
+            raise Mismatch(f"call {call.place} is answered {call.number}, advance {transaction.moved} of {several(len(cells), 'cell')} to publish")
         call.kind, call.lines = PHASES[phase], [f"{PHASES[phase]} c{cell}"]
-        if phase == 0 and transaction.moved == len(changed):
+        if phase == 0 and transaction.moved == len(cells):
             transaction.commit = call.place
             call.kind, call.lines = "commit", [f"lock c{cell}", "commit"]
         if phase == 1:
-            call.stored = (cell, transaction.wrote[cell])
-            self.values[cell] = transaction.wrote[cell]
-            call.lines.append(f"= {transaction.wrote[cell]}")
+            call.stored = (cell, transaction.current(cell))
+            self.values[cell] = transaction.current(cell)
+            call.lines.append(f"= {transaction.current(cell)}")
         if phase == 2:
             self.readers[cell].discard(call.session)
             self.claimant.pop(cell, None)
@@ -170,9 +180,9 @@ class History:
         transaction = self.running[call.session]
         cell = call.cell
         if call.name == "advance":
-            if transaction.moved >= len(transaction.changed):
+            if transaction.moved >= len(transaction.publishes):
                 raise Mismatch(f"call {call.place} is answered 6 with no cell left to lock")
-            cell = transaction.changed[transaction.moved]
+            cell = transaction.publishes[transaction.moved]
         call.kind, call.lines = "rollback", ["rolled back", f"c{cell} is claimed", f"by {self.claimant.get(cell, '?')}"]
         self.release(call.session)
         self.close(call, "rolled back")

@@ -1,5 +1,5 @@
--- Which answers a begin, a read and a seal give, by the plans that they make; and so does the code, whose answer is the model's.
-use Prim.Native.Nat.{ℕ, _%_, _<_}
+-- Which answers a begin, a read, a hold and a seal give, by the plans that they make; and so does the code, whose answer is the model's.
+use Prim.Native.Nat.{ℕ, _%_}
 use mathlib.Core.Path.{_≡_, refl, sym, ap, _∙_}
 use mathlib.Core.Bool.{Bool, true, false}
 use mathlib.Core.List.{List, [], _∷_}
@@ -8,19 +8,18 @@ use lib.Dec.{ltb, eqb}
 use lib.ListN.{replicate}
 use types.Run.{OneOf, miss}
 use denote.Enum.Declared.{tagOf}
-use Rattle.model.specs.Buffers.{Buffers, Store, idle, size, sessionAt, withSession, lockAt, lengthsFit, slotIn, targetIn}
+use Rattle.model.specs.Buffers.{Buffers, Store, idle, size, withSession, lockAt, lengthsFit, slotIn, targetIn}
 use Rattle.model.specs.Effects.{number, valueOf, recordOf, logOf, answer, planEffect}
-use Rattle.model.specs.Plans.{require, admit, guard, known, recordFits, claimed, newCell, readSlot, readPlan, sealTarget, sealPlan, plan}
+use Rattle.model.specs.Plans.{require, admit, guard, known, claimed, newCell, readSlot, readPlan, holdSlot, holdPlan, sealTarget, sealPlan, plan}
 use Rattle.model.specs.Step.{Outcome, answerOf, planOf, effect, sessionOf, TakesRecord}
 use Rattle.model.specs.declared.Answer.{Answer}
 use Rattle.model.specs.declared.Answer.the-variants.{Done, Value, Sealed, Moved, Waiting, Committed, Refused}
 use Rattle.model.specs.declared.Call.{Call}
-use Rattle.model.specs.declared.Call.the-variants.{Begin, Read, Seal}
+use Rattle.model.specs.declared.Call.the-variants.{Begin, Read, Seal, Hold}
 use Rattle.model.specs.declared.Lock.{Lock}
 use Rattle.model.specs.declared.Plan.{Plan}
-use Rattle.model.specs.declared.Plan.the-variants.{Refuse}
+use Rattle.model.specs.declared.Plan.the-variants.{Refuse, Enter, EnterMark}
 use Rattle.model.specs.declared.Session.{Session}
-use Rattle.model.specs.declared.Sessions.{Sessions}
 use Rattle.model.specs.declared.SessionReply.{SessionReply}
 use Rattle.model.proofs.Answer as answers
 use Rattle.model.proofs.Laws.{session-same}
@@ -40,17 +39,33 @@ begin-answers s σ =
     let Q : Plan → Type 0 = λ p. ofBegin (answer s p σ) ≡ true in
     admitted Q (λ k. refl) (σ .lent) s _ (guarded Q (λ k. refl) (size (σ .lent)) (logOf σ s) (recordOf σ s) (eqb (recordOf σ s .phase) 0) _ (λ t u. refl))
 
-read-answers : (s c : ℕ) (σ : Store) → ofRead (answerOf (Read s c) σ) ≡ true
-unfolding answerOf planOf plan readPlan readSlot known newCell answer planEffect
-read-answers s c σ =
-    let Q : Plan → Type 0 = λ p. ofRead (answer s p σ) ≡ true in
-    let x = recordOf σ s in
-    let l = lockAt (σ .lent .locks) c in
-    let entry : Q (readSlot (logOf σ s) x l c (slotIn (logOf σ s) (x .count) c)) =
-    which (slotIn (logOf σ s) (x .count) c)
-    (λ e. rw e (required Q (λ k. refl) (ltb (x .count) 32) 5 _ (λ t. split Q (claimed l) (λ u. refl) (λ u. refl)))) (λ k e. rw e) in
-    admitted Q (λ k. refl) (σ .lent) s _
-    (guarded Q (λ k. refl) (size (σ .lent)) (logOf σ s) x (eqb (x .phase) 1) _ (λ t u. required Q (λ k. refl) (ltb c (size (σ .lent))) 3 _ (λ w. entry)))
+-- a read and a hold answer alike: behind their tests by what they decide of an entry, and of a new cell by how they enter it
+module _ (s c : ℕ) (σ : Store) where
+  abbrev Reads : Plan → Type 0
+  Reads p = ofRead (answer s p σ) ≡ true
+
+  abbrev x : Session
+  x = recordOf σ s
+
+  looks : (p : Plan) → Reads p → Reads (admit (σ .lent) s (guard (size (σ .lent)) (logOf σ s) x (eqb (x .phase) 1) (known (size (σ .lent)) c p)))
+  unfolding known answer planEffect
+  looks p q =
+      admitted Reads (λ k. refl) (σ .lent) s _
+      (guarded Reads (λ k. refl) (size (σ .lent)) (logOf σ s) x (eqb (x .phase) 1) _ (λ t u. required Reads (λ k. refl) (ltb c (size (σ .lent))) 3 p (λ w. q)))
+
+  enters : (l : Lock) (p : Plan) → Reads p → Reads (newCell x l p)
+  unfolding newCell answer planEffect
+  enters l p q = required Reads (λ k. refl) (ltb (x .count) 32) 5 _ (λ t. split Reads (claimed l) (λ u. refl) (λ u. q))
+
+  read-answers : ofRead (answerOf (Read s c) σ) ≡ true
+  unfolding answerOf planOf plan readPlan readSlot answer planEffect
+  read-answers =
+      looks _ (which (slotIn (logOf σ s) (x .count) c) (λ e. rw e (enters (lockAt (σ .lent .locks) c) (Enter c) refl)) (λ k e. rw e))
+
+  hold-answers : ofRead (answerOf (Hold s c) σ) ≡ true
+  unfolding answerOf planOf plan holdPlan holdSlot answer planEffect
+  hold-answers =
+      looks _ (which (slotIn (logOf σ s) (x .count) c) (λ e. rw e (enters (lockAt (σ .lent .locks) c) (EnterMark c) refl)) (λ k e. rw e))
 
 seal-answers : (s : ℕ) (σ : Store) → ofSeal (answerOf (Seal s) σ) ≡ true
 unfolding answerOf planOf plan sealPlan sealTarget answer planEffect
@@ -76,6 +91,9 @@ module _ (s : ℕ) (B C : Buffers) (x y : Session) (a : Answer) where
 
   pub read-gives : (c : ℕ) → TakesRecord (Read s c) B x a C y → ofRead a ≡ true
   read-gives c = given ofRead (Read s c) B C x y a (read-answers s c)
+
+  pub hold-gives : (c : ℕ) → TakesRecord (Hold s c) B x a C y → ofRead a ≡ true
+  hold-gives c = given ofRead (Hold s c) B C x y a (hold-answers s c)
 
   pub seal-gives : TakesRecord (Seal s) B x a C y → ofSeal a ≡ true
   seal-gives = given ofSeal (Seal s) B C x y a (seal-answers s)

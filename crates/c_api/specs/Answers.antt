@@ -1,4 +1,4 @@
--- Which answers a begin, a read and a seal give, for the inner functions that turn these into numbers. Nothing here is part of what a call promises.
+-- Which answers a begin, a read, a hold and a seal give, for the inner functions that turn these into numbers. Nothing here is part of what a call promises.
 use Prim.Native.Nat.{ℕ}
 use mathlib.Core.Bool.{Bool, true, false}
 use Rattle.model.specs.declared.Answer.{Answer}
@@ -14,7 +14,7 @@ refusalOf Waiting = 0
 refusalOf Committed = 0
 refusalOf (Refused k) = k
 
--- the answers that a begin, a read and a seal give
+-- the answers that a begin, a read or a hold, and a seal give
 abbrev pub ofBegin : Answer → Bool
 ofBegin Done = true
 ofBegin (Value v) = false

@@ -7,6 +7,8 @@ use denote.Ref.{now}
 use Rattle.model.specs.Buffers.{Store, sessionAt, withSession}
 use Rattle.model.specs.Slices.{Slice, Number}
 use Rattle.model.specs.History.{Action, oneCall, manyReads, Event}
+use Rattle.model.specs.History as items
+use Rattle.model.specs.CommitOrder.{InCommitOrder}
 use Rattle.model.specs.Isolation.{Demand3OfCode}
 use Rattle.model.specs.Effects.{number, valueOf, Part, storeWord, logWord, noWord}
 use Rattle.model.specs.Step.{Outcome, effect, setUpEffect, peekShows, sessionOf}
@@ -92,8 +94,9 @@ pub data Called (σ : Store) : List Action → List Heard → Store → Type 0 w
   thenMany : {ks : List Action} {h : List Heard} {x : Store} → Called σ ks h x → (s : ℕ) (cs target : List ℕ) (o : ReadsOutcome) → o ≡ readManyEffect s cs target x
       → Called σ (manyReads s cs (length target) ∷ ks) (calledMany s cs (length target) (o .number) (take (o .count) (o .target)) ∷ h) (o .store)
 
--- what C was told of a list of actions in their order is what it hears of events of which demand 3 holds
+-- what C was told of a list of actions in their order is what it hears of events of which demand 3 holds, and the theorem of the order
 pub record Demand3InNumbers (σ : Store) (actions : List Action) (h : List Heard) (τ : Store) : Type 0 where
   pub events : List Event
   pub told : h ≡ map heard events
   pub meets : Demand3OfCode σ actions events τ
+  pub order : InCommitOrder (σ .lent .values) (items.told [] events) τ

@@ -3,7 +3,7 @@ mod fields;
 
 ghost use mathlib.Core.Path.{_≡_};
 ghost use mathlib.Core.Bool.{true};
-ghost use Rattle.model.specs.declared.Call.the-variants.{Begin, Read, Write, Seal, Advance, Abandon, Peek};
+ghost use Rattle.model.specs.declared.Call.the-variants.{Begin, Read, Write, Seal, Advance, Abandon, Peek, Hold};
 ghost use Rattle.many_reads.specs.Lent.{ReadsMany};
 ghost use Rattle.c_api.specs.InNumbers.{SetsUpInNumbers, TakesInNumbers, TellsPlace, numbersOf};
 ghost use Rattle.c_api.specs.Answers.{refusalOf, ofBegin, ofRead, ofSeal};
@@ -194,6 +194,34 @@ pub extern "C" fn rukkanei_read(
     ensures { λ r. ⌜ TakesInNumbers (Read session cell) values classes readers claimants exclusives logs x r ⌝ }
 {
     read_in_numbers(store::read(
+        x,
+        values,
+        classes,
+        readers,
+        claimants,
+        exclusives,
+        logs,
+        session,
+        cell,
+    ))
+}
+
+// Hold: as read, and with 101 the cell counts as written from the seal on.
+#[no_mangle]
+pub extern "C" fn rukkanei_hold(
+    x: Session,
+    values: &[u32],
+    classes: &[u8],
+    readers: &mut [u16],
+    claimants: &mut [u8],
+    exclusives: &mut [u8],
+    logs: &mut [u32],
+    session: u8,
+    cell: u32,
+) -> NumberReply
+    ensures { λ r. ⌜ TakesInNumbers (Hold session cell) values classes readers claimants exclusives logs x r ⌝ }
+{
+    read_in_numbers(store::hold(
         x,
         values,
         classes,

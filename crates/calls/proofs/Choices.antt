@@ -1,7 +1,7 @@
--- What a read and a write decide as if nobody were claimant, and with that what they decide with the lock: the same, unless a new cell is claimed.
+-- What a read, a hold and a write decide as if nobody were claimant, and with that what they decide with the lock: the same, unless a new cell is claimed.
 use mathlib.Core.Path.{_≡_, refl, sym, _∙_}
 use mathlib.Core.Bool.{cond, not}
-use mathlib.Core.Option.{some}
+use mathlib.Core.Option.{Option, none, some}
 use mathlib.Core.List.{List}
 use Prim.Native.Nat.{ℕ, _<_}
 use native.Mathlib.Omega.{arith}
@@ -10,11 +10,11 @@ use lib.ListN.{getD}
 use lib.Dec.{T, leb, ltb, eqb}
 use Rattle.model.specs.Buffers.{free, entryAt, slotIn, cap}
 use Rattle.model.specs.Plans
-use Rattle.model.specs.Plans.{newCell, claimed, recordFits, guard, readSlot, readPlan, writeSlot, writeCapped, writePlan}
+use Rattle.model.specs.Plans.{newCell, claimed, recordFits, guard, readSlot, readPlan, holdSlot, holdPlan, writeSlot, writeCapped, writePlan}
 use Rattle.model.specs.declared.Session.{Session}
 use Rattle.model.specs.declared.Lock.{Lock}
 use Rattle.model.specs.declared.Plan.{Plan}
-use Rattle.model.specs.declared.Plan.the-variants.{Refuse, Tell, Enter, Update, EnterUpdate, RollBack}
+use Rattle.model.specs.declared.Plan.the-variants.{Refuse, Tell, Enter, Update, EnterUpdate, Mark, EnterMark, RollBack}
 use Rattle.model.proofs.Tools.{test, which}
 use Rattle.log.proofs.Targets.{slot-some}
 use Rattle.locks.proofs.Tags.{tag, Passed, Passes, passed, clashes}
@@ -48,29 +48,38 @@ module _ (n : ℕ) (log : List ℕ) (x : Session) (l : Lock) (c : ℕ) where
     fresh e i =
         test (ltb (x .count) 32) (λ a. rw a (enters i (ltb-true (x .count) 32 a) e refl refl)) (λ a. rw a (refuses 5 refl refl))
 
-  -- an entry found is one of at most 32
-  spot : Entries n log x → (k : ℕ) → slotIn log (x .count) c ≡ some k → k < 32
-  spot e k q = let i = slot-some log (x .count) c q .0 in let f = e .count in omega arith
+    -- an entry found is one of at most 32
+    spot : Entries n log x → (k : ℕ) → slotIn log (x .count) c ≡ some k → k < 32
+    spot e k q = let i = slot-some log (x .count) c q .0 in let f = e .count in omega arith
+
+    -- f decides by the place of the cell's entry
+    placed : (f : Lock → Option ℕ → Plan) → ((m : Lock) → f m none ≡ newCell x m new) → ((m : Lock) (k : ℕ) → f m (some k) ≡ known k)
+        → Entries n log x → c < n → Choice n log x l c known new (f free (slotIn log (x .count) c)) (f l (slotIn log (x .count) c))
+    placed f g h e i =
+        which (slotIn log (x .count) c) (λ q. rw (q, g free, g l) (fresh e i)) (λ k q. rw q (knows k (spot e k q) (h free k) (h l k)))
 
   pub read-choice : Choice n log x l c (λ k. Tell (entryAt log k .current)) (Enter c) (readPlan n log x free c) (readPlan n log x l c)
   unfolding readPlan readSlot
   read-choice =
-      past (λ k. Tell (entryAt log k .current)) (Enter c) _ _
-      (λ e i.
-      which (slotIn log (x .count) c) (λ q. rw q (fresh (λ k. Tell (entryAt log k .current)) (Enter c) e i))
-      (λ k q. rw q (knows k (spot e k q) refl refl)))
+      let known : ℕ → Plan = λ k. Tell (entryAt log k .current) in
+      past known (Enter c) _ _ (placed known (Enter c) (λ m o. readSlot log x m c o) (λ m. refl) (λ m k. refl))
+
+  pub hold-choice : Choice n log x l c (λ k. Mark k (entryAt log k .current)) (EnterMark c) (holdPlan n log x free c) (holdPlan n log x l c)
+  unfolding holdPlan holdSlot
+  hold-choice =
+      let known : ℕ → Plan = λ k. Mark k (entryAt log k .current) in
+      past known (EnterMark c) _ _ (placed known (EnterMark c) (λ m o. holdSlot log x m c o) (λ m. refl) (λ m k. refl))
 
   pub write-choice : (ks : List ℕ) (v : ℕ) → Choice n log x l c (λ k. Update k v) (EnterUpdate c v) (writePlan ks n log x free c v) (writePlan ks n log x l c v)
   unfolding writePlan writeCapped writeSlot
   write-choice ks v =
-      past (λ k. Update k v) (EnterUpdate c v) _ _
+      let known : ℕ → Plan = λ k. Update k v in
+      past known (EnterUpdate c v) _ _
       (λ e i.
       test (ltb (getD ks c 0) 16)
       (λ a.
       test (leb v (cap (getD ks c 0)))
-      (λ b.
-      rw (a, b)
-      (which (slotIn log (x .count) c) (λ q. rw q (fresh (λ k. Update k v) (EnterUpdate c v) e i)) (λ k q. rw q (knows k (spot e k q) refl refl))))
+      (λ b. rw (a, b) (placed known (EnterUpdate c v) (λ m o. writeSlot x m c v o) (λ m. refl) (λ m k. refl) e i))
       (λ b. rw (a, b) (refuses 4 refl refl)))
       (λ a. rw a (refuses 8 refl refl)))
 
@@ -89,8 +98,17 @@ module _ {n : ℕ} {log : List ℕ} {x : Session} {l : Lock} {c : ℕ} {p q : Pl
   when-new (knows k h f g) a t i j = absurd (passed a p (known k) (t k) f i)
   when-new (enters h m w f g) a t i j = (h, m, w, g)
 
-pub when-known : {n : ℕ} {log : List ℕ} {x : Session} {l : Lock} {c v : ℕ} {p q : Plan} → Choice n log x l c (λ k. Update k v) (EnterUpdate c v) p q
+  -- a plan that is neither a refusal nor the new cell's is that of an entry
+  when-known : Choice n log x l c known new p q → (o : Plan) (k : ℕ) → T (not (eqb 0 (tag o))) → T (not (eqb (tag new) (tag o)))
+      → ((j : ℕ) → known j ≡ o → j ≡ k) → p ≡ o → k < 32
+  when-known (refuses r f g) o k t u h e = absurd (clashes p (Refuse r) o t f e)
+  when-known (knows j i f g) o k t u h e = let z = h j (sym f ∙ e) in omega arith
+  when-known (enters i j w f g) o k t u h e = absurd (clashes p new o u f e)
+
+pub when-updated : {n : ℕ} {log : List ℕ} {x : Session} {l : Lock} {c v : ℕ} {p q : Plan} → Choice n log x l c (λ k. Update k v) (EnterUpdate c v) p q
     → (k u : ℕ) → p ≡ Update k u → k < 32
-when-known {p = p} (refuses r f g) k u e = absurd (clashes p (Refuse r) (Update k u) tt f e)
-when-known (knows j i f g) k u e = let z : j ≡ k = cc in omega arith
-when-known {c = c} {v = v} {p = p} (enters i j w f g) k u e = absurd (clashes p (EnterUpdate c v) (Update k u) tt f e)
+when-updated h k u e = when-known h (Update k u) k tt tt (λ j f. cc) e
+
+pub when-marked : {n : ℕ} {log : List ℕ} {x : Session} {l : Lock} {c : ℕ} {p q : Plan} → Choice n log x l c (λ k. Mark k (entryAt log k .current)) (EnterMark c) p q
+    → (k u : ℕ) → p ≡ Mark k u → k < 32
+when-marked h k u e = when-known h (Mark k u) k tt tt (λ j f. cc) e

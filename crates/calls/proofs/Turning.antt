@@ -4,13 +4,13 @@ use mathlib.Core.List.{List}
 use mathlib.Core.Bool.{Bool}
 use Prim.Native.Nat.{ℕ}
 use lib.ListN.{getD, set}
-use Rattle.model.specs.Buffers.{idle, running, withEntry, moveTo, appended, updated}
+use Rattle.model.specs.Buffers.{idle, running, withEntry, moveTo, appended, updated, marked}
 use Rattle.model.specs.Effects.{isLeft}
 use Rattle.model.specs.Turns.{leaves, turnOf}
 use Rattle.model.specs.declared.Session.{Session}
 use Rattle.model.specs.declared.Answer.the-variants as say
 use Rattle.model.specs.declared.Plan.{Plan}
-use Rattle.model.specs.declared.Plan.the-variants.{Refuse, Start, Tell, Enter, Update, EnterUpdate, RollBack, Cancel, CommitReads, BeginPromotion, Wait, Acquire, Publish, Release}
+use Rattle.model.specs.declared.Plan.the-variants.{Refuse, Start, Tell, Enter, Update, EnterUpdate, Mark, EnterMark, RollBack, Cancel, CommitReads, BeginPromotion, Wait, Acquire, Publish, Release}
 use Rattle.model.specs.declared.Change.the-variants as to
 use Rattle.model.specs.declared.Turn.{Turn}
 use Rattle.calls.specs.Pieces.{handledBy}
@@ -54,6 +54,16 @@ module _ (vs log : List ℕ) (x : Session) (p : Plan) where
         → t ≡ record { answer = say.Done; session = withEntry x; change = to.Join c } → leaves (t .answer) vs W (t .session) (t .change) ≡ turnOf p vs log x
     unfolding turnOf
     turn-enter-updated c v u U W h i j k f = rw (h, f, k, j, i)
+
+    pub turn-marked : (k v : ℕ) (W : List ℕ) → p ≡ Mark k v → W ≡ marked log k → t ≡ record { answer = say.Value v; session = x; change = to.Keep }
+        → leaves (t .answer) vs W (t .session) (t .change) ≡ turnOf p vs log x
+    unfolding turnOf
+    turn-marked k v W h i f = rw (h, f, i)
+
+    pub turn-enter-marked : (c v : ℕ) (U W : List ℕ) → p ≡ EnterMark c → v ≡ getD vs c 0 → U ≡ appended log (x .count) c v → W ≡ marked U (x .count)
+        → t ≡ record { answer = say.Value v; session = withEntry x; change = to.Join c } → leaves (t .answer) vs W (t .session) (t .change) ≡ turnOf p vs log x
+    unfolding turnOf
+    turn-enter-marked c v U W h i j k f = rw (h, f, k, j, i)
 
     pub turn-published : (c v : ℕ) (more : Bool) (d : Handled) → p ≡ Publish c v → more ≡ isLeft log c x → d ≡ handledBy more x c
         → t ≡ record { answer = say.Moved; session = d .session; change = to.Keep }

@@ -12,13 +12,13 @@ use lib.ListN.{length, getD}
 use Rattle.model.specs.Search.{some?, below}
 use Rattle.model.specs.Readers.{otherReaders}
 use Rattle.model.specs.Buffers.{idle, moveTo, cellAt, entryAt, slotIn, targetIn, cap}
-use Rattle.model.specs.Plans.{claimed, newCell, sealTarget, promotePlan, known, entriesFit, recordFits, guard, readSlot, readPlan, writeSlot, writeCapped, writePlan, sealPlan, peekSlot, peekPlan}
+use Rattle.model.specs.Plans.{claimed, newCell, sealTarget, promotePlan, known, entriesFit, recordFits, guard, readSlot, readPlan, holdSlot, holdPlan, writeSlot, writeCapped, writePlan, sealPlan, peekSlot, peekPlan}
 use Rattle.model.specs.Effects.{isLeft, handled, releaseAnswer}
 use Rattle.model.specs.declared.Session.{Session}
 use Rattle.model.specs.declared.Lock.{Lock}
 use Rattle.model.specs.declared.Answer.the-variants.{Moved, Committed}
 use Rattle.model.specs.declared.Plan.{Plan}
-use Rattle.model.specs.declared.Plan.the-variants.{Refuse, Start, Tell, Enter, Update, EnterUpdate, RollBack, CommitReads, BeginPromotion, Wait, Acquire, Publish, Release, ShowStore, ShowLog}
+use Rattle.model.specs.declared.Plan.the-variants.{Refuse, Start, Tell, Enter, Update, EnterUpdate, Mark, EnterMark, RollBack, CommitReads, BeginPromotion, Wait, Acquire, Publish, Release, ShowStore, ShowLog}
 use Rattle.model.proofs.Passing.{Entries, entries-of, record-entries}
 use Rattle.model.proofs.Tools.{test, clash, and-false}
 use Rattle.log.specs.Slots.{found, targetSlot, isMore}
@@ -205,13 +205,14 @@ module _ (n : ℕ) (log : List ℕ) (x : Session) where
     pub inside : length log ≡ 128 → (k : ℕ) → k < x .count → 4 * k + 3 < length log
     inside h k i = let w = few in omega arith
 
+    -- a cell that there is not, of a call that takes one
+    pub outside : (c : ℕ) (p : Plan) → n ≤ c → Refuse 3 ≡ guard n log x (eqb (x .phase) 1) (known n c p)
+    unfolding guard known
+    outside c p h = simp (whole, runs, le-ltb c n h)
+
     -- ---- read
 
     module _ (l : Lock) (c : ℕ) where
-      pub read-outside : n ≤ c → Refuse 3 ≡ readPlan n log x l c
-      unfolding guard known readPlan
-      read-outside h = simp (whole, runs, le-ltb c n h)
-
       -- k is the place that the search for the cell answered
       module _ (h : c < n) (k : ℕ) (s : found (x .count) k ≡ slotIn log (x .count) c) where
         pub read-known : k < x .count → (v : ℕ) → v ≡ entryAt log k .current → Tell v ≡ readPlan n log x l c
@@ -222,13 +223,19 @@ module _ (n : ℕ) (log : List ℕ) (x : Session) where
         unfolding guard readSlot known readPlan
         read-new i p q = simp (whole, runs, lt-ltb c n h, found-nowhere (x .count) k _ s i, q)
 
+        -- ---- hold
+
+        pub hold-known : k < x .count → (v : ℕ) → v ≡ entryAt log k .current → Mark k v ≡ holdPlan n log x l c
+        unfolding guard holdSlot known holdPlan
+        hold-known i v q = simp (whole, runs, lt-ltb c n h, found-here (x .count) k _ s i, q)
+
+        pub hold-new : x .count ≤ k → (p : Plan) → p ≡ newCell x l (EnterMark c) → p ≡ holdPlan n log x l c
+        unfolding guard holdSlot known holdPlan
+        hold-new i p q = simp (whole, runs, lt-ltb c n h, found-nowhere (x .count) k _ s i, q)
+
       -- ---- write
 
       module _ (classes : List ℕ) (v : ℕ) where
-        pub write-outside : n ≤ c → Refuse 3 ≡ writePlan classes n log x l c v
-        unfolding guard known writePlan
-        write-outside h = simp (whole, runs, le-ltb c n h)
-
         pub write-odd : c < n → 15 < getD classes c 0 → Refuse 8 ≡ writePlan classes n log x l c v
         unfolding guard known writePlan
         write-odd h i = simp (whole, runs, lt-ltb c n h, le-ltb (getD classes c 0) 16 i)
@@ -252,10 +259,6 @@ module _ (n : ℕ) (log : List ℕ) (x : Session) where
     -- ---- peek
 
     module _ (c : ℕ) where
-      pub peek-outside : n ≤ c → Refuse 3 ≡ peekPlan n log x c
-      unfolding guard known peekPlan
-      peek-outside h = simp (whole, runs, le-ltb c n h)
-
       module _ (h : c < n) (k : ℕ) (s : found (x .count) k ≡ slotIn log (x .count) c) where
         pub peek-new : x .count ≤ k → Refuse 14 ≡ peekPlan n log x c
         unfolding guard peekSlot known peekPlan

@@ -2,11 +2,11 @@
 // refusals (7, 1, 9, 2, 3, 8, 4, then 14 or 5, then 6), and its turn, with the one lock that it needs by value. What becomes of the locks is handed back.
 ghost use mathlib.Core.Path.{_≡_};
 ghost use mathlib.Core.Bool.{true, false, not, _&&_, _||_};
-ghost use Prim.Native.Nat.{_+_, _*_, _<_, _≤_};
+ghost use Prim.Native.Nat.{_+_, _<_, _≤_};
 ghost use lib.Dec.{eqb};
 ghost use lib.ListN.{length};
 ghost use Rattle.model.specs.Buffers.{free, idle, withEntry, cap, allFit, lengthsMatch};
-ghost use Rattle.model.specs.Plans.{claimed, newCell, entriesFit, recordFits, guard, readPlan, writeCapped, writePlan, sealPlan, peekPlan};
+ghost use Rattle.model.specs.Plans.{claimed, newCell, entriesFit, recordFits, guard, readPlan, holdPlan, writeCapped, writePlan, sealPlan, peekPlan};
 ghost use Rattle.model.specs.Turns.{TakesTurn, TurnsLog};
 ghost use Rattle.model.specs.declared.Answer.the-variants.{Refused};
 ghost use Rattle.model.specs.declared.Plan.the-variants.{Start, Cancel};
@@ -289,7 +289,7 @@ pub fn take_abandon(log: &[u32], n: usize, x: Session) -> Turn
     }
 }
 
-// ---- read and write: what is decided before a lock is looked at, as if nobody were claimant; then the turn, with the lock of a new cell
+// ---- read, hold and write: what is decided before a lock is looked at, as if nobody were claimant; then the turn, with the lock of a new cell
 
 // Somebody is claimant: any byte but 16.
 fn is_claimed(l: Lock) -> bool
@@ -348,6 +348,49 @@ pub fn take_read(values: &[u32], log: &mut [u32], x: Session, l: Lock, cell: u32
     let count = x.count as usize;
     let value = values[cell as usize];
     log::append(log, count, cell, value);
+    enters(Answer::Value(value), x, cell)
+}
+
+// Hold: as read; a cell in the log is to be held, a new one entered and held.
+pub fn hold_plan(log: &[u32], n: usize, x: Session, cell: u32) -> Plan
+    requires { ⌜ (length (now log) ≡ 128) × (n ≤ 1024) ⌝ }
+    ensures { λ r. ⌜ r ≡ holdPlan n (now (log .entry)) x free cell ⌝ }
+{
+    let count = x.count as usize;
+    if !runs(log, n, x) {
+        return Plan::Refuse(running_refusal(log, n, x));
+    }
+    if n <= cell as usize {
+        return Plan::Refuse(3);
+    }
+    let place = log::locate(log, count, cell);
+    let known = place.known;
+    let k = place.slot;
+    if known {
+        return Plan::Mark(k as u32, log::current(log, k));
+    }
+    new_cell(x, Plan::EnterMark(cell))
+}
+
+// Hold: running only. As read, and with 101 the entry is held.
+pub fn take_hold(values: &[u32], log: &mut [u32], x: Session, l: Lock, cell: u32, p: Plan) -> Turn
+    requires { ⌜ (length (now log) ≡ 128) × (p ≡ holdPlan (length (now values)) (now log) x free cell) ⌝ }
+    ensures { λ r. ⌜ TakesTurn (holdPlan (length (now (values .entry))) (now (log .entry)) x l cell) values log x r ⌝ }
+{
+    if let Plan::Mark(k, value) = p {
+        log::mark(log, k as usize);
+        return keeps(Answer::Value(value), x);
+    }
+    if let Plan::Refuse(number) = p {
+        return keeps(Answer::Refused(number), x);
+    }
+    if is_claimed(l) {
+        return rolled_back(x);
+    }
+    let count = x.count as usize;
+    let value = values[cell as usize];
+    log::append(log, count, cell, value);
+    log::mark(log, count);
     enters(Answer::Value(value), x, cell)
 }
 

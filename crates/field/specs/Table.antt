@@ -1,4 +1,4 @@
--- The table of tags (document 01, "Call fields").
+-- The table of tags (document 01, "Call fields"; hold's: document 02, Paper 4).
 -- Assumes nothing.
 use Prim.Native.Nat.{ℕ, _+_}
 use mathlib.Core.Path.{_≡_}
@@ -7,7 +7,7 @@ use mathlib.Core.Bool.{cond}
 use lib.Dec.{eqb}
 use Rattle.little_endian.specs.LittleEndian.{Whole}
 use Rattle.field.specs.declared.Kind.{Kind}
-use Rattle.field.specs.declared.Kind.the-variants.{Begin, Read, Write, Seal, Advance, Abandon, StartingCell}
+use Rattle.field.specs.declared.Kind.the-variants.{Begin, Read, Write, Seal, Advance, Abandon, StartingCell, Hold}
 use Rattle.field.specs.declared.Layout.{Layout}
 use Rattle.field.specs.declared.TagLayout.{TagLayout}
 use Rattle.field.specs.declared.TagLayout.the-variants.{Known, Unknown}
@@ -24,8 +24,8 @@ pub record Row : Type 0 where
 abbrev pub row : ℕ → Kind → ℕ → ℕ → ℕ → ℕ → Row
 row t k s c e v = record { tag = t; layout = layout k (s + c + e + v) s c e v }
 
--- Begin, seal, advance and abandon carry a session byte; read a session and a two-byte cell; write these and a four-byte value; a starting
--- cell a class byte and a four-byte value.
+-- Begin, seal, advance and abandon carry a session byte; read and hold a session and a two-byte cell; write these and a four-byte value; a
+-- starting cell a class byte and a four-byte value.
 unfoldable pub table : List Row
 table =
     row 0x01 Begin 1 0 0 0
@@ -35,6 +35,7 @@ table =
     ∷ row 0x05 Advance 1 0 0 0
     ∷ row 0x06 Abandon 1 0 0 0
     ∷ row 0x08 StartingCell 0 1 0 4
+    ∷ row 0x09 Hold 1 0 2 0
     ∷ []
 
 -- The layout in the first of some rows that has the tag.

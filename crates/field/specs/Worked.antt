@@ -1,11 +1,11 @@
--- Worked fields in three tables, each number of document 01 as a numeral: the rows under a comment show the line of document 01 that it
--- cites. A new tag or refusal adds its rows here; proofs/Worked.antt proves each table by computation.
+-- Worked fields in three tables, each number of the documents as a numeral: the rows under a comment show the line that it cites, of
+-- document 01 where it names no other. A new tag or refusal adds its rows here; proofs/Worked.antt proves each table by computation.
 -- Assumes nothing.
 use Prim.Native.Nat.{ℕ, _-_}
 use mathlib.Core.List.{List, [], _∷_, _++_}
 use lib.ListN.{replicate}
 use Rattle.field.specs.declared.Kind.{Kind}
-use Rattle.field.specs.declared.Kind.the-variants.{Begin, Read, Write, Seal, Advance, Abandon, StartingCell}
+use Rattle.field.specs.declared.Kind.the-variants.{Begin, Read, Write, Seal, Advance, Abandon, StartingCell, Hold}
 use Rattle.field.specs.declared.Call.{Call}
 use Rattle.field.specs.declared.Reading.{Reading}
 use Rattle.field.specs.declared.Reading.the-variants.{Field, End, Refused}
@@ -58,6 +58,8 @@ fields =
     ∷ fieldRow Abandon (0x06 ∷ 0x01 ∷ 0x00 ∷ 0xb2 ∷ []) (call 0x06 0xb2 0 0 0) 4
     -- 08 starting cell, class byte and four-byte figure
     ∷ fieldRow StartingCell (0x08 ∷ 0x05 ∷ 0x00 ∷ 0xa1 ∷ 0xef ∷ 0xcd ∷ 0xab ∷ 0x89 ∷ []) (call 0x08 0 0xa1 0 0x89abcdef) 8
+    -- 09 hold, session and two-byte cell, as read (document 02, Paper 4)
+    ∷ fieldRow Hold (0x09 ∷ 0x03 ∷ 0x00 ∷ 0xb2 ∷ 0x21 ∷ 0x43 ∷ []) (call 0x09 0xb2 0 0x4321 0) 6
     ∷ []
 
 -- ---- the reader's answers, in order (document 01, "When a call is turned down")
@@ -86,7 +88,7 @@ readings =
     -- then 11: the tags beside those that are known, and the last
     ∷ refusedRow (0x00 ∷ 0x01 ∷ 0x00 ∷ 0x02 ∷ []) 0 11
     ∷ refusedRow (0x07 ∷ 0x01 ∷ 0x00 ∷ 0x02 ∷ []) 0 11
-    ∷ refusedRow (0x09 ∷ 0x01 ∷ 0x00 ∷ 0x02 ∷ []) 0 11
+    ∷ refusedRow (0x0a ∷ 0x01 ∷ 0x00 ∷ 0x02 ∷ []) 0 11
     ∷ refusedRow (0xff ∷ 0x01 ∷ 0x00 ∷ 0x02 ∷ []) 0 11
     -- 11 whatever the length, and with no body
     ∷ refusedRow (0x01 ∷ 0x01 ∷ 0x00 ∷ 0x02 ∷ 0x07 ∷ 0xff ∷ 0xff ∷ []) 4 11
@@ -94,14 +96,19 @@ readings =
     ∷ refusedRow (0x02 ∷ 0x02 ∷ 0x00 ∷ 0x02 ∷ 0x05 ∷ 0x00 ∷ 0x00 ∷ []) 0 12
     ∷ refusedRow (0x02 ∷ 0x04 ∷ 0x00 ∷ 0x02 ∷ 0x05 ∷ 0x00 ∷ 0x00 ∷ []) 0 12
     ∷ refusedRow (0x02 ∷ 0x03 ∷ 0x01 ∷ 0x02 ∷ 0x05 ∷ 0x00 ∷ 0x00 ∷ []) 0 12
+    ∷ refusedRow (0x09 ∷ 0x02 ∷ 0x00 ∷ 0x02 ∷ 0x05 ∷ 0x00 ∷ 0x00 ∷ []) 0 12
+    ∷ refusedRow (0x09 ∷ 0x04 ∷ 0x00 ∷ 0x02 ∷ 0x05 ∷ 0x00 ∷ 0x00 ∷ []) 0 12
+    ∷ refusedRow (0x09 ∷ 0x03 ∷ 0x01 ∷ 0x02 ∷ 0x05 ∷ 0x00 ∷ 0x00 ∷ []) 0 12
     -- 12 also with no body
     ∷ refusedRow (0xff ∷ 0x03 ∷ 0x08 ∷ 0x00 ∷ []) 1 12
     -- then a short body 10: its last byte is missing, or all of it
     ∷ refusedRow (0x03 ∷ 0x07 ∷ 0x00 ∷ 0x02 ∷ 0x05 ∷ 0x00 ∷ 0x2a ∷ 0x00 ∷ 0x00 ∷ []) 0 10
+    ∷ refusedRow (0x09 ∷ 0x03 ∷ 0x00 ∷ 0x02 ∷ 0x05 ∷ []) 0 10
     ∷ refusedRow (0xff ∷ 0xff ∷ 0x01 ∷ 0x01 ∷ 0x00 ∷ []) 2 10
     -- else 100, with bytes before and after the field
     ∷ readRow (0xff ∷ 0x03 ∷ 0x07 ∷ 0x00 ∷ 0x02 ∷ 0x05 ∷ 0x00 ∷ 0x2a ∷ 0x00 ∷ 0x00 ∷ 0x00 ∷ 0xff ∷ []) 1 (Field Write (call 3 2 0 5 42) 10)
     (readReply 100 (lent 3 2 0 5 42 10))
+    ∷ readRow (0xff ∷ 0x09 ∷ 0x03 ∷ 0x00 ∷ 0x02 ∷ 0x05 ∷ 0x00 ∷ 0xff ∷ []) 1 (Field Hold (call 9 2 0 5 0) 6) (readReply 100 (lent 9 2 0 5 0 6))
     ∷ []
 
 -- ---- the writer's answers, in order (the same section)
@@ -119,7 +126,7 @@ writings =
     -- an unknown tag is 11, with 0 in place of the length and the target as before
     writeRow (replicate 12 0xee) (call 0 2 0 0 0) (writeReply 11 0 (replicate 12 0xee))
     ∷ writeRow (replicate 12 0xee) (call 7 2 0 0 0) (writeReply 11 0 (replicate 12 0xee))
-    ∷ writeRow (replicate 12 0xee) (call 9 2 0 0 0) (writeReply 11 0 (replicate 12 0xee))
+    ∷ writeRow (replicate 12 0xee) (call 10 2 0 0 0) (writeReply 11 0 (replicate 12 0xee))
     -- tested before 13
     ∷ writeRow [] (call 7 2 0 0 0) (writeReply 11 0 [])
     ∷ writeRow (replicate 2 0xee) (call 7 2 0 0 0) (writeReply 11 0 (replicate 2 0xee))
@@ -127,6 +134,8 @@ writings =
     ∷ writeRow [] (call 1 2 0 0 0) (writeReply 13 0 [])
     ∷ writeRow (replicate 3 0xee) (call 1 2 0 0 0) (writeReply 13 0 (replicate 3 0xee))
     ∷ writeRow (replicate 9 0xee) (call 3 2 0 5 42) (writeReply 13 0 (replicate 9 0xee))
+    ∷ writeRow (replicate 5 0xee) (call 9 2 0 5 0) (writeReply 13 0 (replicate 5 0xee))
     -- else 100 with the field's length, here in a target of just that length
     ∷ writeRow (replicate 10 0xee) (call 3 2 0 5 42) (writeReply 100 10 (0x03 ∷ 0x07 ∷ 0x00 ∷ 0x02 ∷ 0x05 ∷ 0x00 ∷ 0x2a ∷ 0x00 ∷ 0x00 ∷ 0x00 ∷ []))
+    ∷ writeRow (replicate 6 0xee) (call 9 2 0 5 0) (writeReply 100 6 (0x09 ∷ 0x03 ∷ 0x00 ∷ 0x02 ∷ 0x05 ∷ 0x00 ∷ []))
     ∷ []

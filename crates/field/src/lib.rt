@@ -1,5 +1,5 @@
-// The call fields of document 01, section "Call fields": the reader and the writer of one field, and the types that they speak of. Crate c_api has the same two
-// for C.
+// The call fields of document 01, section "Call fields", and hold's (document 02, Paper 4): the reader and the writer of one field, and the types that
+// they speak of. Crate c_api has the same two for C.
 mod tags;
 
 ghost use mathlib.Core.Path.{_≡_};
@@ -18,6 +18,7 @@ pub enum Kind {
     Advance,
     Abandon,
     StartingCell,
+    Hold,
 }
 
 // What a tag says of its field: the kind, the body's length, and the bytes that each number takes in the body. A number that the tag does

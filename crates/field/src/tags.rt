@@ -39,6 +39,7 @@ pub(crate) fn layout_of(tag: u8) -> TagLayout
         0x05 => known(Kind::Advance, 1, 1, 0, 0, 0),
         0x06 => known(Kind::Abandon, 1, 1, 0, 0, 0),
         0x08 => known(Kind::StartingCell, 5, 0, 1, 0, 4),
-        0x00 | 0x07 | 0x09..=0xff => TagLayout::Unknown,
+        0x09 => known(Kind::Hold, 3, 1, 0, 2, 0),
+        0x00 | 0x07 | 0x0a..=0xff => TagLayout::Unknown,
     }
 }

@@ -47,6 +47,6 @@ module _ (W : List ℕ) (s m i : ℕ) (long : length W ≡ 2048) (low : s < 16) 
     unfolding cellOf
     written-cell h = rw (written, h)
 
-    pub unwritten : b ≡ false → c ≡ cellOf W (Leave s m) i
+    pub unpublished : b ≡ false → c ≡ cellOf W (Leave s m) i
     unfolding cellOf
-    unwritten h = rw (written, h) same
+    unpublished h = rw (written, h) same

@@ -1,4 +1,4 @@
--- The calls that are `step` with the call filled in: `seal`, `advance` and `abandon` take one number more than what they are lent, `read` two and `write` three.
+-- The calls that are `step` with the call filled in: `seal`, `advance` and `abandon` take one number more than what they are lent, `read` and `hold` two and `write` three.
 -- Their MIR is one function over the variant and the widths of the numbers. A walk for each count builds the call, borrows what is lent again and passes it on to `step` at its own lifetimes (`CallsStep.antt`); what comes before and after a walk is said once.
 -- (The places behind the numbers are literals of the MIR, and a walk goes by them: so there is one for each count.)
 --     made         the MIR: the call of variant j, of numbers of widths ws
@@ -45,13 +45,13 @@ use denote.Exit.{yes}
 use Rattle.model.specs.Step.{outcome, effect}
 use Rattle.model.specs.declared.Sessions.{Sessions}
 use Rattle.model.specs.declared.Call.{Call}
-use Rattle.model.specs.declared.Call.the-variants.{Read, Write}
+use Rattle.model.specs.declared.Call.the-variants.{Write}
 use Rattle.model.proofs.Sessions.Laws as S′
 use Rattle.model.proofs.Reply.Laws as A′
 use Rattle.model.proofs.Call.Laws as K′
 use Rattle.model.proofs.Lock.Laws as T′
 use Rattle.lock_records.specs.Run.{storeOn}
-use Rattle.lock_records.proofs.Row.{R, RS, low-s, tells-s, makes-s, typed-s, RA, typed-a, RK, low-k, typed-k, read-is, write-is}
+use Rattle.lock_records.proofs.Row.{R, RS, low-s, tells-s, makes-s, typed-s, RA, typed-a, RK, low-k, typed-k, write-is}
 use Rattle.lock_records.proofs.Borrows.{Borrows, κsOf, qsOf, argsOf, atOf, borrowed, Nums, numsAt, Passes, Fitting, Sound, Classes, Tokens}
 use Rattle.lock_records.proofs.Numbers.{hold, lent, inLocals, copies, numbers, stays, rows, spell, tell, last, fit, go, had}
 use Rattle.lock_records.proofs.Leave.{full, leave}
@@ -197,36 +197,38 @@ module _ {M : Type 1} (𝓤 : URA M) (H : Heap 𝓤) (A : Atoms 𝓤) (W : Given
     pub meets-one : Meets 𝓤 H A (signature (w8 ∷ [])) (WpFn 𝓤 H (𝓣 .C) (𝓣 .Λ) (made j (w8 ∷ []))) (closing 𝓤 H A (ended (w8 ∷ [])) (clauses (w8 ∷ []) of-one 𝓤))
     meets-one = meets 𝓤 H A W mem run (w8 ∷ []) of-one 𝓣 (made j (w8 ∷ [])) walk-one
 
-  abbrev of-two : Makes (w8 ∷ w32 ∷ [])
-  of-two κs a = Read (a .0) (a .1 .0)
+  module _ (j : ℕ) (small : T (ltb j (2 ^ 8))) (k : ℕ → ℕ → Call)
+      (is : (s c : ℕ) → s < 2 ^ 8 → c < 2 ^ 32 → Is RK (k s c) (vstruct (ofList (vint w8 j ∷ vint w8 s ∷ vint w32 c ∷ [])) ∷ [])) where
+    abbrev of-two : Makes (w8 ∷ w32 ∷ [])
+    of-two κs a = k (a .0) (a .1 .0)
 
-  abbrev two : (b : Borrows) (ns : Nums (w8 ∷ w32 ∷ []) b) → Fitting (w8 ∷ w32 ∷ []) b ns → Called
-  two b ns are = record { call = Read (ns .0) (ns .1 .0); val = low-k (Read (ns .0) (ns .1 .0)); is = read-is (ns .0) (ns .1 .0) (are .0 .1) (are .1 .0 .1) }
+    abbrev two : (b : Borrows) (ns : Nums (w8 ∷ w32 ∷ []) b) → Fitting (w8 ∷ w32 ∷ []) b ns → Called
+    two b ns are = record { call = k (ns .0) (ns .1 .0); val = vstruct (ofList (vint w8 j ∷ vint w8 (ns .0) ∷ vint w32 (ns .1 .0) ∷ [])); is = is (ns .0) (ns .1 .0) (are .0 .1) (are .1 .0 .1) }
 
-  walk-two : Walk (w8 ∷ w32 ∷ []) of-two 𝓤 H A 𝓣 (made 1 (w8 ∷ w32 ∷ []))
-  walk-two b ns o are =
-      qed W (Tokens 𝓤 b ∷ ‵ (Owned (w8 ∷ w32 ∷ []) b ns) ∷ []) ∵
-      enter ! (𝓣 .C) (𝓣 .Λ) (made 1 (w8 ∷ w32 ∷ [])) (Passes (w8 ∷ w32 ∷ []) b ns) _ $
-      allocates ! _ (λ bs. params1 ! $
-      pass1 ! (init ! 26 refl (typed-s 𝓤 H A W (b .ss) (low-s (b .ss)) (o .records))) $ pass1 ! (init ! 24 refl (tt, (tt, (record { fits = o .room₀ .0 }, tt)))) $ pass1 ! (init ! 22 refl (tt, (tt, (record { fits = o .room₁ .0 }, tt)))) $
-      pass1 ! (init ! 20 refl (tt, (tt, (record { fits = o .room .0 }, tt)))) $ pass1 ! (init ! 18 refl (tt, (tt, (record { fits = o .room₃ .0 }, tt)))) $ pass1 ! (init ! 16 refl (tt, record { fits = are .0 .1 })) $ pass1 ! (init ! 14 refl (tt, record { fits = are .1 .0 .1 })) $ pass0 ! $
-      move ! (31 ∷ []) $ fsplit ! $ move ! (1 ∷ []) $ fsplit ! $ move ! (1 ∷ []) $ fsplit ! $ move ! (1 ∷ []) $ fsplit ! $ move ! (1 ∷ []) $ fsplit ! $ move ! (1 ∷ []) $ fsplit ! $ move ! (1 ∷ []) $ fsplit ! $ move ! (0 ∷ 1 ∷ 2 ∷ 7 ∷ []) $ drop ! $ drop ! $ drop ! $ drop ! $ move ! (34 ∷ []) $
-      -- [the tokens; logs; locks; classes; values; _14 at 5; …; _0 at 33; …]
-      sets ! (agg ! (and-then ! (lit ! tt) (and-then ! (var ! 21 refl) (and-then ! (var ! 19 refl) (no-more !))))) 17 refl (typed-k 𝓤 H A W ((two b ns are) .call) ((two b ns are) .val) ((two b ns are) .is)) $
-      relends ! 29 refl refl 15 refl (tt, tt) refl refl 13 refl (tt, (tt, (record { fits = o .room₀ .0 }, tt))) $
-      relends ! 25 refl refl 11 refl (tt, tt) refl refl 9 refl (tt, (tt, (record { fits = o .room .0 }, tt))) $
-      relends ! 23 refl refl 7 refl (tt, tt) refl refl 5 refl (tt, (tt, (record { fits = o .room₃ .0 }, tt))) $
-      -- classes is Copy: one copy goes to `step`
-      move ! (3 ∷ []) $ use1 W (‵ (Classes b) ⊛ ‵ (Classes b)) (shr-slice-copy 𝓤 H A W (named 0) (b .κ₁) u8 .twice (b .x₁) (slice-vals (b .x₁))) $ split ! $ move ! (5 ∷ 0 ∷ 4 ∷ 3 ∷ 2 ∷ []) $ group ! 5 $
-      use1 W (raw (Step 𝓤 H A mem run .pre (st-to 𝓤 H A mem run W b o (two b ns are)))) (st-goes 𝓤 H A mem run W b o (two b ns are)) $
-      -- [what `step` asks; classes; _14 at 2; …]
-      calls-at ! (fmOf 𝓤 H (W .laws) 𝓣) (Step 𝓤 H A mem run) known (st-to 𝓤 H A mem run W b o (two b ns are)) (and-then ! (var ! 14 refl) (and-then ! (var ! 28 refl) (and-then ! (var ! 10 refl) (and-then ! (var ! 24 refl) (and-then ! (var ! 6 refl) (and-then ! (var ! 2 refl) (no-more !))))))) (λ v.
-      use1 W (later (st-gives 𝓤 H A mem run W b o (two b ns are) v)) (st-gets 𝓤 H A mem run W b o (two b ns are) v) $ await ! tt $ pick ! (λ p. learn ! (λ f. split ! $
-      peeks ! RA (Is RA) (shows 𝓤 H A RA) (p .0) (v ∷ []) (λ pa. land ! (from ! (stop !)) (init ! 31 refl (typed-a 𝓤 H A W (p .0) v pa)) $
-      returns ! (look ! 31 refl) $ leave ! 3 (full _ ∷ full _ ∷ full _ ∷ full _ ∷ full _ ∷ full _ ∷ full _ ∷ full _ ∷ full _ ∷ full _ ∷ full _ ∷ full _ ∷ full _ ∷ full _ ∷ full _ ∷ []) refl $ by ! (exits 𝓤 H A W mem run (w8 ∷ w32 ∷ []) of-two b ns o are ((two b ns are) .val) ((two b ns are) .is) p v f))))))
+    walk-two : Walk (w8 ∷ w32 ∷ []) of-two 𝓤 H A 𝓣 (made j (w8 ∷ w32 ∷ []))
+    walk-two b ns o are =
+        qed W (Tokens 𝓤 b ∷ ‵ (Owned (w8 ∷ w32 ∷ []) b ns) ∷ []) ∵
+        enter ! (𝓣 .C) (𝓣 .Λ) (made j (w8 ∷ w32 ∷ [])) (Passes (w8 ∷ w32 ∷ []) b ns) _ $
+        allocates ! _ (λ bs. params1 ! $
+        pass1 ! (init ! 26 refl (typed-s 𝓤 H A W (b .ss) (low-s (b .ss)) (o .records))) $ pass1 ! (init ! 24 refl (tt, (tt, (record { fits = o .room₀ .0 }, tt)))) $ pass1 ! (init ! 22 refl (tt, (tt, (record { fits = o .room₁ .0 }, tt)))) $
+        pass1 ! (init ! 20 refl (tt, (tt, (record { fits = o .room .0 }, tt)))) $ pass1 ! (init ! 18 refl (tt, (tt, (record { fits = o .room₃ .0 }, tt)))) $ pass1 ! (init ! 16 refl (tt, record { fits = are .0 .1 })) $ pass1 ! (init ! 14 refl (tt, record { fits = are .1 .0 .1 })) $ pass0 ! $
+        move ! (31 ∷ []) $ fsplit ! $ move ! (1 ∷ []) $ fsplit ! $ move ! (1 ∷ []) $ fsplit ! $ move ! (1 ∷ []) $ fsplit ! $ move ! (1 ∷ []) $ fsplit ! $ move ! (1 ∷ []) $ fsplit ! $ move ! (1 ∷ []) $ fsplit ! $ move ! (0 ∷ 1 ∷ 2 ∷ 7 ∷ []) $ drop ! $ drop ! $ drop ! $ drop ! $ move ! (34 ∷ []) $
+        -- [the tokens; logs; locks; classes; values; _14 at 5; …; _0 at 33; …]
+        sets ! (agg ! (and-then ! (lit ! small) (and-then ! (var ! 21 refl) (and-then ! (var ! 19 refl) (no-more !))))) 17 refl (typed-k 𝓤 H A W ((two b ns are) .call) ((two b ns are) .val) ((two b ns are) .is)) $
+        relends ! 29 refl refl 15 refl (tt, tt) refl refl 13 refl (tt, (tt, (record { fits = o .room₀ .0 }, tt))) $
+        relends ! 25 refl refl 11 refl (tt, tt) refl refl 9 refl (tt, (tt, (record { fits = o .room .0 }, tt))) $
+        relends ! 23 refl refl 7 refl (tt, tt) refl refl 5 refl (tt, (tt, (record { fits = o .room₃ .0 }, tt))) $
+        -- classes is Copy: one copy goes to `step`
+        move ! (3 ∷ []) $ use1 W (‵ (Classes b) ⊛ ‵ (Classes b)) (shr-slice-copy 𝓤 H A W (named 0) (b .κ₁) u8 .twice (b .x₁) (slice-vals (b .x₁))) $ split ! $ move ! (5 ∷ 0 ∷ 4 ∷ 3 ∷ 2 ∷ []) $ group ! 5 $
+        use1 W (raw (Step 𝓤 H A mem run .pre (st-to 𝓤 H A mem run W b o (two b ns are)))) (st-goes 𝓤 H A mem run W b o (two b ns are)) $
+        -- [what `step` asks; classes; _14 at 2; …]
+        calls-at ! (fmOf 𝓤 H (W .laws) 𝓣) (Step 𝓤 H A mem run) known (st-to 𝓤 H A mem run W b o (two b ns are)) (and-then ! (var ! 14 refl) (and-then ! (var ! 28 refl) (and-then ! (var ! 10 refl) (and-then ! (var ! 24 refl) (and-then ! (var ! 6 refl) (and-then ! (var ! 2 refl) (no-more !))))))) (λ v.
+        use1 W (later (st-gives 𝓤 H A mem run W b o (two b ns are) v)) (st-gets 𝓤 H A mem run W b o (two b ns are) v) $ await ! tt $ pick ! (λ p. learn ! (λ f. split ! $
+        peeks ! RA (Is RA) (shows 𝓤 H A RA) (p .0) (v ∷ []) (λ pa. land ! (from ! (stop !)) (init ! 31 refl (typed-a 𝓤 H A W (p .0) v pa)) $
+        returns ! (look ! 31 refl) $ leave ! 3 (full _ ∷ full _ ∷ full _ ∷ full _ ∷ full _ ∷ full _ ∷ full _ ∷ full _ ∷ full _ ∷ full _ ∷ full _ ∷ full _ ∷ full _ ∷ full _ ∷ full _ ∷ []) refl $ by ! (exits 𝓤 H A W mem run (w8 ∷ w32 ∷ []) of-two b ns o are ((two b ns are) .val) ((two b ns are) .is) p v f))))))
 
-  pub meets-two : Meets 𝓤 H A (signature (w8 ∷ w32 ∷ [])) (WpFn 𝓤 H (𝓣 .C) (𝓣 .Λ) (made 1 (w8 ∷ w32 ∷ []))) (closing 𝓤 H A (ended (w8 ∷ w32 ∷ [])) (clauses (w8 ∷ w32 ∷ []) of-two 𝓤))
-  meets-two = meets 𝓤 H A W mem run (w8 ∷ w32 ∷ []) of-two 𝓣 (made 1 (w8 ∷ w32 ∷ [])) walk-two
+    pub meets-two : Meets 𝓤 H A (signature (w8 ∷ w32 ∷ [])) (WpFn 𝓤 H (𝓣 .C) (𝓣 .Λ) (made j (w8 ∷ w32 ∷ []))) (closing 𝓤 H A (ended (w8 ∷ w32 ∷ [])) (clauses (w8 ∷ w32 ∷ []) of-two 𝓤))
+    meets-two = meets 𝓤 H A W mem run (w8 ∷ w32 ∷ []) of-two 𝓣 (made j (w8 ∷ w32 ∷ [])) walk-two
 
   abbrev of-three : Makes (w8 ∷ w32 ∷ w32 ∷ [])
   of-three κs a = Write (a .0) (a .1 .0) (a .1 .1 .0)

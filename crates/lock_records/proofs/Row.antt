@@ -27,7 +27,7 @@ use Rattle.model.proofs.Sessions.Laws as S′
 use Rattle.model.proofs.Reply as A
 use Rattle.model.proofs.Reply.Laws as A′
 use Rattle.model.specs.declared.Call.{Call}
-use Rattle.model.specs.declared.Call.the-variants.{Read, Write, Seal, Advance, Abandon}
+use Rattle.model.specs.declared.Call.the-variants.{Read, Write, Seal, Advance, Abandon, Hold}
 use Rattle.model.proofs.Call as K
 use Rattle.model.proofs.Call.Laws as K′
 use Rattle.lock_records.proofs.Turn as U
@@ -190,6 +190,9 @@ module _ {M : Type 1} (𝓤 : URA M) (H : Heap 𝓤) (A₀ : Atoms 𝓤) where
 -- a call whose numbers fit is one
 pub read-is : (s c : ℕ) → s < 2 ^ 8 → c < 2 ^ 32 → Is RK (Read s c) (low-k (Read s c) ∷ [])
 read-is s c fs fc = EL.owes K.the-type K′.the-laws (Read s c) ((refl, fs), ((refl, fc), tt))
+
+pub hold-is : (s c : ℕ) → s < 2 ^ 8 → c < 2 ^ 32 → Is RK (Hold s c) (low-k (Hold s c) ∷ [])
+hold-is s c fs fc = EL.owes K.the-type K′.the-laws (Hold s c) ((refl, fs), ((refl, fc), tt))
 
 pub write-is : (s c v : ℕ) → s < 2 ^ 8 → c < 2 ^ 32 → v < 2 ^ 32 → Is RK (Write s c v) (low-k (Write s c v) ∷ [])
 write-is s c v fs fc fv = EL.owes K.the-type K′.the-laws (Write s c v) ((refl, fs), ((refl, fc), ((refl, fv), tt)))

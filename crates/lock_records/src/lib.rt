@@ -4,7 +4,7 @@ ghost use mathlib.Core.Path.{_≡_};
 ghost use Prim.Native.Nat.{_<_, _≤_};
 ghost use lib.ListN.{length};
 ghost use Rattle.model.specs.Buffers.{logIn, cellAt};
-ghost use Rattle.model.specs.declared.Call.the-variants.{Begin, Read, Write, Seal, Advance, Abandon, Peek};
+ghost use Rattle.model.specs.declared.Call.the-variants.{Begin, Read, Write, Seal, Advance, Abandon, Peek, Hold};
 ghost use Rattle.lock_records.specs.declared.Change.the-variants.{Leave};
 ghost use Rattle.lock_records.specs.Run.{lockIn, countOf, cellOf, changeOf, changedAt, sweptBy, SessionFits, ChangeFits, onRun};
 ghost use Rattle.lock_records.specs.Turns.{onlyAnswer, lookOf, IsReply, IsPeekPlan, IsPeekPart, TakesOnRun, SetsUpTurn};
@@ -55,7 +55,7 @@ fn entry_cell(logs: &[u32], session: u8, i: usize) -> usize
 }
 
 // The same, or 1,024 where the cell publishes: of m entries the cell's first counts.
-fn unwritten_cell(logs: &[u32], session: u8, m: u8, i: usize) -> usize
+fn unpublished_cell(logs: &[u32], session: u8, m: u8, i: usize) -> usize
     requires { ⌜ (session < 16) × (m ≤ 32) × (i < m) × (length (now logs) ≡ 2048) ⌝ }
     ensures { λ r. ⌜ r ≡ cellOf (now (logs .entry)) (Leave session m) i ⌝ }
 {
@@ -80,7 +80,7 @@ fn cell_of(logs: &[u32], change: Change, i: usize) -> usize
         Change::Acquire(_, c) => c as usize,
         Change::Vacate(_, c) => c as usize,
         Change::Withdraw(s, _) => entry_cell(logs, s, i),
-        Change::Leave(s, m) => unwritten_cell(logs, s, m, i),
+        Change::Leave(s, m) => unpublished_cell(logs, s, m, i),
         Change::Clear(_) => i,
     }
 }
@@ -449,6 +449,28 @@ pub fn read(
 {
     step(
         Call::Read(session, cell),
+        sessions,
+        values,
+        classes,
+        locks,
+        logs,
+    )
+}
+
+// Hold: running only. As read, and with 101 the cell's entry is held: from the seal on the cell counts as written.
+pub fn hold(
+    sessions: Sessions,
+    values: &mut [u32],
+    classes: &[u8],
+    locks: &mut [Lock],
+    logs: &mut [u32],
+    session: u8,
+    cell: u32,
+) -> Reply
+    ensures { λ r. ⌜ Takes (Hold session cell) values classes locks logs sessions r ⌝ }
+{
+    step(
+        Call::Hold(session, cell),
         sessions,
         values,
         classes,

@@ -1,4 +1,4 @@
-// Runs document 01's listing, a short mixed list and one with values written back on number slices (crate store) and on a run of lock records (crate lock_records). Compared are
+// Runs document 01's listing, a short mixed list, one with values written back and one with holds on number slices (crate store) and on a run of lock records (crate lock_records). Compared are
 // set-up's answers and records, and after each call the answers, the records, and every value, lock and log word.
 // It writes each list as the replay does, with a line for a peek's number too; last, whether the two forms agreed throughout.
 ghost use Rattle.lock_records.specs.Lent.{TakesRun, SetsUpRun};
@@ -46,10 +46,10 @@ fn step_on(
     RunReply { reply, locks: run }
 }
 
-// ---- the three lists, of 13 calls each, on two cells of class 2
+// ---- the four lists, of 13 calls each, on two cells of class 2
 
 // From 0 document 01's listing; from 13 a mixed list: every kind of call, every phase, the refusals 4 and 6; from 26 values written back: a seal that lets one go of
-// two cells, and one that lets go all.
+// two cells, and one that lets go all; from 39 holds: a session that only held a cell publishes it, and another that held and wrote it is rolled back.
 fn call_at(i: u32) -> Call {
     match i {
         0 => Call::Begin(0),
@@ -72,7 +72,7 @@ fn call_at(i: u32) -> Call {
         19 => Call::Begin(1),
         20 => Call::Read(1, 1),
         21 => Call::Begin(1),
-        22 => Call::Read(1, 0),
+        22 => Call::Hold(1, 0),
         23 => Call::Abandon(1),
         24..=25 => Call::Advance(0),
         26 => Call::Begin(0),
@@ -85,7 +85,18 @@ fn call_at(i: u32) -> Call {
         33 => Call::Seal(1),
         34 => Call::Begin(1),
         35 => Call::Write(1, 0, 4),
-        _ => Call::Advance(0),
+        36..=38 => Call::Advance(0),
+        39 => Call::Begin(0),
+        40 => Call::Begin(1),
+        41 => Call::Hold(0, 0),
+        42 => Call::Hold(1, 0),
+        43 => Call::Write(0, 0, 4),
+        44 => Call::Seal(1),
+        45 => Call::Seal(0),
+        46 => Call::Advance(1),
+        47 => Call::Advance(0),
+        48..=50 => Call::Advance(1),
+        _ => Call::Begin(0),
     }
 }
 
@@ -286,7 +297,8 @@ fn main() {
     let listing = run_both(0);
     let mixed = run_both(13);
     let written_back = run_both(26);
-    if listing & mixed & written_back {
+    let held = run_both(39);
+    if listing & mixed & written_back & held {
         io::write_all(STDOUT_FILENO, b"both forms agree\n");
     } else {
         io::write_all(STDOUT_FILENO, b"the forms differ\n");

@@ -2,7 +2,7 @@
 use Prim.Native.Nat.{ℕ, _<_, _≤_}
 use mathlib.Core.List.{List, [], _∷_}
 use mathlib.Core.Path.{_≡_, refl}
-use lib.ListN.{length, getD, set}
+use lib.ListN.{getD, set}
 use lib.Seq.{set-getD}
 use types.Run.{OneOf, miss}
 use denote.Enum.Declared.{tagOf}
@@ -12,7 +12,7 @@ use Rattle.model.specs.Readers.{withReader, withoutReader}
 use Rattle.model.specs.Turns.{changed}
 use Rattle.model.specs.declared.Lock.{Lock}
 use Rattle.model.specs.declared.Plan.{Plan}
-use Rattle.model.specs.declared.Plan.the-variants.{Enter, EnterUpdate}
+use Rattle.model.specs.declared.Plan.the-variants.{Enter, EnterUpdate, EnterMark}
 use Rattle.model.specs.declared.Change.{Change}
 use Rattle.model.specs.declared.Change.the-variants.{Keep, Join, Claim, Acquire, Vacate, Withdraw, DropReads}
 use Rattle.locks.specs.Sweeps.{locksOf, Swept, DropsReads}
@@ -28,6 +28,7 @@ module _ (p : Plan) (L : Locks) (l : Lock) where
       record {
         enters = λ d g. let q : c ≡ d = cc in rw q at f;
         updates = λ d v g. absurd (clashes p (Enter c) (EnterUpdate d v) tt e g);
+        marks = λ d g. absurd (clashes p (Enter c) (EnterMark d) tt e g);
       }
 
   pub for-update : (c v : ℕ) → p ≡ EnterUpdate c v → l ≡ lockAt L c → LockFor p L l
@@ -35,11 +36,24 @@ module _ (p : Plan) (L : Locks) (l : Lock) where
       record {
         enters = λ d g. absurd (clashes p (EnterUpdate c v) (Enter d) tt e g);
         updates = λ d w g. let q : c ≡ d = cc in rw q at f;
+        marks = λ d g. absurd (clashes p (EnterUpdate c v) (EnterMark d) tt e g);
       }
 
-  pub for-none : Passed 3 p → Passed 5 p → LockFor p L l
-  for-none a b =
-      record { enters = λ c e. absurd (passed 3 p (Enter c) tt e a); updates = λ c v e. absurd (passed 5 p (EnterUpdate c v) tt e b) }
+  pub for-mark : (c : ℕ) → p ≡ EnterMark c → l ≡ lockAt L c → LockFor p L l
+  for-mark c e f =
+      record {
+        enters = λ d g. absurd (clashes p (EnterMark c) (Enter d) tt e g);
+        updates = λ d w g. absurd (clashes p (EnterMark c) (EnterUpdate d w) tt e g);
+        marks = λ d g. let q : c ≡ d = cc in rw q at f;
+      }
+
+  pub for-none : Passed 3 p → Passed 5 p → Passed 17 p → LockFor p L l
+  for-none a b m =
+      record {
+        enters = λ c e. absurd (passed 3 p (Enter c) tt e a);
+        updates = λ c v e. absurd (passed 5 p (EnterUpdate c v) tt e b);
+        marks = λ c e. absurd (passed 17 p (EnterMark c) tt e m);
+      }
 
 -- ---- the three parts of a change
 

@@ -9,7 +9,7 @@ use native.Mathlib.Omega.{arith}
 use lib.ListN.{length, getD, set, length-set, replicate, getD-replicate, List·getD-eq-default}
 use lib.Seq.{getD-set-same, set-getD}
 use borrow.Author.Tests.{eq-eqb, ne-eqb}
-use Rattle.model.specs.Buffers.{Locks, cellAt, entryAt, entryOf, slotIn, lookIn, publishes, publishesIn, lockAt, setLock, onLock, sweep, leave, vacate, withdraw}
+use Rattle.model.specs.Buffers.{Locks, cellAt, entryAt, slotIn, lookIn, publishes, publishesIn, lockAt, setLock, onLock, sweep, leave, vacate, withdraw}
 use Rattle.model.specs.Effects.{rolledBack}
 use Rattle.model.specs.Readers.{withoutReader}
 use Rattle.model.specs.Search.{some?, orElse, find}
@@ -18,7 +18,7 @@ use Rattle.model.proofs.Laws.{Long, lock-sweep, leave-leave}
 use Rattle.model.proofs.Tools.{same, test, which, clash, orElse-none}
 use Rattle.log.proofs.Searches.{find-here, find-up}
 use Rattle.log.proofs.Targets.{first-judges, written-first, slot-some}
-use Rattle.locks.specs.Sweeps.{locksOf, DroppedSoFar, NoneWritten, marked, mark, droppedWritten, droppedAt}
+use Rattle.locks.specs.Sweeps.{locksOf, DroppedSoFar, NonePublished, marked, mark, droppedWritten, droppedAt}
 use Rattle.locks.proofs.Digits.{no-member, marked-same, marked-other}
 
 -- ---- one lock
@@ -156,12 +156,12 @@ module _ (log : List ℕ) (k s : ℕ) (written R : List ℕ) (c : ℕ) (e : c �
 
 -- ---- sealing
 
--- with nothing written nothing is marked; before the first entry nothing is left
+-- where nothing publishes nothing is marked; before the first entry nothing is left
 none-marked : (c : ℕ) → c < 1024 → marked (replicate 16 0) c ≡ false
 unfolding marked
 none-marked c l = rw (getD-replicate {A = ℕ} 16 (c / 64) 0 0 (omega arith)) (no-member (c % 64))
 
-pub marks-none : (log : List ℕ) (i : ℕ) → NoneWritten log i → Marks log i (replicate 16 0)
+pub marks-none : (log : List ℕ) (i : ℕ) → NonePublished log i → Marks log i (replicate 16 0)
 marks-none log i n =
     record {
       words = refl;
@@ -169,7 +169,7 @@ marks-none log i n =
       published = λ c l h. let w = written-first log i c h in absurd (clash (publishes (entryAt log (w .0))) (w .2) (n (w .0) (slot-some log i c (w .1) .0)));
     }
 
-pub none-more : (log : List ℕ) (i : ℕ) → NoneWritten log i → publishes (entryAt log i) ≡ false → NoneWritten log (i + 1)
+pub none-more : (log : List ℕ) (i : ℕ) → NonePublished log i → publishes (entryAt log i) ≡ false → NonePublished log (i + 1)
 none-more log i n p j l = same j i (λ e. rw e p) (λ d. n j (omega arith))
 
 pub drop-start : (log : List ℕ) (m s : ℕ) (R : List ℕ) → DroppedSoFar log m 0 s R R
@@ -178,7 +178,7 @@ drop-start log m s R C E p q = refl
 
 module _ (log : List ℕ) (m i s : ℕ) (written R₀ R : List ℕ) (li : i < m) (lt : cellAt log i < 1024) (lR : cellAt log i < length R₀)
     (inv : Marks log i written) where
-  -- the cell's first entry of all is this one, which then says whether the cell is written, or one before it
+  -- the cell's first entry of all is this one, which then says whether the cell publishes, or one before it
   first : {P : Type 0} → (publishesIn log m (cellAt log i) ≡ publishes (entryAt log i) → P)
       → (some? (slotIn log i (cellAt log i)) ≡ true → publishesIn log m (cellAt log i) ≡ publishesIn log i (cellAt log i) → P) → P
   unfolding slotIn
@@ -189,14 +189,14 @@ module _ (log : List ℕ) (m i s : ℕ) (written R₀ R : List ℕ) (li : i < m)
       (λ k q. g (rw q) (first-judges log m c (find-up (cellAt log) c i m (omega arith) q) ∙ sym (first-judges log i c q)))
 
   module _ (C E : List ℕ) (eC : length C ≡ length R₀) (eE : length E ≡ length R₀) where
-    abbrev unwritten : ℕ → Bool
-    unwritten c = not (publishesIn log m c)
+    abbrev unpublished : ℕ → Bool
+    unpublished c = not (publishesIn log m c)
 
     abbrev before : Locks
-    before = sweep unwritten (leave s) (cellAt log) i (locksOf R₀ C E)
+    before = sweep unpublished (leave s) (cellAt log) i (locksOf R₀ C E)
 
     abbrev after : Locks
-    after = sweep unwritten (leave s) (cellAt log) (i + 1) (locksOf R₀ C E)
+    after = sweep unpublished (leave s) (cellAt log) (i + 1) (locksOf R₀ C E)
 
     sweep-keeps : publishesIn log m (cellAt log i) ≡ true → after ≡ before
     unfolding sweep
@@ -214,11 +214,11 @@ module _ (log : List ℕ) (m i s : ℕ) (written R₀ R : List ℕ) (li : i < m)
         let c = cellAt log i in
         let long : Long (length R₀) (locksOf R₀ C E) = record { readers = refl; claimants = eC; exclusives = eE } in
         let g : lockAt before c ≡ leave s (lockAt (locksOf R₀ C E) c) =
-        lock-sweep unwritten (leave s) (cellAt log) (locksOf R₀ C E) (length R₀) long (leave-leave s) c lR i ∙ rw (f, h) in
+        lock-sweep unpublished (leave s) (cellAt log) (locksOf R₀ C E) (length R₀) long (leave-leave s) c lR i ∙ rw (f, h) in
         let k : leave s (lockAt before c) ≡ lockAt before c = rw g (leave-leave s (lockAt (locksOf R₀ C E) c)) in
         ap (λ (l : Lock). setLock c l before) k ∙ put-same c before
 
-    -- a cell that is written, or entered before, is as before
+    -- a cell that publishes, or was entered before, is as before
     passed : (publishesIn log m (cellAt log i) ≡ false → some? (slotIn log i (cellAt log i)) ≡ true) → before ≡ after
     passed f = test (publishesIn log m (cellAt log i)) (λ h. sym (sweep-keeps h)) (λ h. sym (sweep-leaves h ∙ left-before (f h) h))
 
@@ -239,8 +239,8 @@ module _ (log : List ℕ) (m i s : ℕ) (written R₀ R : List ℕ) (li : i < m)
       (λ _ q. test (publishesIn log i c) (λ h. absurd (clash (marked written c) (inv .published c lt h) t)) (λ h. q ∙ h)) in
       rw t (leave-on R C E c s ∙ ap (onLock c (leave s)) e ∙ sym (sweep-leaves C E eC eE u))))))
 
--- with nothing written the cell is left
-pub drop-unmarked : (log : List ℕ) (m i s : ℕ) (R₀ R : List ℕ) → i < m → cellAt log i < 1024 → cellAt log i < length R₀ → NoneWritten log i
+-- where nothing publishes the cell is left
+pub drop-unmarked : (log : List ℕ) (m i s : ℕ) (R₀ R : List ℕ) → i < m → cellAt log i < 1024 → cellAt log i < length R₀ → NonePublished log i
     → publishes (entryAt log i) ≡ false → DroppedSoFar log m i s R₀ R → (c : ℕ) → c ≡ cellAt log i → (R′ : List ℕ) → R′ ≡ set R c (withoutReader s (getD R c 0))
     → DroppedSoFar log m (i + 1) s R₀ R′
 drop-unmarked log m i s R₀ R li lt lR n p w c e R′ r =

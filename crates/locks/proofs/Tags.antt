@@ -1,4 +1,4 @@
--- What the code knows of a plan once a match has passed over a variant: its tag is one of the other fifteen.
+-- What the code knows of a plan once a match has passed over a variant: its tag is one of the other seventeen.
 use mathlib.Core.Path.{_≡_, sym, ap, subst, _∙_}
 use mathlib.Core.Bool.{not, cond}
 use mathlib.Core.List.{List, [], _∷_}
@@ -18,7 +18,7 @@ without k [] = []
 without k (j ∷ js) = cond (eqb j k) (without k js) (j ∷ without k js)
 
 abbrev others : ℕ → List ℕ
-others k = without k (0 ∷ 1 ∷ 2 ∷ 3 ∷ 4 ∷ 5 ∷ 6 ∷ 7 ∷ 8 ∷ 9 ∷ 10 ∷ 11 ∷ 12 ∷ 13 ∷ 14 ∷ 15 ∷ [])
+others k = without k (0 ∷ 1 ∷ 2 ∷ 3 ∷ 4 ∷ 5 ∷ 6 ∷ 7 ∷ 8 ∷ 9 ∷ 10 ∷ 11 ∷ 12 ∷ 13 ∷ 14 ∷ 15 ∷ 16 ∷ 17 ∷ [])
 
 -- a match has passed over variant k; and the plan q is of that variant, which `tt` shows
 abbrev pub Passed : ℕ → Plan → Type 0

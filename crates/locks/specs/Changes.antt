@@ -9,7 +9,7 @@ use Rattle.model.specs.Slices.{Slice}
 use Rattle.model.specs.Turns.{changed}
 use Rattle.model.specs.declared.Lock.{Lock}
 use Rattle.model.specs.declared.Plan.{Plan}
-use Rattle.model.specs.declared.Plan.the-variants.{Enter, EnterUpdate}
+use Rattle.model.specs.declared.Plan.the-variants.{Enter, EnterUpdate, EnterMark}
 use Rattle.model.specs.declared.Change.{Change}
 use Rattle.model.specs.declared.Change.the-variants.{Keep, Join, Claim, Acquire, Vacate, Withdraw, DropReads}
 use Rattle.locks.specs.Sweeps.{locksOf, locksBefore, locksAfter, Swept}
@@ -18,6 +18,7 @@ use Rattle.locks.specs.Sweeps.{locksOf, locksBefore, locksAfter, Swept}
 pub record LockFor (p : Plan) (L : Locks) (l : Lock) : Type 0 where
   pub enters : (c : ℕ) → p ≡ Enter c → l ≡ lockAt L c
   pub updates : (c v : ℕ) → p ≡ EnterUpdate c v → l ≡ lockAt L c
+  pub marks : (c : ℕ) → p ≡ EnterMark c → l ≡ lockAt L c
 
 -- the part of a change that each function carries out: of one cell, of rolling back, of sealing
 unfoldable pub oneOf : Change → Change

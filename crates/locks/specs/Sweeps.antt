@@ -42,8 +42,8 @@ abbrev pub DropsReads : List ℕ → ℕ → ℕ → List ℕ → List ℕ → T
 DropsReads log m s R R' = DroppedSoFar log m m s R R'
 
 -- none of the first k entries publishes
-abbrev pub NoneWritten : List ℕ → ℕ → Type 0
-NoneWritten log k = (j : ℕ) → j < k → publishes (entryAt log j) ≡ false
+abbrev pub NonePublished : List ℕ → ℕ → Type 0
+NonePublished log k = (j : ℕ) → j < k → publishes (entryAt log j) ≡ false
 
 -- a set of cells below 1,024 as sixteen words of 64 binary digits
 unfoldable pub marked : List ℕ → ℕ → Bool

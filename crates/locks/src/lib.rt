@@ -7,7 +7,7 @@ ghost use lib.Dec.{eqb};
 ghost use lib.ListN.{length, getD, set};
 ghost use Rattle.model.specs.Readers.{withReader, withoutReader, otherReaders};
 ghost use Rattle.model.specs.Buffers.{cellAt, publishes, lockAt, setLock, onLock, join, leave, vacate, withdraw, claim, acquire};
-ghost use Rattle.locks.specs.Sweeps.{Swept, DropsReads, DroppedSoFar, NoneWritten, marked, mark, locksBefore, locksAfter, RollsBack, DropsAt};
+ghost use Rattle.locks.specs.Sweeps.{Swept, DropsReads, DroppedSoFar, NonePublished, marked, mark, locksBefore, locksAfter, RollsBack, DropsAt};
 ghost use Rattle.locks.specs.Changes.{LockFor, oneOf, ChangeFits, ChangesOne, Withdraws, CarriesOut, DropsIf};
 use model::Change;
 use model::Lock;
@@ -235,9 +235,9 @@ fn drop_at(log: &[u32], k: usize, readers: &mut [u16], written: &mut [u64; 16], 
 }
 
 // The session leaves the readers of the cells before the first entry that publishes; the entry's index, or the count.
-fn drop_unwritten(log: &[u32], count: usize, readers: &mut [u16], session: u8) -> usize
+fn drop_unpublished(log: &[u32], count: usize, readers: &mut [u16], session: u8) -> usize
     requires { ⌜ (Swept session (now log) count (length (now readers))) × (length (now readers) ≤ 1024) ⌝ }
-    ensures { λ r. ⌜ (r ≤ count) × NoneWritten (now (log .entry)) r × DroppedSoFar (now (log .entry)) count r session (now (readers .entry)) (now (readers .exit)) ⌝ }
+    ensures { λ r. ⌜ (r ≤ count) × NonePublished (now (log .entry)) r × DroppedSoFar (now (log .entry)) count r session (now (readers .entry)) (now (readers .exit)) ⌝ }
 {
     let mut i = 0;
     while i < count {
@@ -256,7 +256,7 @@ pub fn drop_reads(log: &[u32], count: usize, readers: &mut [u16], session: u8)
     requires { ⌜ (Swept session (now log) count (length (now readers))) × (length (now readers) ≤ 1024) ⌝ }
     ensures { λ _. ⌜ DropsReads (now (log .entry)) count session (now (readers .entry)) (now (readers .exit)) ⌝ }
 {
-    let first = drop_unwritten(log, count, readers, session);
+    let first = drop_unpublished(log, count, readers, session);
     if first == count {
         return;
     }
@@ -279,6 +279,9 @@ pub fn lock_for(readers: &[u16], claimants: &[u8], exclusives: &[u8], p: Plan) -
         return at(readers, claimants, exclusives, cell);
     }
     if let Plan::EnterUpdate(cell, _) = p {
+        return at(readers, claimants, exclusives, cell);
+    }
+    if let Plan::EnterMark(cell) = p {
         return at(readers, claimants, exclusives, cell);
     }
     Lock {

@@ -1,14 +1,16 @@
 -- Laws of the searches over the entries of a log: what one entry more makes of them, and how a loop's answer is the model's.
-use Prim.Native.Nat.{ℕ, zero, suc, _+_, _*_, _<_, _≤_}
-use mathlib.Core.Bool.{Bool, true, false}
+use Prim.Native.Nat.{ℕ, zero, suc, _+_, _*_, _/_, _%_, _<_, _≤_}
+use mathlib.Core.Bool.{Bool, true, false, not}
 use mathlib.Core.List.{List}
 use mathlib.Core.Option.{Option, none, some}
 use mathlib.Core.Path.{_≡_, refl, sym, ap, _∙_}
 use native.Mathlib.Numerals.{add-one}
 use native.Mathlib.Omega.{arith}
+use lib.Dec.{eqb}
 use lib.ListN.{getD, set}
 use borrow.Author.Tests.{lt-ltb, le-ltb, ltb-true, ltb-false, eq-eqb, ne-eqb}
-use Rattle.model.specs.Buffers.{word, cellAt, slotIn, appended, updated}
+use Rattle.model.specs.Buffers.{word, cellAt, entryAt, slotIn, publishes, appended, withDirty, withHeld, updated, marked}
+use Rattle.model.specs.Readers.{odd}
 use Rattle.model.specs.Search.{orElse, find, below}
 use Rattle.model.proofs.Laws.{find-some}
 use Rattle.model.proofs.Tools.{same, which, and-false}
@@ -24,7 +26,34 @@ pub cell-word : (log : List ℕ) (k : ℕ) → cellAt log k ≡ getD log (4 * k)
 unfolding cellAt word
 cell-word log k = ap (λ (i : ℕ). getD log i 0) (omega arith)
 
--- ---- the stores of an append and an update, at the code's indices
+-- ---- an entry publishes by the two marks of its fourth word, and where it is written and not held by its values
+
+module _ (log : List ℕ) (k : ℕ) where
+  pub unmarked : word log k 3 % 4 ≡ 0 → false ≡ publishes (entryAt log k)
+  unfolding publishes entryAt odd
+  unmarked h =
+      let w = word log k 3 in
+      let a : (w % 2 ≡ 1 → ⊥) = λ e. omega arith in
+      let b : (w / 2 % 2 ≡ 1 → ⊥) = λ e. omega arith in
+      rw (ne-eqb (w % 2) 1 a, ne-eqb (w / 2 % 2) 1 b)
+
+  pub held : 1 < word log k 3 % 4 → true ≡ publishes (entryAt log k)
+  unfolding publishes entryAt odd
+  held h = let w = word log k 3 in let b : w / 2 % 2 ≡ 1 = omega arith in rw (eq-eqb (w / 2 % 2) 1 b)
+
+  pub written : (word log k 3 % 4 ≡ 0 → ⊥) → word log k 3 % 4 ≤ 1 → not (eqb (entryAt log k .current) (entryAt log k .snapshot)) ≡ publishes (entryAt log k)
+  unfolding publishes entryAt odd
+  written n h =
+      let w = word log k 3 in
+      let m : w % 4 ≡ 1 = omega (arith, h, n) in
+      let a : w % 2 ≡ 1 = omega (arith, m) in
+      let q : w / 2 ≡ w / 4 * 2 = omega (arith, m) in
+      let z : w / 4 * 2 % 2 ≡ 0 = omega arith in
+      let y : w / 2 % 2 ≡ 0 = rw q z in
+      let b : (w / 2 % 2 ≡ 1 → ⊥) = λ e. omega (arith, y, e) in
+      rw (eq-eqb (w % 2) 1 a, ne-eqb (w / 2 % 2) 1 b)
+
+-- ---- the stores of an append, an update and a mark, at the code's indices
 
 pub append-stores : (log : List ℕ) (k c v : ℕ)
     → set (set (set (set log (4 * k) c) (4 * k + 1) v) (4 * k + 2) v) (4 * k + 3) 0 ≡ appended log k c v
@@ -35,11 +64,17 @@ append-stores log k c v =
     let e₃ : 4 * k + 3 ≡ suc (suc (suc (4 * k))) = omega arith in
     rw (e₁, e₂, e₃)
 
-pub update-stores : (log : List ℕ) (k v : ℕ) → set (set log (4 * k + 2) v) (4 * k + 2 + 1) 1 ≡ updated log k v
-unfolding updated
+pub update-stores : (log : List ℕ) (k v : ℕ)
+    → set (set log (4 * k + 2) v) (4 * k + 2 + 1) (getD log (4 * k + 2 + 1) 0 / 2 % 2 * 2 + 1) ≡ updated log k v
+unfolding updated withDirty word
 update-stores log k v =
     let e₁ : 4 * k + 2 + 1 ≡ suc (4 * k + 2) = omega arith in
-    rw e₁
+    let e₂ : 4 * k + 3 ≡ suc (4 * k + 2) = omega arith in
+    rw (e₁, e₂)
+
+pub mark-stores : (log : List ℕ) (k : ℕ) → set log (4 * k + 3) (2 + getD log (4 * k + 3) 0 % 2) ≡ marked log k
+unfolding marked withHeld word
+mark-stores log k = refl
 
 -- ---- find
 

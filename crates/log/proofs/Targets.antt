@@ -31,7 +31,7 @@ found-some m k {i} h =
     (λ t. nothing (rw t at h))
 
 module _ (log : List ℕ) where
-  -- ---- a cell is written where its first entry publishes
+  -- ---- a cell publishes where its first entry does
 
   pub first-judges : (m c : ℕ) {k : ℕ} → slotIn log m c ≡ some k → publishesIn log m c ≡ publishes (entryAt log k)
   unfolding publishesIn lookIn entryOf
@@ -56,28 +56,28 @@ module _ (log : List ℕ) where
     pub place : r < n → (j : ℕ) × (j < k) × (cellAt log j ≡ r) × (from ≤ r) × (publishes (entryAt log j) ≡ true)
     pub most : r ≤ n
 
-  publishing-step : (n from k held : ℕ) → LowestPublishing n from k held → LowestPublishing n from (suc k) (better log from k held)
+  publishing-step : (n from k best : ℕ) → LowestPublishing n from k best → LowestPublishing n from (suc k) (better log from k best)
   unfolding better
-  publishing-step n from k held w =
+  publishing-step n from k best w =
       let c = cellAt log k in
       let p = publishes (entryAt log k) in
-      split (LowestPublishing n from (suc k)) (leb from c && (ltb c held && p))
+      split (LowestPublishing n from (suc k)) (leb from c && (ltb c best && p))
       (λ t.
-      let u = leb-true from c (both-l (leb from c) (ltb c held && p) t) in
-      let y = both-r (leb from c) (ltb c held && p) t in
-      let v = ltb-true c held (both-l (ltb c held) p y) in
+      let u = leb-true from c (both-l (leb from c) (ltb c best && p) t) in
+      let y = both-r (leb from c) (ltb c best && p) t in
+      let v = ltb-true c best (both-l (ltb c best) p y) in
       record {
         least = λ j l f o. same j k (λ e. rw e (omega arith)) (λ d. omega (arith, w .least j (omega arith) f o));
-        place = λ l. (k, omega arith, refl, u, both-r (ltb c held) p y);
+        place = λ l. (k, omega arith, refl, u, both-r (ltb c best) p y);
         most = omega (arith, w .most);
       })
       (λ t.
       record {
         least = λ j l f o. same j k
             (λ e.
-            test (ltb c held)
+            test (ltb c best)
             (λ q. let f′ : from ≤ c = rw e at f in let o′ : p ≡ true = rw e at o in absurd (clash true refl (simp (le-leb from c f′, q, o′) at t)))
-            (λ q. rw e (ltb-false c held q)))
+            (λ q. rw e (ltb-false c best q)))
             (λ d. w .least j (omega arith) f o);
         place = λ l. let h = w .place l in (h .0, omega (arith, h .1), h .2, h .3, h .4);
         most = w .most;
@@ -89,22 +89,22 @@ module _ (log : List ℕ) where
   lowest-publishing n from (suc k) = publishing-step n from k (lowestPublishing log n from k) (lowest-publishing n from k)
 
   -- the four ways through one entry, with its cell read
-  module _ (from i held c : ℕ) (e : c ≡ cellAt log i) where
-    pub lower-before : c < from → held ≡ better log from i held
+  module _ (from i best c : ℕ) (e : c ≡ cellAt log i) where
+    pub lower-before : c < from → best ≡ better log from i best
     unfolding better
     lower-before h = rw (← e, lt-leb from c h)
 
-    pub lower-above : held ≤ c → held ≡ better log from i held
+    pub lower-above : best ≤ c → best ≡ better log from i best
     unfolding better
-    lower-above h = rw (← e, le-ltb c held h, and-false)
+    lower-above h = rw (← e, le-ltb c best h, and-false)
 
-    pub lower-here : from ≤ c → c < held → publishes (entryAt log i) ≡ true → c ≡ better log from i held
+    pub lower-here : from ≤ c → c < best → publishes (entryAt log i) ≡ true → c ≡ better log from i best
     unfolding better
-    lower-here f h p = rw (← e, le-leb from c f, lt-ltb c held h, p)
+    lower-here f h p = rw (← e, le-leb from c f, lt-ltb c best h, p)
 
-    pub lower-unwritten : publishes (entryAt log i) ≡ false → held ≡ better log from i held
+    pub lower-unpublished : publishes (entryAt log i) ≡ false → best ≡ better log from i best
     unfolding better
-    lower-unwritten p = rw (← e, p, and-false, and-false)
+    lower-unpublished p = rw (← e, p, and-false, and-false)
 
   pub publishing-more : (n from k : ℕ) → better log from k (lowestPublishing log n from k) ≡ lowestPublishing log n from (k + 1)
   unfolding lowestPublishing
@@ -119,7 +119,7 @@ module _ (log : List ℕ) where
   unfolding targetIn
   target-is m from = lowest-is (fit m from) (cellAt log) m
 
-  -- a target is a written cell not below the start, and no such cell is lower
+  -- a target is a cell that publishes, not below the start, and no such cell is lower
   pub target-some : (m from : ℕ) {c : ℕ} → targetIn log m from ≡ some c
       → (from ≤ c) × (publishesIn log m c ≡ true) × ((d : ℕ) → from ≤ d → publishesIn log m d ≡ true → c ≤ d)
   target-some m from {c} e =
@@ -132,7 +132,7 @@ module _ (log : List ℕ) where
             rw (s .1) at (w .least (k .0) (s .0) (rw (s .1) (simp (le-leb from d l, p)))),
       )
 
-  -- where there is none, no cell not below the start is written
+  -- where there is none, no cell not below the start publishes
   pub target-none : (m from : ℕ) → targetIn log m from ≡ none → (d : ℕ) → from ≤ d → publishesIn log m d ≡ true → ⊥
   target-none m from e d l p =
       let w = subst (Low (fit m from) (cellAt log) m) e (target-is m from) in
@@ -140,7 +140,7 @@ module _ (log : List ℕ) where
       let s = slot-some m d (k .1) in
       clash (fit m from d) (simp (le-leb from d l, p)) (rw (s .1) at (w (k .0) (s .0)))
 
-  -- a start may be raised past cells that are not written
+  -- a start may be raised past cells that do not publish
   target-later : (m from next : ℕ) → from ≤ next → ((d : ℕ) → from ≤ d → d < next → publishesIn log m d ≡ true → ⊥)
       → targetIn log m from ≡ targetIn log m next
   unfolding targetIn
@@ -162,7 +162,7 @@ module _ (log : List ℕ) where
     pub lowest-r : LowestPublishing n from m r
     lowest-r = rw is (lowest-publishing n from m)
 
-    -- the lowest cell is not above a written one
+    -- the lowest cell is not above one that publishes
     publishing-least : (d : ℕ) → from ≤ d → publishesIn log m d ≡ true → r ≤ d
     publishing-least d l p =
         let k = written-first m d p in

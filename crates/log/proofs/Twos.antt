@@ -1,5 +1,5 @@
 -- The lowest two cells of entries judged each by itself, kept over one entry more; and the entry that an advance handles, with whether
--- another written cell is left above its cell.
+-- another cell that publishes is left above its cell.
 use Prim.Native.Nat.{ℕ, suc, _+_, _<_, _≤_}
 use mathlib.Core.Bool.{Bool, true, false}
 use mathlib.Core.List.{List}
@@ -11,7 +11,7 @@ use Rattle.model.specs.Buffers.{cellAt, entryAt, slotIn, publishes, targetIn}
 use Rattle.model.specs.Search.{some?, below}
 use Rattle.model.proofs.Tools.{test, which}
 use Rattle.log.specs.Slots.{found, better, lowestPublishing, slotOf, targetSlot, isMore, LowestTwo, IsNext}
-use Rattle.log.proofs.Targets.{LowestPublishing, lowest-publishing, lowest-r, lower-before, lower-above, lower-here, lower-unwritten, publishing-more, written-first, slot-some, target-some, turn-slot, turn-inside, turn-ends, turn-here}
+use Rattle.log.proofs.Targets.{LowestPublishing, lowest-publishing, lowest-r, lower-before, lower-above, lower-here, lower-unpublished, publishing-more, written-first, slot-some, target-some, turn-slot, turn-inside, turn-ends, turn-here}
 
 module _ (log : List ℕ) where
   -- ---- a start that is raised up to the lowest cell leaves it the lowest
@@ -49,8 +49,8 @@ module _ (log : List ℕ) where
     two-kept : low ≡ better log from i low → high ≡ better log (suc low) i high → LowestTwo log n from (i + 1) low high
     two-kept a b = record { low-is = lowest-more from (w .low-is) a; high-is = lowest-more (suc low) (w .high-is) b }
 
-    pub two-unwritten : publishes (entryAt log i) ≡ false → LowestTwo log n from (i + 1) low high
-    two-unwritten p = two-kept (lower-unwritten log from i low c e p) (lower-unwritten log (suc low) i high c e p)
+    pub two-unpublished : publishes (entryAt log i) ≡ false → LowestTwo log n from (i + 1) low high
+    two-unpublished p = two-kept (lower-unpublished log from i low c e p) (lower-unpublished log (suc low) i high c e p)
 
     pub two-before : c < from → LowestTwo log n from (i + 1) low high
     two-before h =

@@ -19,8 +19,8 @@ pub record Locates (log : List ℕ) (m c : ℕ) (known : Bool) (slot : ℕ) : Ty
 
 -- the lower of a cell so far and entry k's, where that is not below a cell and the entry publishes by itself
 unfoldable pub better : List ℕ → ℕ → ℕ → ℕ → ℕ
-better log from k held =
-    cond (leb from (cellAt log k) && (ltb (cellAt log k) held && publishes (entryAt log k))) (cellAt log k) held
+better log from k best =
+    cond (leb from (cellAt log k) && (ltb (cellAt log k) best && publishes (entryAt log k))) (cellAt log k) best
 
 -- the lowest such cell of k entries; n where there is none
 unfoldable pub lowestPublishing : List ℕ → ℕ → ℕ → ℕ → ℕ

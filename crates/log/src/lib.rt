@@ -6,7 +6,7 @@ ghost use mathlib.Core.Option.{none};
 ghost use Prim.Native.Nat.{ℕ, _+_, _*_, _<_, _≤_};
 ghost use lib.ListN.{length, replicate};
 ghost use Rattle.model.specs.Search.{some?, below};
-ghost use Rattle.model.specs.Buffers.{logIn, cellAt, entryAt, slotIn, publishes, targetIn, appended, updated};
+ghost use Rattle.model.specs.Buffers.{logIn, cellAt, entryAt, slotIn, publishes, targetIn, appended, updated, marked};
 ghost use Rattle.log.specs.Slots.{found, Locates, better, lowestPublishing, targetSlot, firstPublishes, LowestTwo, IsNext};
 
 // The log of a session: its 128 words of the logs.
@@ -43,7 +43,7 @@ pub fn snapshot(log: &[u32], k: usize) -> u32
     log[4 * k + 1]
 }
 
-// Whether entry k is written, by its fourth word's lowest bit.
+// Whether entry k is written, by its fourth word's lowest bit: of that word written counts one, held two, and what stands above is not looked at.
 pub fn dirty(log: &[u32], k: usize) -> bool
     requires { ⌜ 4 * k + 3 < length (now log) ⌝ }
     ensures { λ r. ⌜ r ≡ entryAt (now (log .entry)) k .dirty ⌝ }
@@ -51,12 +51,20 @@ pub fn dirty(log: &[u32], k: usize) -> bool
     log[4 * k + 3] % 2 == 1
 }
 
-// Whether entry k publishes, that is counts as written from the seal on: it is written, and its present value is not the one found.
+// Whether entry k publishes, that is counts as written from the seal on: it is held, or it is written and its present value is not the one found. An entry
+// that is neither is told first, since most are merely read.
 pub fn publishes(log: &[u32], k: usize) -> bool
     requires { ⌜ 4 * k + 3 < length (now log) ⌝ }
     ensures { λ r. ⌜ r ≡ publishes (entryAt (now (log .entry)) k) ⌝ }
 {
-    dirty(log, k) & (current(log, k) != snapshot(log, k))
+    let marks = log[4 * k + 3] % 4;
+    if marks == 0 {
+        return false;
+    }
+    if 1 < marks {
+        return true;
+    }
+    current(log, k) != snapshot(log, k)
 }
 
 // Where a cell stands in a log: whether one of the entries has it, and the place of the first that does; the count where none has.
@@ -207,22 +215,22 @@ pub fn all_below_by_fours(log: &[u32], count: usize, n: u32) -> bool
     true
 }
 
-// The lower of the cell held so far and entry i's, where that is not below from and publishes.
-fn lower(log: &[u32], i: usize, from: u32, held: u32) -> u32
+// The lower of the best cell so far and entry i's, where that is not below from and publishes.
+fn lower(log: &[u32], i: usize, from: u32, best: u32) -> u32
     requires { ⌜ 4 * i + 3 < length (now log) ⌝ }
-    ensures { λ r. ⌜ r ≡ better (now (log .entry)) from i held ⌝ }
+    ensures { λ r. ⌜ r ≡ better (now (log .entry)) from i best ⌝ }
 {
     let cell = cell_at(log, i);
     if cell < from {
-        return held;
+        return best;
     }
-    if held <= cell {
-        return held;
+    if best <= cell {
+        return best;
     }
     if publishes(log, i) {
         return cell;
     }
-    held
+    best
 }
 
 // The lowest cell not below from and below n of the first count entries that publish, each judged by itself; n where there is none.
@@ -231,12 +239,12 @@ fn lowest_publishing(log: &[u32], count: usize, n: u32, from: u32) -> u32
     ensures { λ r. ⌜ r ≡ lowestPublishing (now (log .entry)) n from count ⌝ }
 {
     let mut i = 0;
-    let mut held = n;
+    let mut best = n;
     let cell = loop {
         if count <= i {
-            break held;
+            break best;
         }
-        held = lower(log, i, from, held);
+        best = lower(log, i, from, best);
         i += 1;
     };
     cell
@@ -269,22 +277,22 @@ struct Two {
     high: u32,
 }
 
-// The lowest two of the cells held so far and entry i's, where that is not below from and publishes.
-fn lower_two(log: &[u32], i: usize, from: u32, held: Two) -> Two
+// The lowest two of the best cells so far and entry i's, where that is not below from and publishes.
+fn lower_two(log: &[u32], i: usize, from: u32, best: Two) -> Two
     requires { ⌜ 4 * i + 3 < length (now log) ⌝ }
-    ensures { λ r. ⌜ ((n : ℕ) → LowestTwo (now (log .entry)) n from i (held .low) (held .high) → LowestTwo (now (log .entry)) n from (i + 1) (r .low) (r .high)) ⌝ }
+    ensures { λ r. ⌜ ((n : ℕ) → LowestTwo (now (log .entry)) n from i (best .low) (best .high) → LowestTwo (now (log .entry)) n from (i + 1) (r .low) (r .high)) ⌝ }
 {
     let cell = cell_at(log, i);
-    let low = held.low;
-    let high = held.high;
+    let low = best.low;
+    let high = best.high;
     if cell < from {
-        return held;
+        return best;
     }
     if high <= cell {
-        return held;
+        return best;
     }
     if !publishes(log, i) {
-        return held;
+        return best;
     }
     if cell < low {
         return Two {
@@ -298,7 +306,7 @@ fn lower_two(log: &[u32], i: usize, from: u32, held: Two) -> Two
             high: cell,
         };
     }
-    held
+    best
 }
 
 // The lowest two cells not below from and below n of the first count entries that publish, each judged by itself; n for each that there is not.
@@ -307,12 +315,12 @@ fn lowest_two(log: &[u32], count: usize, n: u32, from: u32) -> Two
     ensures { λ r. ⌜ LowestTwo (now (log .entry)) n from count (r .low) (r .high) ⌝ }
 {
     let mut i = 0;
-    let mut held = Two { low: n, high: n };
+    let mut best = Two { low: n, high: n };
     while i < count {
-        held = lower_two(log, i, from, held);
+        best = lower_two(log, i, from, best);
         i += 1;
     }
-    held
+    best
 }
 
 // The entry that an advance handles, count where there is none, and whether another cell that publishes is left above its cell.
@@ -402,7 +410,7 @@ fn first_publishes(log: &[u32], i: usize, from: u32) -> bool
     false
 }
 
-// A new entry at k: found and present are the value, not written.
+// A new entry at k: found and present are the value, not written and not held.
 pub fn append(log: &mut [u32], k: usize, cell: u32, value: u32)
     requires { ⌜ 4 * k + 3 < length (now log) ⌝ }
     ensures { λ _. ⌜ now (log .exit) ≡ appended (now (log .entry)) k cell value ⌝ }
@@ -414,14 +422,25 @@ pub fn append(log: &mut [u32], k: usize, cell: u32, value: u32)
     log[i + 3] = 0;
 }
 
-// Sets the present value of entry k, which is then written.
+// Sets the present value of entry k, which is then written; it stays held where it was.
 pub fn update(log: &mut [u32], k: usize, value: u32)
     requires { ⌜ 4 * k + 3 < length (now log) ⌝ }
     ensures { λ _. ⌜ now (log .exit) ≡ updated (now (log .entry)) k value ⌝ }
 {
     let i = 4 * k + 2;
+    let marks = log[i + 1];
     log[i] = value;
-    log[i + 1] = 1;
+    log[i + 1] = marks / 2 % 2 * 2 + 1;
+}
+
+// Entry k is held from now on; it stays written where it was.
+pub fn mark(log: &mut [u32], k: usize)
+    requires { ⌜ 4 * k + 3 < length (now log) ⌝ }
+    ensures { λ _. ⌜ now (log .exit) ≡ marked (now (log .entry)) k ⌝ }
+{
+    let i = 4 * k + 3;
+    let marks = log[i];
+    log[i] = 2 + marks % 2;
 }
 
 // Every word 0, of one log or of all.

@@ -103,7 +103,7 @@ module _ {start : List ℕ} {σ : Store} {T : Ledger} (s : ℕ) (lt : s < 16) (I
   reach : leb (recordOf σ s .next) c ≡ true
   reach = le-leb (recordOf σ s .next) c (target-some σ s (recordOf σ s .next) tgt .0)
 
-  -- other written cells stand to one above this cell as to the next cell
+  -- other cells that publish stand to one above this cell as to the next cell
   leb-same : (d : ℕ) → written σ s d ≡ true → (d ≡ c → ⊥) → leb (suc c) d ≡ leb (recordOf σ s .next) d
   leb-same d w n =
       let t = target-some σ s (recordOf σ s .next) tgt in
@@ -111,7 +111,7 @@ module _ {start : List ℕ} {σ : Store} {T : Ledger} (s : ℕ) (lt : s < 16) (I
       (λ q. let l = t .2 d w (leb-true (recordOf σ s .next) d q) in rw (q, le-leb (suc c) d (omega arith)))
       (λ q. let l = leb-false (recordOf σ s .next) d q in rw (q, lt-leb (suc c) d (omega (arith, t .0))))
 
-  -- none left: every other written cell is below the next cell
+  -- none left: every other cell that publishes is below the next cell
   leb-last : target σ s (suc c) ≡ none → (d : ℕ) → written σ s d ≡ true → (d ≡ c → ⊥) → leb (recordOf σ s .next) d ≡ false
   leb-last h d w n = sym (leb-same d w n) ∙ lt-leb (suc c) d (target-none σ s (suc c) h d w)
 

@@ -12,23 +12,23 @@ use lib.Seq.{sets, length-sets}
 use borrow.Author.Tests.{eqb-true, leb-true}
 use Rattle.model.specs.declared.Session.{Session}
 use Rattle.model.specs.declared.Call.{Call}
-use Rattle.model.specs.declared.Call.the-variants.{Begin, Read, Write, Seal, Advance, Abandon, Peek}
+use Rattle.model.specs.declared.Call.the-variants.{Begin, Read, Write, Seal, Advance, Abandon, Peek, Hold}
 use Rattle.model.specs.declared.Answer.{Answer}
 use Rattle.model.specs.declared.Answer.the-variants.{Moved, Committed, Refused}
 use Rattle.model.specs.declared.Plan.{Plan}
-use Rattle.model.specs.declared.Plan.the-variants.{Refuse, Start, Tell, Enter, Update, EnterUpdate, RollBack, Cancel, CommitReads, BeginPromotion, Wait, Acquire, Publish, Release, ShowStore, ShowLog}
-use Rattle.model.specs.Buffers.{Locks, Buffers, Store, idle, running, sessionAt, withSession, withEntry, moveTo, word, cellAt, entryAt, slotIn, entryOf, lookIn, targetIn, currentOf, appended, updated, lockAt, onLock, join, cap, fits, allFit, lengthsFit, fresh, logIn, onLog, size}
+use Rattle.model.specs.declared.Plan.the-variants.{Refuse, Start, Tell, Enter, Update, EnterUpdate, Mark, EnterMark, RollBack, Cancel, CommitReads, BeginPromotion, Wait, Acquire, Publish, Release, ShowStore, ShowLog}
+use Rattle.model.specs.Buffers.{Locks, Buffers, Store, idle, running, sessionAt, withSession, withEntry, moveTo, word, cellAt, entryAt, slotIn, entryOf, lookIn, targetIn, currentOf, appended, withDirty, withHeld, updated, marked, lockAt, onLock, join, cap, fits, allFit, lengthsFit, fresh, logIn, onLog, size}
 use Rattle.model.specs.Caps.{capOf, GotWithin, WithinCaps}
 use Rattle.model.specs.History.{Action, oneCall, manyReads, actor, tellsOf, leaves, eventOf, run, events, told, history, add}
 use Rattle.model.specs.Isolation.{All}
 use Rattle.model.specs.Readers.{otherReaders}
 use Rattle.model.specs.Search.{some?, find}
-use Rattle.model.specs.Plans.{guard, known, claimed, readSlot, writeSlot, writeCapped, sealTarget, promotePlan, advanceTarget, plan, admit}
+use Rattle.model.specs.Plans.{guard, known, claimed, readSlot, holdSlot, writeSlot, writeCapped, sealTarget, promotePlan, advanceTarget, plan, admit}
 use Rattle.model.specs.Effects.{number, isLeft, handled, change, changeLogs, recordOf, after, releaseAnswer, answer, logOf}
 use Rattle.model.specs.Step.{sessionOf, planOf, step, answerOf, setUpAnswer, setUp}
-use Rattle.model.specs.Told.{Told, began, got, put, sealed, moved, ended, ending, foundBy, tells, WhereGot}
+use Rattle.model.specs.Told.{Told, began, got, put, held, sealed, moved, ended, ending, foundBy, tells, WhereGot}
 use Rattle.model.proofs.Demand3.{set-up-passed, set-up-fresh}
-use Rattle.model.proofs.Laws.{find-some, getD-sets-other, log-length, log-same, log-other, length-on, grown-word, grown-apart, appended-cell}
+use Rattle.model.proofs.Laws.{find-some, getD-sets-other, log-length, log-same, log-other, length-on, grown-word, grown-apart, appended-cell, marked-words}
 use Rattle.model.proofs.Invariant.{all-append}
 use Rattle.model.proofs.ManyReads.{kept-by-reads}
 use Rattle.model.proofs.Passing.{choose, guarded, cell-known, cell-new}
@@ -69,13 +69,14 @@ module _ (bound : ℕ → ℕ) (log : List ℕ) (k : ℕ) where
       (λ e. rw e (rw (grown-word log k c v lk len 2 (omega arith), grown-word log k c v lk len 0 (omega arith)) h))
       (λ n. rw (grown-apart log k c v lk len j 2 n (omega arith), grown-apart log k c v lk len j 0 n (omega arith)) (f n))
 
-  updated-within : (v : ℕ) → v ≤ bound (cellAt log k) → (j : ℕ) → EntryWithin bound log j → EntryWithin bound (updated log k v) j
-  unfolding cellAt entryAt updated word
-  updated-within v h j old =
-      let q : getD (sets log (4 * k + 2) (v ∷ 1 ∷ [])) (4 * j + 0) 0 ≡ getD log (4 * j + 0) 0 =
-      getD-sets-other (v ∷ 1 ∷ []) log (4 * k + 2) (4 * j + 0) (λ m p e. omega arith) in
+  -- an entry's last two words set
+  set-within : (v w : ℕ) → v ≤ bound (cellAt log k) → (j : ℕ) → EntryWithin bound log j → EntryWithin bound (sets log (4 * k + 2) (v ∷ w ∷ [])) j
+  unfolding cellAt entryAt word
+  set-within v w h j old =
+      let q : getD (sets log (4 * k + 2) (v ∷ w ∷ [])) (4 * j + 0) 0 ≡ getD log (4 * j + 0) 0 =
+      getD-sets-other (v ∷ w ∷ []) log (4 * k + 2) (4 * j + 0) (λ m p e. omega arith) in
       rw q
-      (set-either (λ x. x ≤ bound (word log j 0)) (set log (4 * k + 2) v) (suc (4 * k + 2)) (4 * j + 2) 1 0
+      (set-either (λ x. x ≤ bound (word log j 0)) (set log (4 * k + 2) v) (suc (4 * k + 2)) (4 * j + 2) w 0
       (λ e. absurd (omega arith))
       (set-either (λ x. x ≤ bound (word log j 0)) log (4 * k + 2) (4 * j + 2) v 0
       (λ e. let w : j ≡ k = omega arith in rw w h) old))
@@ -91,16 +92,17 @@ module _ (s : ℕ) (logs : List ℕ) (k c v : ℕ) (lt : s < 16) (len : length l
   unfolding appended
   grown-whole = length-sets (logIn logs s) (4 * k) (c ∷ v ∷ v ∷ 0 ∷ []) ∙ log-length logs s lt len
 
-  changed-whole : length (updated (logIn logs s) k v) ≡ 128
-  unfolding updated
-  changed-whole = length-sets (logIn logs s) (4 * k + 2) (v ∷ 1 ∷ []) ∙ log-length logs s lt len
-
   entered-length : length (onLog s (λ log. appended log k c v) logs) ≡ 2048
   entered-length = length-on s logs lt len (λ log. appended log k c v) grown-whole ∙ len
 
   entered-cell : k < 32 → cellAt (logIn (onLog s (λ log. appended log k c v) logs) s) k ≡ c
   entered-cell lk =
       rw (log-same s logs lt len (λ log. appended log k c v) grown-whole) (appended-cell (logIn logs s) k c v lk (log-length logs s lt len))
+
+  entered-within : (bound : ℕ → ℕ) → k < 32 → v ≤ bound c → EntryWithin bound (logIn (onLog s (λ log. appended log k c v) logs) s) k
+  entered-within bound lk h =
+      rw (log-same s logs lt len (λ log. appended log k c v) grown-whole)
+      (appended-within bound (logIn logs s) k c v lk (log-length logs s lt len) h k (λ n. absurd (n refl)))
 
 -- ---- what a plan leaves
 
@@ -115,15 +117,23 @@ change-keeps σ s L vs W x h old new =
       logged = λ t k. set-either (λ (y : Session). InUse y k → EntryWithin (capOf σ) (logIn W t) k) (σ .sessions .records) s t x idle (λ e. rw e (new k)) (old t k);
     }
 
--- a value written into an entry
-update-keeps : {σ : Store} → Capped σ → (s k v : ℕ) → s < 16 → length (σ .lent .logs) ≡ 2048 → v ≤ capOf σ (cellAt (logOf σ s) k)
-    → Capped (changeLogs σ (onLog s (λ log. updated log k v) (σ .lent .logs)))
-update-keeps {σ} I s k v lt len h =
-    record {
-      stored = I .stored;
-      logged = λ t j u. on-within (capOf σ) s (σ .lent .logs) lt len (λ log. updated log k v) (changed-whole s (σ .lent .logs) k 0 v lt len) t j
-          (λ e. updated-within (capOf σ) (logOf σ s) k v h j (subst (λ (i : ℕ). EntryWithin (capOf σ) (logOf σ i) j) e (I .logged t j u))) (λ _. I .logged t j u);
-    }
+-- an entry's last two words set: a value written into it, or a mark
+module _ {σ : Store} (I : Capped σ) (s k : ℕ) (lt : s < 16) (len : length (σ .lent .logs) ≡ 2048) where
+  set-keeps : (v w : ℕ) (g : List ℕ → List ℕ) → g (logOf σ s) ≡ sets (logOf σ s) (4 * k + 2) (v ∷ w ∷ []) → v ≤ capOf σ (cellAt (logOf σ s) k)
+      → Capped (changeLogs σ (onLog s g (σ .lent .logs)))
+  set-keeps v w g is h =
+      record {
+        stored = I .stored;
+        logged = λ t j u. on-within (capOf σ) s (σ .lent .logs) lt len g (ap length is ∙ length-sets (logOf σ s) (4 * k + 2) (v ∷ w ∷ []) ∙ log-length (σ .lent .logs) s lt len) t j
+            (λ e. rw is (set-within (capOf σ) (logOf σ s) k v w h j (subst (λ (i : ℕ). EntryWithin (capOf σ) (logOf σ i) j) e (I .logged t j u)))) (λ _. I .logged t j u);
+      }
+
+  update-keeps : (v : ℕ) → v ≤ capOf σ (cellAt (logOf σ s) k) → Capped (changeLogs σ (onLog s (λ log. updated log k v) (σ .lent .logs)))
+  update-keeps v h = set-keeps v (withDirty (word (logOf σ s) k 3)) (λ log. updated log k v) (unfold updated in refl) h
+
+  mark-keeps : entryAt (logOf σ s) k .current ≤ capOf σ (cellAt (logOf σ s) k) → Capped (changeLogs σ (onLog s (λ log. marked log k) (σ .lent .logs)))
+  unfolding entryAt
+  mark-keeps h = set-keeps (word (logOf σ s) k 2) (withHeld (word (logOf σ s) k 3)) (λ log. marked log k) (marked-words (logOf σ s) k) h
 
 handled-in-use : (log : List ℕ) (c : ℕ) (x : Session) → (x .phase ≡ 0 → ⊥) → (k : ℕ) → InUse (handled log c x) k → InUse x k
 unfolding handled
@@ -195,6 +205,7 @@ refused-within bound r k f =
     none-above began g = tt
     none-above (got c v) g = omega arith
     none-above (put c v f) g = tt
+    none-above (held c v f) g = omega arith
     none-above sealed g = tt
     none-above moved g = tt
     none-above ended g = tt
@@ -250,10 +261,26 @@ module _ {σ : Store} (I : Capped σ) where
       (λ _. cell-new (CapsKept call) (recordOf σ s) (lockAt (σ .lent .locks) c) (EnterUpdate c v) (keep-refusal call 5) (λ _. keep-rollback call)
       (λ room _.
       let u = getD (σ .lent .values) c 0 in
-      (update-keeps (enter-keeps I s n len lt room c) s m v lt (entered-length s (σ .lent .logs) m c u lt len) (rw (entered-cell s (σ .lent .logs) m c u lt len room) le), (tt, tt))))
-      (λ j p. (update-keeps I s j v lt len (rw (find-some (cellAt (logOf σ s)) c m p .1) le), (tt, tt))))
+      (update-keeps (enter-keeps I s n len lt room c) s m lt (entered-length s (σ .lent .logs) m c u lt len) v (rw (entered-cell s (σ .lent .logs) m c u lt len room) le), (tt, tt))))
+      (λ j p. (update-keeps I s j lt len v (rw (find-some (cellAt (logOf σ s)) c m p .1) le), (tt, tt))))
       (λ _. keep-refusal call 4))
       (λ _. keep-refusal call 8))
+
+  keep-hold : (s c : ℕ) → CapsKept (Hold s c) (planOf (Hold s c) σ)
+  unfolding planOf plan holdSlot after answer lookIn slotIn entryOf tells ending
+  keep-hold s c =
+      let m = recordOf σ s .count in
+      on-cell (Hold s c) c (holdSlot (logOf σ s) (recordOf σ s) (lockAt (σ .lent .locks) c) c (slotIn (logOf σ s) m c))
+      (λ len lt n.
+      choose (CapsKept (Hold s c)) (holdSlot (logOf σ s) (recordOf σ s) (lockAt (σ .lent .locks) c) c) (slotIn (logOf σ s) m c)
+      (λ _. cell-new (CapsKept (Hold s c)) (recordOf σ s) (lockAt (σ .lent .locks) c) (EnterMark c) (keep-refusal (Hold s c) 5) (λ _. keep-rollback (Hold s c))
+      (λ room _.
+      let u = getD (σ .lent .values) c 0 in
+      let w = entered-within s (σ .lent .logs) m c u lt len (capOf σ) room (I .stored c) in
+      (mark-keeps (enter-keeps I s n len lt room c) s m lt (entered-length s (σ .lent .logs) m c u lt len) w, (I .stored c, tt))))
+      (λ j p.
+      let w = I .logged s j (n, find-some (cellAt (logOf σ s)) c m p .0) in
+      (mark-keeps I s j lt len w, (rw (find-some (cellAt (logOf σ s)) c m p .1) at w, tt))))
 
   keep-begin : (s : ℕ) → CapsKept (Begin s) (planOf (Begin s) σ)
   unfolding planOf plan after answer tells ending
@@ -306,6 +333,7 @@ module _ {σ : Store} (I : Capped σ) where
   keep (Advance s) = keep-advance s
   keep (Abandon s) = keep-abandon s
   keep (Peek s c) = keep-quiet (Peek s c) _ (peeks σ s c)
+  keep (Hold s c) = keep-hold s c
 
   pub keeps-capped : (k : Call) → Capped (step k σ)
   unfolding step
@@ -325,6 +353,8 @@ classes-after s (Tell v) σ = refl
 classes-after s (Enter c) σ = refl
 classes-after s (Update k v) σ = refl
 classes-after s (EnterUpdate c v) σ = refl
+classes-after s (Mark k v) σ = refl
+classes-after s (EnterMark c) σ = refl
 classes-after s RollBack σ = refl
 classes-after s Cancel σ = refl
 classes-after s CommitReads σ = refl

@@ -5,13 +5,13 @@ use Prim.Native.Nat.{ℕ, _*_, _<_}
 use native.Mathlib.Omega.{arith}
 use lib.ListN.{length, getD, set, take, drop, length-set, take-append-drop}
 use lib.Seq.{sets, set-getD, length-take-le, take-append-seam, drop-append-seam}
-use Rattle.model.specs.Buffers.{Store, sessionAt, withSession, logIn, onLog, appended, updated}
+use Rattle.model.specs.Buffers.{Store, sessionAt, withSession, logIn, onLog, appended, updated, marked}
 use Rattle.model.specs.Effects.{answer, after, logOf, recordOf}
 use Rattle.model.specs.Step.{outcome}
 use Rattle.model.specs.Turns.{turnOf, changed, carried}
 use Rattle.model.specs.declared.Sessions.{Sessions}
 use Rattle.model.specs.declared.Plan.{Plan}
-use Rattle.model.specs.declared.Plan.the-variants.{Refuse, Start, Tell, Enter, Update, EnterUpdate, RollBack, Cancel, CommitReads, BeginPromotion, Wait, Acquire, Publish, Release, ShowStore, ShowLog}
+use Rattle.model.specs.declared.Plan.the-variants.{Refuse, Start, Tell, Enter, Update, EnterUpdate, Mark, EnterMark, RollBack, Cancel, CommitReads, BeginPromotion, Wait, Acquire, Publish, Release, ShowStore, ShowLog}
 use Rattle.model.proofs.Laws.{log-length, log-same}
 
 -- a log, and a record, put back as it was
@@ -65,6 +65,10 @@ module _ (s : ℕ) (σ : Store) (low : s < 16) (long : length (σ .lent .logs) �
   carries (Update k v) = rw (same-record (σ .sessions) s) (unfold onLog in refl)
   carries (EnterUpdate c v) =
       rw (over (λ log. appended log (recordOf σ s .count) c (getD (σ .lent .values) c 0)) (λ log. updated log (recordOf σ s .count) v)
+      (length-appended _ _ _ _ ∙ log-length (σ .lent .logs) s low long))
+  carries (Mark k v) = rw (same-record (σ .sessions) s) (unfold onLog in refl)
+  carries (EnterMark c) =
+      rw (over (λ log. appended log (recordOf σ s .count) c (getD (σ .lent .values) c 0)) (λ log. marked log (recordOf σ s .count))
       (length-appended _ _ _ _ ∙ log-length (σ .lent .logs) s low long))
   carries RollBack = rw (same-log s (σ .lent .logs))
   carries Cancel = rw (same-log s (σ .lent .logs))

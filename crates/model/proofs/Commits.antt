@@ -45,7 +45,8 @@ module _ (start : List ℕ) where
     abbrev n : ℕ
     n = length start
 
-    last-value : (c q : ℕ) (ks : List Commit) → Lawful start ks → All (Recorded (length start) h) ks → ((r : Name) → CommitsTo start h c q r → In r ks) → Last start h c q (valueBefore q start ks c)
+    -- the last commit before a place, in the list as among the commits
+    pub last-value : (c q : ℕ) (ks : List Commit) → Lawful start ks → All (Recorded (length start) h) ks → ((r : Name) → CommitsTo start h c q r → In r ks) → Last start h c q (valueBefore q start ks c)
     unfolding valueBefore
     last-value c q [] l t a = noCommit a refl
     last-value c q (k ∷ ks) l t a =

@@ -1,25 +1,26 @@
 -- Each effect of a call keeps the invariant.
-use Prim.Native.Nat.{ℕ, suc, _+_, _*_, _≤_, _<_}
+use Prim.Native.Nat.{ℕ, zero, suc, _+_, _*_, _/_, _≤_, _<_}
 use native.Mathlib.Omega.{arith}
 use mathlib.Core.Path.{_≡_, refl, sym, _∙_, ap, fun-ext, subst}
-use mathlib.Core.Bool.{true, false}
+use mathlib.Core.Bool.{Bool, true, false}
 use mathlib.Core.Option.{Option, none, some}
 use mathlib.Core.List.{List, [], _∷_}
 use lib.ListN.{length, getD}
-use lib.Seq.{length-sets}
+use lib.Seq.{sets, length-sets}
 use Rattle.model.specs.declared.Session.{Session}
 use Rattle.model.specs.declared.Lock.{Lock}
-use Rattle.model.specs.declared.Call.the-variants.{Write}
-use Rattle.model.specs.Buffers.{Locks, Store, idle, running, withEntry, Entry, cellAt, entryAt, slotIn, entryOf, lookIn, isDirty, foundOf, appended, updated, lockAt, onLock, join, withdraw, onLog}
+use Rattle.model.specs.declared.Call.the-variants.{Write, Hold}
+use Rattle.model.specs.Buffers.{Locks, Store, idle, running, withEntry, Entry, word, cellAt, entryAt, slotIn, entryOf, lookIn, foundOf, appended, withDirty, withHeld, updated, marked, lockAt, onLock, join, withdraw, onLog}
 use Rattle.model.specs.Isolation.{at}
+use Rattle.model.specs.Readers.{odd}
 use Rattle.model.specs.Search.{find}
 use Rattle.model.specs.Effects.{rolledBack, change, changeLogs, recordOf, logOf}
 use Rattle.model.specs.Told.{foundBy}
 use Rattle.model.proofs.Invariant.{roleIn, roleOf, role, Running, Link, Shape, just-map, Inv, Frame, role-other, assemble, quiet}
-use Rattle.model.proofs.Laws.{Long, lock-same, lock-other, long-set, long-sweep, lock-sweep, withdraw-withdraw, log-length, log-same, log-other, length-on, grown-find, grown-new, grown-old, changed-old, changed-new, session-same, session-other, length-records}
-use Rattle.model.proofs.Ledger.{Txn, opened, saw, wroteTo, Commit, Ledger, blank}
+use Rattle.model.proofs.Laws.{Long, lock-same, lock-other, long-set, long-sweep, lock-sweep, withdraw-withdraw, log-length, log-same, log-other, length-on, grown-find, grown-new, grown-old, changed-old, changed-new, dirty-set, held-set, marked-words, session-same, session-other, length-records}
+use Rattle.model.proofs.Ledger.{Txn, opened, saw, wroteTo, holdsTo, Commit, Ledger, blank}
 use Rattle.model.proofs.Roles.{Role, out, reading, holds, owns, pends, claims?, Locked, Valued, unowned, kept, joins, withdraws, stays, sees}
-use Rattle.model.proofs.Running.{run-enter, run-note, run-saw}
+use Rattle.model.proofs.Running.{run-enter, run-note, run-hold, run-saw}
 use Rattle.model.proofs.Tools.{same, which, nothing, clash, upd}
 use Rattle.model.proofs.View.{slot, look}
 
@@ -98,6 +99,24 @@ role-same x y c (some e) p q = rw (p, q)
 pub running-role : (σ : Store) (s c : ℕ) (e : Entry) → recordOf σ s .phase ≡ 1 → look σ s c ≡ some e → role σ c s ≡ reading (e .snapshot)
 unfolding role roleOf roleIn
 running-role σ s c e h p = rw (p, h)
+
+-- values that are committed and not yet in the store are those of phase 3 alone
+unpending : (ph : ℕ) (w b : Bool) (f v : ℕ) → (ph ≡ 3 → ⊥) → pends (roleIn ph w b f v) ≡ false
+unfolding roleIn
+unpending zero w b f v n = refl
+unpending (suc zero) w b f v n = refl
+unpending (suc (suc zero)) true true f v n = refl
+unpending (suc (suc zero)) true false f v n = refl
+unpending (suc (suc zero)) false b f v n = refl
+unpending (suc (suc (suc zero))) w b f v n = absurd (n refl)
+unpending (suc (suc (suc (suc zero)))) true true f v n = refl
+unpending (suc (suc (suc (suc zero)))) true false f v n = refl
+unpending (suc (suc (suc (suc zero)))) false b f v n = refl
+unpending (suc (suc (suc (suc (suc k))))) w b f v n = refl
+
+pub not-pending : (σ : Store) (s c : ℕ) → (recordOf σ s .phase ≡ 3 → ⊥) → pends (role σ c s) ≡ false
+unfolding role roleOf
+not-pending σ s c n = which (look σ s c) (λ p. rw p) (λ e p. rw p (unpending (recordOf σ s .phase) _ _ _ _ n))
 
 pub look-is : (σ : Store) (s c : ℕ) → look σ s c ≡ lookIn (logOf σ s) (recordOf σ s .count) c
 unfolding look
@@ -182,8 +201,9 @@ module _ {start : List ℕ} {σ : Store} {T : Ledger} (s : ℕ) (lt : s < 16) (I
         unsealed = refl;
         reads = tt;
         dirtied = λ c. rw (blank c);
+        held = λ c. rw (blank c);
         wrote = λ c. rw (blank c);
-        value = λ c e. absurd (clash (isDirty (look (change σ s (σ .lent .locks) (σ .lent .values) (σ .lent .logs) running) s c)) e (rw (blank c)));
+        value = λ c e. absurd (clash false (rw (blank c) at e) refl);
         clean = λ c e p q. nothing (sym (blank c) ∙ p);
       }))
 
@@ -232,7 +252,7 @@ module _ {start : List ℕ} {σ : Store} {T : Ledger} (s : ℕ) (lt : s < 16) (I
     pub enter-count : recordOf ε s .count ≡ suc (recordOf σ s .count)
     enter-count = ap (λ (z : Session). z .count) (ses-same enter-acts) ∙ refl
 
-    pub enter-look : look ε s c ≡ some (record { snapshot = getD (σ .lent .values) c 0; current = getD (σ .lent .values) c 0; dirty = false })
+    pub enter-look : look ε s c ≡ some (record { snapshot = getD (σ .lent .values) c 0; current = getD (σ .lent .values) c 0; dirty = false; held = false })
     unfolding appended
     enter-look = look-mine enter-acts c ∙ rw grown-log (grown-new (logOf σ s) (x .count) c v room whole (sym (look-is σ s c) ∙ slot-none σ s c new))
 
@@ -249,7 +269,7 @@ module _ {start : List ℕ} {σ : Store} {T : Ledger} (s : ℕ) (lt : s < 16) (I
     there d n = rw (ses-same enter-acts, old-look d n) (role-same (withEntry x) x d (look σ s d) refl refl)
 
     here : role ε c s ≡ reading v
-    here = running-role ε s c (record { snapshot = v; current = v; dirty = false }) enter-phase enter-look
+    here = running-role ε s c (record { snapshot = v; current = v; dirty = false; held = false }) enter-phase enter-look
 
     pub enters : c < length start → lockAt (σ .lent .locks) c .claimant ≡ 16 → Inv start ε T
     unfolding onLock
@@ -276,62 +296,98 @@ module _ {start : List ℕ} {σ : Store} {T : Ledger} (s : ℕ) (lt : s < 16) (I
         (λ n. rw (lock-other c d l (σ .lent .locks) n) h))
         (I .just))
 
-  -- ---- a value written into an entry
+  -- ---- an entry's last two words: a value written into it, or a mark set
 
-  -- the value found is the entry's, and the invariant is kept
+  module _ (c k v w : ℕ) (g : List ℕ → List ℕ) (is : g (logOf σ s) ≡ sets (logOf σ s) (4 * k + 2) (v ∷ w ∷ [])) (ph : recordOf σ s .phase ≡ 1) (h : slot σ s c ≡ some k) where
+    abbrev pub ρ : Store
+    ρ = changeLogs σ (onLog s g (σ .lent .logs))
+
+    old-whole : length (logOf σ s) ≡ 128
+    old-whole = log-length (σ .lent .logs) s lt (I .shape .logs)
+
+    new-whole : length (g (logOf σ s)) ≡ 128
+    new-whole = ap length is ∙ length-sets (logOf σ s) (4 * k + 2) (v ∷ w ∷ []) ∙ old-whole
+
+    new-log : logOf ρ s ≡ sets (logOf σ s) (4 * k + 2) (v ∷ w ∷ [])
+    new-log = log-same s (σ .lent .logs) lt (I .shape .logs) g new-whole ∙ is
+
+    set-acts : Acts (length start) σ s x ρ
+    set-acts =
+        record {
+          mine = refl;
+          others = λ t n. refl;
+          records = I .shape .records;
+          logs = length-on s (σ .lent .logs) lt (I .shape .logs) g new-whole ∙ I .shape .logs;
+          notes = log-other s (σ .lent .logs) lt (I .shape .logs) g new-whole;
+          shape = I .shape;
+          lt = lt;
+        }
+
+    place : find (cellAt (logOf σ s)) (x .count) c ≡ some k
+    unfolding slot slotIn
+    place = h
+
+    abbrev e : Entry
+    e = entryAt (logOf σ s) k
+
+    set-look : look ρ s c ≡ some (record { snapshot = entryAt (logOf σ s) k .snapshot; current = v; dirty = odd w; held = odd (w / 2) })
+    unfolding entryAt
+    set-look = look-mine set-acts c ∙ rw new-log (changed-new (logOf σ s) (x .count) k c v w (I .shape .counts s) old-whole place)
+
+    set-found : foundOf (lookIn (logOf ρ s) (recordOf ρ s .count) c) ≡ entryAt (logOf σ s) k .snapshot
+    unfolding look
+    set-found = ap foundOf set-look
+
+    set-old : (d : ℕ) → (d ≡ c → ⊥) → look ρ s d ≡ look σ s d
+    set-old d n = look-mine set-acts d ∙ rw new-log (changed-old (logOf σ s) (x .count) k c v w (I .shape .counts s) old-whole place d n) ∙ sym (look-is σ s d)
+
+    set-role : (d : ℕ) → role ρ d s ≡ role σ d s
+    set-role d =
+        same d c
+        (λ q. rw q (running-role ρ s c _ (ap (λ (z : Session). z .phase) (ses-same set-acts) ∙ ph) set-look ∙ sym (running-role σ s c e ph (slot-some σ s c h))))
+        (λ n. unfold role in rw (ses-same set-acts, set-old d n))
+
+    -- the invariant is kept with any transaction that has run as the entries say
+    sets-entry : (u : Txn) → Running (look ρ s) u → Inv start ρ (amended s u T)
+    sets-entry u r =
+        quiet s I (frame set-acts) (shaped set-acts (I .shape .values) (I .shape .long) (I .shape .counts s)) u (suc (T .place)) (omega arith)
+        (λ d ld. locked-still set-acts d (set-role d) (I .locked d ld))
+        (λ d ld. valued-still set-acts d (set-role d) (I .valued d ld))
+        (link-mine set-acts start (T .commits) (suc (T .place)) u ph r)
+
+  -- a write: the value found is the entry's, and the invariant is kept
   pub notes : (c k v : ℕ) → recordOf σ s .phase ≡ 1 → slot σ s c ≡ some k → let τ = changeLogs σ (onLog s (λ log. updated log k v) (σ .lent .logs)) in
       let f = foundBy (Write s c v) τ in
       (f ≡ entryAt (logOf σ s) k .snapshot) × Inv start τ (amended s (wroteTo c v f (T .mine s)) T)
-  unfolding updated
-  notes c k v ph h = (
-    found-is,
-    subst (λ (f : ℕ). Inv start τ (amended s (wroteTo c v f (T .mine s)) T)) (sym found-is)
-        (quiet s I (frame a) (shaped a (I .shape .values) (I .shape .long) (I .shape .counts s)) (wroteTo c v (entryAt (logOf σ s) k .snapshot) (T .mine s)) (suc (T .place)) (omega arith)
-        (λ d ld. locked-still a d (same-role d) (I .locked d ld))
-        (λ d ld. valued-still a d (same-role d) (I .valued d ld))
-        (link-mine a start (T .commits) (suc (T .place)) (wroteTo c v (entryAt (logOf σ s) k .snapshot) (T .mine s)) ph (run-note c v (rw ph at (I .link s)) old (entryAt (logOf σ s) k) (slot-some σ s c h) newl))),
-  )
-    where
-      τ : Store
-      τ = changeLogs σ (onLog s (λ log. updated log k v) (σ .lent .logs))
+  notes c k v ph h =
+      let w = withDirty (word (logOf σ s) k 3) in
+      let g : List ℕ → List ℕ = λ log. updated log k v in
+      let is : g (logOf σ s) ≡ sets (logOf σ s) (4 * k + 2) (v ∷ w ∷ []) = unfold updated in refl in
+      let f = set-found c k v w g is ph h in
+      let marks = dirty-set (word (logOf σ s) k 3) in (
+        f,
+        subst (λ (f : ℕ). Inv start (ρ c k v w g is ph h) (amended s (wroteTo c v f (T .mine s)) T)) (sym f)
+            (sets-entry c k v w g is ph h (wroteTo c v (entryAt (logOf σ s) k .snapshot) (T .mine s))
+            (run-note c v (rw ph at (I .link s)) (set-old c k v w g is ph h) (entryAt (logOf σ s) k) (slot-some σ s c h)
+            (set-look c k v w g is ph h ∙ (unfold entryAt in rw (marks .0, marks .1))))),
+      )
 
-      f : find (cellAt (logOf σ s)) (x .count) c ≡ some k
-      f = unfold slot slotIn in h
-
-      whole : length (logOf σ s) ≡ 128
-      whole = log-length (σ .lent .logs) s lt (I .shape .logs)
-
-      long : length (updated (logOf σ s) k v) ≡ 128
-      long = length-sets (logOf σ s) (4 * k + 2) (v ∷ 1 ∷ []) ∙ whole
-
-      new-log : logOf τ s ≡ updated (logOf σ s) k v
-      new-log = log-same s (σ .lent .logs) lt (I .shape .logs) (λ log. updated log k v) long
-
-      a : Acts (length start) σ s x τ
-      a =
-          record {
-            mine = refl;
-            others = λ t n. refl;
-            records = I .shape .records;
-            logs = length-on s (σ .lent .logs) lt (I .shape .logs) (λ log. updated log k v) long ∙ I .shape .logs;
-            notes = log-other s (σ .lent .logs) lt (I .shape .logs) (λ log. updated log k v) long;
-            shape = I .shape;
-            lt = lt;
-          }
-
-      newl : look τ s c ≡ some (record { snapshot = entryAt (logOf σ s) k .snapshot; current = v; dirty = true })
-      newl = look-mine a c ∙ (unfold entryAt in rw new-log (changed-new (logOf σ s) (x .count) k c v (I .shape .counts s) whole f))
-
-      found-is : foundBy (Write s c v) τ ≡ entryAt (logOf σ s) k .snapshot
-      found-is =
-          let entered : lookIn (logOf τ s) (recordOf τ s .count) c ≡ some (record { snapshot = entryAt (logOf σ s) k .snapshot; current = v; dirty = true }) = unfold look in newl in
-          ap foundOf entered
-
-      old : (d : ℕ) → (d ≡ c → ⊥) → look τ s d ≡ look σ s d
-      old d n = look-mine a d ∙ rw new-log (changed-old (logOf σ s) (x .count) k c v (I .shape .counts s) whole f d n) ∙ sym (look-is σ s d)
-
-      same-role : (d : ℕ) → role τ d s ≡ role σ d s
-      same-role d =
-          same d c
-          (λ e. rw e (running-role τ s c _ (ap (λ (z : Session). z .phase) (ses-same a) ∙ ph) newl ∙ sym (running-role σ s c (entryAt (logOf σ s) k) ph (slot-some σ s c h))))
-          (λ n. unfold role in rw (ses-same a, old d n))
+  -- a hold: so it is, and the entry's present value is told
+  pub marks : (c k : ℕ) → recordOf σ s .phase ≡ 1 → slot σ s c ≡ some k → let τ = changeLogs σ (onLog s (λ log. marked log k) (σ .lent .logs)) in
+      let f = foundBy (Hold s c) τ in
+      (f ≡ entryAt (logOf σ s) k .snapshot) × Inv start τ (amended s (saw c (entryAt (logOf σ s) k .current) (holdsTo c f (T .mine s))) T)
+  marks c k ph h =
+      let v = entryAt (logOf σ s) k .current in
+      let w = withHeld (word (logOf σ s) k 3) in
+      let g : List ℕ → List ℕ = λ log. marked log k in
+      let is : g (logOf σ s) ≡ sets (logOf σ s) (4 * k + 2) (v ∷ w ∷ []) = unfold entryAt in marked-words (logOf σ s) k in
+      let f = set-found c k v w g is ph h in
+      let set = held-set (word (logOf σ s) k 3) in
+      let now : look (ρ c k v w g is ph h) s c ≡ some (record { snapshot = entryAt (logOf σ s) k .snapshot; current = v; dirty = entryAt (logOf σ s) k .dirty; held = true }) =
+      set-look c k v w g is ph h ∙ (unfold entryAt in rw (set .0, set .1)) in (
+        f,
+        subst (λ (f : ℕ). Inv start (ρ c k v w g is ph h) (amended s (saw c v (holdsTo c f (T .mine s))) T)) (sym f)
+            (sets-entry c k v w g is ph h (saw c v (holdsTo c (entryAt (logOf σ s) k .snapshot) (T .mine s)))
+            (run-saw c (record { snapshot = entryAt (logOf σ s) k .snapshot; current = v; dirty = entryAt (logOf σ s) k .dirty; held = true })
+            (run-hold c (rw ph at (I .link s)) (set-old c k v w g is ph h) (entryAt (logOf σ s) k) (slot-some σ s c h) now) now)),
+      )

@@ -2,7 +2,7 @@
 use Prim.Native.Nat.{ℕ, zero, suc, _≤_, _<_}
 use native.Mathlib.Omega.{arith}
 use mathlib.Core.Path.{_≡_, refl, sym, _∙_}
-use mathlib.Core.Bool.{Bool, true, false, cond}
+use mathlib.Core.Bool.{Bool, true, false, cond, _||_}
 use mathlib.Core.Option.{Option, none, some}
 use mathlib.Core.List.{List, [], _∷_, _++_}
 use lib.Dec.{leb}
@@ -18,7 +18,7 @@ use Rattle.model.proofs.Laws.{Long}
 use Rattle.model.proofs.Ledger.{Txn, Commit, Ledger, tick, calm, valueBefore, Fair, Lawful}
 use Rattle.model.proofs.Roles.{Role, out, reading, wanting, owning, pending, published, Locked, Valued}
 use Rattle.model.proofs.Tools.{same, clash, upd, upd-same, upd-other}
-use Rattle.model.proofs.View.{look}
+use Rattle.model.proofs.View.{isHeld, look}
 
 -- ---- what session s is to a cell
 
@@ -68,8 +68,9 @@ pub record Running (look : ℕ → Option Entry) (t : Txn) : Type 0 where
   pub moved : t .moved ≡ 0
   pub unsealed : t .snap ≡ 0
   pub dirtied : (c : ℕ) → t .dirtied c ≡ isDirty (look c)
+  pub held : (c : ℕ) → t .held c ≡ isHeld (look c)
   pub wrote : (c : ℕ) → t .wrote c ≡ isPublished (look c)
-  pub value : (c : ℕ) → isDirty (look c) ≡ true → t .value c ≡ currentOf (look c)
+  pub value : (c : ℕ) → (isDirty (look c) || isHeld (look c)) ≡ true → t .value c ≡ currentOf (look c)
   pub reads : All (λ (r : ReadOf). (e : Entry) × (look (r .cell) ≡ some e) × (e .snapshot ≡ r .value)) (t .reads)
   pub clean : (c : ℕ) (e : Entry) → look c ≡ some e → e .dirty ≡ false → e .current ≡ e .snapshot
 

@@ -8,12 +8,12 @@ use mathlib.Core.Option.{Option, none, some}
 use mathlib.Core.List.{List, [], _∷_, _++_}
 use lib.Dec.{ltb, eqb}
 use lib.ListN.{length, getD, set, take, drop, length-set, length-append, length-drop, take-append-drop}
-use lib.Seq.{sets, getD-set-same, getD-set-other, length-take-le, take-append-seam, drop-append-seam, take-append-le, drop-append-le, drop-append-add}
+use lib.Seq.{sets, set-getD, getD-set-same, getD-set-other, length-take-le, take-append-seam, drop-append-seam, take-append-le, drop-append-le, drop-append-add}
 use borrow.Author.Tests.{eqb-true, eq-eqb, ne-eqb, lt-ltb, ltb-true, ltb-false}
 use Rattle.model.specs.declared.Session.{Session}
 use Rattle.model.specs.declared.Sessions.{Sessions}
 use Rattle.model.specs.declared.Lock.{Lock}
-use Rattle.model.specs.Buffers.{Locks, idle, sessionAt, withSession, logIn, onLog, word, cellAt, entryAt, slotIn, entryOf, lookIn, appended, lockAt, setLock, onLock, sweep, leave, vacate, withdraw}
+use Rattle.model.specs.Buffers.{Locks, idle, sessionAt, withSession, logIn, onLog, word, cellAt, entryAt, slotIn, entryOf, lookIn, appended, withDirty, withHeld, marked, lockAt, setLock, onLock, sweep, leave, vacate, withdraw}
 use Rattle.model.specs.Isolation.{at}
 use Rattle.model.specs.Readers.{odd, assign}
 use Rattle.model.specs.Search.{some?, orElse, find, lower, lowest, below, tally}
@@ -333,7 +333,7 @@ module _ (log : List ℕ) (k c v : ℕ) (lk : k < 32) (whole : length log ≡ 12
   grown-find h =
       rw (find-ext (cellAt grown) c (cellAt log) k appended-apart, h, grown-word 0 (omega arith), eq-eqb c c refl)
 
-  pub grown-new : lookIn log k c ≡ none → lookIn grown (suc k) c ≡ some (record { snapshot = v; current = v; dirty = false })
+  pub grown-new : lookIn log k c ≡ none → lookIn grown (suc k) c ≡ some (record { snapshot = v; current = v; dirty = false; held = false })
   unfolding lookIn slotIn entryOf entryAt cellAt find orElse odd
   grown-new h =
       let e = grown-before c ∙ h in
@@ -345,19 +345,19 @@ module _ (log : List ℕ) (k c v : ℕ) (lk : k < 32) (whole : length log ≡ 12
   unfolding lookIn slotIn cellAt find
   grown-old d n = rw (grown-word 0 (omega arith), ne-eqb c d (λ e. n (sym e)), orElse-none) (grown-before d)
 
--- what a write to a known cell leaves
-module _ (log : List ℕ) (m k c v : ℕ) (lm : m ≤ 32) (whole : length log ≡ 128) (f : find (cellAt log) m c ≡ some k) where
+-- what a known cell's entry leaves whose last two words are set to v and w
+module _ (log : List ℕ) (m k c v w : ℕ) (lm : m ≤ 32) (whole : length log ≡ 128) (f : find (cellAt log) m c ≡ some k) where
   abbrev changed : List ℕ
-  changed = sets log (4 * k + 2) (v ∷ 1 ∷ [])
+  changed = sets log (4 * k + 2) (v ∷ w ∷ [])
 
   -- cells and values found stay, and so do the other entries
   changed-early : (i j : ℕ) → j < 2 → word changed i j ≡ word log i j
   unfolding word
-  changed-early i j l = getD-sets-other (v ∷ 1 ∷ []) log (4 * k + 2) (4 * i + j) (λ x y e. omega arith)
+  changed-early i j l = getD-sets-other (v ∷ w ∷ []) log (4 * k + 2) (4 * i + j) (λ x y e. omega arith)
 
   changed-far : (i j : ℕ) → j < 4 → (i ≡ k → ⊥) → word changed i j ≡ word log i j
   unfolding word
-  changed-far i j l n = getD-sets-other (v ∷ 1 ∷ []) log (4 * k + 2) (4 * i + j) (λ x y e. n (omega arith))
+  changed-far i j l n = getD-sets-other (v ∷ w ∷ []) log (4 * k + 2) (4 * i + j) (λ x y e. n (omega arith))
 
   changed-find : (d : ℕ) → find (cellAt changed) m d ≡ find (cellAt log) m d
   unfolding cellAt
@@ -369,22 +369,45 @@ module _ (log : List ℕ) (m k c v : ℕ) (lm : m ≤ 32) (whole : length log �
       rw (changed-find d)
       (which (find (cellAt log) m d) (λ p. rw p)
       (λ j p.
-      let w = find-some (cellAt log) d m p in
+      let a = find-some (cellAt log) d m p in
       let u = find-some (cellAt log) c m f in
-      let ne : j ≡ k → ⊥ = λ e. n (sym (w .1) ∙ ap (cellAt log) e ∙ u .1) in
+      let ne : j ≡ k → ⊥ = λ e. n (sym (a .1) ∙ ap (cellAt log) e ∙ u .1) in
       let q : (i : ℕ) → i < 4 → word changed j i ≡ word log j i = λ i l. changed-far j i l ne in
       rw p (rw (q 1 (omega arith), q 2 (omega arith), q 3 (omega arith)))))
 
-  changed-at : (i : ℕ) → i < 2 → word changed k (2 + i) ≡ getD (v ∷ 1 ∷ []) i 0
+  changed-at : (i : ℕ) → i < 2 → word changed k (2 + i) ≡ getD (v ∷ w ∷ []) i 0
   unfolding word
   changed-at i l =
       let u = find-some (cellAt log) c m f .0 in
       let e : 4 * k + (2 + i) ≡ 4 * k + 2 + i = omega arith in
-      rw e (getD-sets-at (v ∷ 1 ∷ []) log (4 * k + 2) i l (omega arith))
+      rw e (getD-sets-at (v ∷ w ∷ []) log (4 * k + 2) i l (omega arith))
 
-  pub changed-new : lookIn changed m c ≡ some (record { snapshot = word log k 1; current = v; dirty = true })
-  unfolding lookIn slotIn entryOf entryAt odd
+  pub changed-new : lookIn changed m c ≡ some (record { snapshot = word log k 1; current = v; dirty = odd w; held = odd (w / 2) })
+  unfolding lookIn slotIn entryOf entryAt
   changed-new = rw (changed-find c, f) (rw (changed-early k 1 (omega arith), changed-at 0 (omega arith), changed-at 1 (omega arith)))
+
+-- the two marks of the fourth word: setting one keeps the other
+pub dirty-set : (w : ℕ) → (odd (withDirty w) ≡ true) × (odd (withDirty w / 2) ≡ odd (w / 2))
+unfolding odd withDirty
+dirty-set w =
+    let a : (w / 2 % 2 * 2 + 1) % 2 ≡ 1 = omega arith in
+    let b : w / 2 % 2 % 2 ≡ w / 2 % 2 = omega arith in
+    (rw a, rw (half-assign (w / 2 % 2) 1 (omega arith), b))
+
+pub held-set : (w : ℕ) → (odd (withHeld w) ≡ odd w) × (odd (withHeld w / 2) ≡ true)
+unfolding odd withHeld
+held-set w =
+    let a : (2 + w % 2) % 2 ≡ w % 2 = omega arith in
+    let b : (2 + w % 2) / 2 ≡ 1 = half-assign 1 (w % 2) (omega arith) in
+    (rw a, rw b)
+
+-- a mark set is both words set, the value to what it was
+pub marked-words : (log : List ℕ) (k : ℕ) → marked log k ≡ sets log (4 * k + 2) (word log k 2 ∷ withHeld (word log k 3) ∷ [])
+unfolding marked word
+marked-words log k =
+    let e : 4 * k + 3 ≡ suc (4 * k + 2) = omega arith in
+    ap (λ (i : ℕ). set log i (withHeld (getD log (4 * k + 3) 0))) e
+    ∙ ap (λ (l : List ℕ). set l (suc (4 * k + 2)) (withHeld (getD log (4 * k + 3) 0))) (sym (set-getD log (4 * k + 2) 0))
 
 -- ---- session records
 

@@ -9,16 +9,17 @@ use Rattle.model.specs.Buffers.{Store}
 use Rattle.model.specs.History.{Action, actor, Event, tellsOf, eventOf, run}
 use Rattle.model.specs.Isolation.{All}
 use Rattle.model.specs.Search.{tally}
-use Rattle.model.specs.Told.{Told, began, got, put, sealed, moved, ended, begins, ReadOf}
+use Rattle.model.specs.Told.{Told, began, got, put, held, sealed, moved, ended, begins, ReadOf}
 use Rattle.model.proofs.Tools.{upd}
 
--- the place of its begin; whether it is open; its reads before writing and the values that it found; the cells with a write of its own, those it wrote, and its values there; the
+-- the place of its begin; whether it is open; its reads before writing and the values that it found; the cells with a write of its own, those held, those it wrote, and its values there; the
 -- place of its seal (0: none yet); its answers 103; whether it is committed, and the place (0: none yet)
 pub record Txn : Type 0 where
   pub began : ℕ
   pub live : Bool
   pub reads : List ReadOf
   pub dirtied : ℕ → Bool
+  pub held : ℕ → Bool
   pub wrote : ℕ → Bool
   pub value : ℕ → ℕ
   pub snap : ℕ
@@ -28,7 +29,7 @@ pub record Txn : Type 0 where
 
 abbrev pub opened : ℕ → Txn
 opened p =
-    record { began = p; live = true; reads = []; dirtied = λ c. false; wrote = λ c. false; value = λ c. 0; snap = 0; moved = 0; done = false; commit = 0 }
+    record { began = p; live = true; reads = []; dirtied = λ c. false; held = λ c. false; wrote = λ c. false; value = λ c. 0; snap = 0; moved = 0; done = false; commit = 0 }
 
 abbrev pub closed : Txn → Txn
 closed t =
@@ -37,6 +38,7 @@ closed t =
       live = false;
       reads = t .reads;
       dirtied = t .dirtied;
+      held = t .held;
       wrote = t .wrote;
       value = t .value;
       snap = t .snap;
@@ -52,6 +54,7 @@ saw c v t =
       live = t .live;
       reads = cond (t .dirtied c) (t .reads) (record { cell = c; value = v } ∷ t .reads);
       dirtied = t .dirtied;
+      held = t .held;
       wrote = t .wrote;
       value = t .value;
       snap = t .snap;
@@ -67,8 +70,26 @@ wroteTo c v f t =
       live = t .live;
       reads = record { cell = c; value = f } ∷ t .reads;
       dirtied = upd (t .dirtied) c true;
-      wrote = upd (t .wrote) c (not (eqb v f));
+      held = t .held;
+      wrote = upd (t .wrote) c (t .held c || not (eqb v f));
       value = upd (t .value) c v;
+      snap = t .snap;
+      moved = t .moved;
+      done = t .done;
+      commit = t .commit;
+    }
+
+-- held, with the value found where no write came
+abbrev pub holdsTo : ℕ → ℕ → Txn → Txn
+holdsTo c f t =
+    record {
+      began = t .began;
+      live = t .live;
+      reads = record { cell = c; value = f } ∷ t .reads;
+      dirtied = t .dirtied;
+      held = upd (t .held) c true;
+      wrote = upd (t .wrote) c true;
+      value = upd (t .value) c (cond (t .dirtied c) (t .value c) f);
       snap = t .snap;
       moved = t .moved;
       done = t .done;
@@ -83,6 +104,7 @@ sealedAt n q t =
       live = t .live;
       reads = t .reads;
       dirtied = t .dirtied;
+      held = t .held;
       wrote = t .wrote;
       value = t .value;
       snap = q;
@@ -99,6 +121,7 @@ advanced n q t =
       live = t .live;
       reads = t .reads;
       dirtied = t .dirtied;
+      held = t .held;
       wrote = t .wrote;
       value = t .value;
       snap = t .snap;
@@ -155,6 +178,7 @@ abbrev pub note : ℕ → ℕ → Told → Txn → Txn
 note n q began t = t
 note n q (got c v) t = saw c v t
 note n q (put c v f) t = wroteTo c v f t
+note n q (held c v f) t = saw c v (holdsTo c f t)
 note n q sealed t = sealedAt n q t
 note n q moved t = advanced n q t
 note n q ended t = closed t

@@ -25,6 +25,7 @@ pub mod Agreement
 pub mod Commits
 pub mod Writers
 pub mod Demand3
+pub mod CommitOrder
 pub mod Orders
 pub mod Rounds
 pub mod Cases

@@ -8,7 +8,7 @@ use lib.Dec.{eqb}
 use borrow.Author.Tests.{eqb-true, eq-eqb, ne-eqb, not-true}
 use Rattle.model.specs.History.{Item, Name, name, extend, transaction, isOpen, wrote, valueWritten, snapshot, commit, committed}
 use Rattle.model.specs.Isolation.{All}
-use Rattle.model.specs.Told.{Told, began, got, put, sealed, moved, ended, begins, seals, ends, ReadOf}
+use Rattle.model.specs.Told.{Told, began, got, put, held, sealed, moved, ended, begins, seals, ends, ReadOf}
 use Rattle.model.proofs.Invariant.{all-map}
 use Rattle.model.proofs.Ledger.{Txn, opened, Commit, Ledger, asCommit, amend, starts, note, hear}
 use Rattle.model.proofs.Tools.{same, test, clash, both-l, both-r, upd, upd-same, upd-other}
@@ -310,6 +310,7 @@ module _ {n : ℕ} {h : List Item} {T : Ledger} (M : Matches n h T) (s : ℕ) (l
   one-told began f e = opens M s began f refl (e refl)
   one-told (got c v) f e = goes-on (got c v) refl f
   one-told (put c v g) f e = goes-on (put c v g) refl f
+  one-told (held c v g) f e = goes-on (held c v g) refl f
   one-told sealed f e = goes-on sealed refl f
   one-told moved f e = goes-on moved refl f
   one-told ended f e = goes-on ended refl f

@@ -4,13 +4,19 @@ use mathlib.Core.Path.{_≡_, refl, sym, _∙_, subst}
 use mathlib.Core.Logic.{_⊎_, inl, inr}
 use mathlib.Core.Bool.{Bool, true, false, cond, not, _&&_}
 use mathlib.Core.List.{List, [], _∷_}
-use borrow.Author.Tests.{not-true}
+use lib.Dec.{eqb}
+use borrow.Author.Tests.{eqb-true, not-true}
 use Rattle.model.specs.History.{Item, Name, name, transaction, isOpen, committed}
 use Rattle.model.specs.Serial.{NoneOpen}
 use Rattle.model.specs.Told.{begins}
 use Rattle.model.proofs.Matching.{name-is, cond-at, Next, stays, grows, starts-here, next}
 use Rattle.model.proofs.Tools.{test, clash, both-l, both-r}
 use Rattle.model.proofs.Words.{empty-committed}
+
+-- a name by a test of its two numbers
+pub name-by-test : (p s : ℕ) (x : Name) → (eqb (x .place) p && eqb (x .session) s) ≡ true → name p s ≡ x
+name-by-test p s x h =
+    name-is p s x (sym (eqb-true (x .place) p (both-l (eqb (x .place) p) (eqb (x .session) s) h))) (sym (eqb-true (x .session) s (both-r (eqb (x .place) p) (eqb (x .session) s) h)))
 
 -- a test that the names of all begins of a list pass
 abbrev pub eachBegan : (Name → Bool) → List Item → Bool

@@ -1,7 +1,8 @@
--- The starred orders of document 01, and those with values written back, give what they must, by computation over the step definitions.
+-- The starred orders of document 01, and those with values written back and with holds, give what they must, by computation over the step definitions.
 use mathlib.Core.Path.{_≡_, refl}
 use mathlib.Core.List.{map}
 use Rattle.model.specs.Computing.{computing}
+use Rattle.model.specs.Holding.{skewHeld, skewAfter, skewBack, readerBetween, holdAlone, holdThenWrite, holdThenBack, writeThenHold, readThenHold, twoHolders, holdPastClaim, holding}
 use Rattle.model.specs.Orders.{Result, given, answersFrom, valuesAfter, result, expected, listing, skew, skewUnsealed, readPastClaim, writeAtCap, writeAboveCap, lastSession, noSuchSession, beginTwice, beginSeal, abandonPublishing, orders, unpromoted, halfPublished, traps, bothBack, thereAndBack, backAndThere, oneChanged, changedMeanwhile, backUnsealed, foundLater, writtenBack}
 
 pub orders-hold : map {B = Result} result orders ≡ map {B = Result} expected orders
@@ -15,3 +16,7 @@ traps-hold = refl
 pub written-back-hold : map {B = Result} result writtenBack ≡ map {B = Result} expected writtenBack
 unfolding result expected writtenBack bothBack thereAndBack backAndThere oneChanged changedMeanwhile backUnsealed foundLater given answersFrom valuesAfter computing
 written-back-hold = refl
+
+pub holding-holds : map {B = Result} result holding ≡ map {B = Result} expected holding
+unfolding result expected holding skewHeld skewAfter skewBack readerBetween holdAlone holdThenWrite holdThenBack writeThenHold readThenHold twoHolders holdPastClaim given answersFrom valuesAfter computing
+holding-holds = refl

@@ -9,11 +9,11 @@ use lib.Dec.{leb, ltb, eqb}
 use lib.ListN.{length, getD}
 use borrow.Author.Tests.{eqb-true, eqb-false, eq-eqb, ne-eqb, leb-true}
 use Rattle.model.specs.declared.Call.{Call}
-use Rattle.model.specs.declared.Call.the-variants.{Begin, Read, Write, Seal, Advance, Abandon, Peek}
+use Rattle.model.specs.declared.Call.the-variants.{Begin, Read, Write, Seal, Advance, Abandon, Peek, Hold}
 use Rattle.model.specs.declared.Answer.{Answer}
 use Rattle.model.specs.declared.Answer.the-variants.{Done, Refused}
 use Rattle.model.specs.declared.Plan.{Plan}
-use Rattle.model.specs.declared.Plan.the-variants.{Refuse, Start, Enter, Update, EnterUpdate, Cancel, Acquire, Publish, Release}
+use Rattle.model.specs.declared.Plan.the-variants.{Refuse, Start, Enter, Update, EnterUpdate, Mark, EnterMark, Cancel, Acquire, Publish, Release}
 use Rattle.model.specs.Buffers.{Store, size, idle, moveTo, Entry, cellAt, entryAt, slotIn, isPublished, targetIn, currentOf, lockAt, cap}
 use Rattle.model.specs.History.{Action, oneCall, manyReads, event, withFound, leaves, eventOf}
 use Rattle.model.specs.Isolation.{All, at}
@@ -21,18 +21,18 @@ use Rattle.model.specs.ManyReads.{readMany}
 use Rattle.model.specs.Readers.{otherReaders}
 use Rattle.model.specs.Search.{some?, find, below, tally}
 use Rattle.model.specs.Told.{Told, foundBy, tells, ending, readsTell}
-use Rattle.model.specs.Plans.{recordFits, guard, known, claimed, readSlot, writeSlot, writeCapped, sealTarget, promotePlan, advanceTarget, plan, admit, entriesFit}
+use Rattle.model.specs.Plans.{recordFits, guard, known, claimed, readSlot, holdSlot, writeSlot, writeCapped, sealTarget, promotePlan, advanceTarget, plan, admit, entriesFit}
 use Rattle.model.specs.Effects.{rolledBack, handled, change, recordOf, after, releaseAnswer, answer, logOf}
 use Rattle.model.specs.Step.{sessionOf, planOf, step, answerOf}
-use Rattle.model.proofs.Advancing.{target-some, target-none, late, role-late, more-open, holds-more, last-done, holds-last, waits, publishes-more, publishes-last, releases-more, releases-last}
-use Rattle.model.proofs.Effects.{running-role, slot-none, slot-some, replaced, rolls, started, learns, enter-phase, enter-look, enter-slot, enters, notes}
-use Rattle.model.proofs.Invariant.{roleIn, roleOf, role, Running, Promoting, Finishing, Inv, calms, ticks}
+use Rattle.model.proofs.Advancing.{target-some, target-none, more-open, holds-more, last-done, holds-last, waits, publishes-more, publishes-last, releases-more, releases-last}
+use Rattle.model.proofs.Effects.{not-pending, slot-none, slot-some, replaced, amended, rolls, started, learns, ε, enter-phase, enter-look, enter-slot, enters, notes, marks}
+use Rattle.model.proofs.Invariant.{Running, Promoting, Finishing, Inv, calms, ticks}
 use Rattle.model.proofs.Laws.{find-some, below-is, tally-flat, tally-more}
-use Rattle.model.proofs.Ledger.{Txn, closed, saw, wroteTo, sealedAt, advanced, Commit, Ledger, tick, calm, asCommit, amend, starts, hears, observe}
+use Rattle.model.proofs.Ledger.{Txn, closed, saw, wroteTo, holdsTo, sealedAt, advanced, Commit, Ledger, tick, calm, asCommit, amend, starts, hears, observe}
 use Rattle.model.proofs.ManyReads.{ByRead, hears-after, kept-by-reads}
 use Rattle.model.proofs.Passing.{choose, guarded, running-cell, cell-new}
 use Rattle.model.proofs.Quiet.{Quiet, peeks}
-use Rattle.model.proofs.Roles.{pends, flip}
+use Rattle.model.proofs.Roles.{flip}
 use Rattle.model.proofs.Sealing.{wrote-is, promotes, rests}
 use Rattle.model.proofs.Tools.{split, test, which, nothing, clash, both-l, both-r, upd, upd-same, upd-twice}
 use Rattle.model.proofs.View.{slot, look, written, target}
@@ -165,16 +165,9 @@ module _ {first : List ℕ} {σ : Store} {T : Ledger} (I : Inv first σ T) where
   stays : Inv first σ (tick (calm T))
   stays = ticks (calms I)
 
-  roll-back : (s : ℕ) → s < 16 → T .mine s .live ≡ true → ((c : ℕ) → pends (role σ c s) ≡ false)
+  roll-back : (s : ℕ) → s < 16 → T .mine s .live ≡ true → (recordOf σ s .phase ≡ 3 → ⊥)
       → Inv first (change σ s (rolledBack (logOf σ s) (recordOf σ s .count) s (σ .lent .locks)) (σ .lent .values) (σ .lent .logs) idle) (amend s closed (calm T))
-  roll-back s lt l np = rw (amend-same s closed T l (and-not (T .mine s .done))) (rolls s lt I np (closed (T .mine s)) refl)
-
-  calm₁ : (s : ℕ) → recordOf σ s .phase ≡ 1 → (c : ℕ) → pends (role σ c s) ≡ false
-  calm₁ s ph c = which (look σ s c) (λ p. unfold role roleOf in rw p) (λ e p. rw (running-role σ s c e ph p))
-
-  calm₂ : (s : ℕ) → recordOf σ s .phase ≡ 2 → (c : ℕ) → pends (role σ c s) ≡ false
-  unfolding late roleIn
-  calm₂ s ph c = rw (role-late σ s c 0 ph) (test (written σ s c) (λ w. rw w (test (leb (recordOf σ s .next) c) (λ b. rw b) (λ b. rw b))) (λ w. rw w))
+  roll-back s lt l n = rw (amend-same s closed T l (and-not (T .mine s .done))) (rolls s lt I (λ c. not-pending σ s c n) (closed (T .mine s)) refl)
 
   keep-begin : (s : ℕ) → InvKept (Begin s) (planOf (Begin s) σ)
   unfolding planOf plan observe tells ending after answer starts
@@ -188,11 +181,11 @@ module _ {first : List ℕ} {σ : Store} {T : Ledger} (I : Inv first σ T) where
       guarded (InvKept (Abandon s)) (σ .lent) s (recordOf σ s) (eqb (recordOf σ s .phase) 1 || eqb (recordOf σ s .phase) 2) Cancel stays stays stays stays
       (λ lt k h.
       test (eqb (recordOf σ s .phase) 1)
-      (λ q. let ph = eqb-true (recordOf σ s .phase) 1 q in let r : Running (look σ s) (T .mine s) = rw ph at (I .link s) in ticks (roll-back s lt (r .live) (calm₁ s ph)))
+      (λ q. let ph = eqb-true (recordOf σ s .phase) 1 q in let r : Running (look σ s) (T .mine s) = rw ph at (I .link s) in ticks (roll-back s lt (r .live) (λ e. omega (arith, ph, e))))
       (λ q.
       let ph = eqb-true (recordOf σ s .phase) 2 (either-r (eqb (recordOf σ s .phase) 1) (eqb (recordOf σ s .phase) 2) h q) in
       let r : Promoting first (T .commits) (T .place) (recordOf σ s .next) (look σ s) (T .mine s) = rw ph at (I .link s) in
-      ticks (roll-back s lt (r .live) (calm₂ s ph))))
+      ticks (roll-back s lt (r .live) (λ e. omega (arith, ph, e)))))
 
   -- a call of a running session on a cell: 7, 1, 9, 2 and 3 leave all as before
   on-cell : (P : Plan → Type 0) (s c : ℕ) (p : Plan) → P (Refuse 7) → P (Refuse 1) → P (Refuse 9) → P (Refuse 2) → P (Refuse 3)
@@ -217,7 +210,7 @@ module _ {first : List ℕ} {σ : Store} {T : Ledger} (I : Inv first σ T) where
       (λ lt ph lc.
       let r = runs s ph in
       choose (ReadKept s c) (readSlot (logOf σ s) (recordOf σ s) (lockAt (σ .lent .locks) c) c) (slot σ s c)
-      (λ p. cell-new (ReadKept s c) (recordOf σ s) (lockAt (σ .lent .locks) c) (Enter c) still (λ _. roll-back s lt (r .live) (calm₁ s ph))
+      (λ p. cell-new (ReadKept s c) (recordOf σ s) (lockAt (σ .lent .locks) c) (Enter c) still (λ _. roll-back s lt (r .live) (λ e. omega (arith, ph, e)))
       (λ room cl.
       rw (amend-same s (saw c (getD (σ .lent .values) c 0)) T (r .live) (and-not (T .mine s .done)))
       (learns s lt (enters s lt I c ph p room lc cl) c _ (enter-phase s lt I c ph p room) (enter-look s lt I c ph p room))))
@@ -235,7 +228,7 @@ module _ {first : List ℕ} {σ : Store} {T : Ledger} (I : Inv first σ T) where
       split (InvKept (Write s c v)) (ltb k 16)
       (λ _. split (InvKept (Write s c v)) (leb v (cap k))
       (λ _. choose (InvKept (Write s c v)) (writeSlot (recordOf σ s) (lockAt (σ .lent .locks) c) c v) (slot σ s c)
-      (λ p. cell-new (InvKept (Write s c v)) (recordOf σ s) (lockAt (σ .lent .locks) c) (EnterUpdate c v) stays (λ _. ticks (roll-back s lt (r .live) (calm₁ s ph)))
+      (λ p. cell-new (InvKept (Write s c v)) (recordOf σ s) (lockAt (σ .lent .locks) c) (EnterUpdate c v) stays (λ _. ticks (roll-back s lt (r .live) (λ e. omega (arith, ph, e))))
       (λ room cl.
       rw (amend-same s (wroteTo c v (foundBy (Write s c v) (after s (EnterUpdate c v) σ))) T (r .live) (and-not (T .mine s .done)))
       (notes s lt (enters s lt I c ph p room lc cl) c (recordOf σ s .count) v (enter-phase s lt I c ph p room) (enter-slot s lt I c ph p room) .1)))
@@ -243,7 +236,26 @@ module _ {first : List ℕ} {σ : Store} {T : Ledger} (I : Inv first σ T) where
       (λ _. stays))
       (λ _. stays))
 
-  -- a seal that finds no written cell
+  -- a hold of known and of new cells
+  keep-hold : (s c : ℕ) → InvKept (Hold s c) (planOf (Hold s c) σ)
+  unfolding planOf plan observe tells ending after answer holdSlot slot
+  keep-hold s c =
+      on-cell (InvKept (Hold s c)) s c (holdSlot (logOf σ s) (recordOf σ s) (lockAt (σ .lent .locks) c) c (slotIn (logOf σ s) (recordOf σ s .count) c)) stays stays stays stays stays
+      (λ lt ph lc.
+      let r = runs s ph in
+      choose (InvKept (Hold s c)) (holdSlot (logOf σ s) (recordOf σ s) (lockAt (σ .lent .locks) c) c) (slot σ s c)
+      (λ p. cell-new (InvKept (Hold s c)) (recordOf σ s) (lockAt (σ .lent .locks) c) (EnterMark c) stays (λ _. ticks (roll-back s lt (r .live) (λ e. omega (arith, ph, e))))
+      (λ room cl.
+      let f = foundBy (Hold s c) (after s (EnterMark c) σ) in
+      let e = ap currentOf (sym (slot-some (ε s lt I c ph p room) s c (enter-slot s lt I c ph p room)) ∙ enter-look s lt I c ph p room) in
+      rw (amend-same s (λ t. saw c (getD (σ .lent .values) c 0) (holdsTo c f t)) T (r .live) (and-not (T .mine s .done)))
+      (subst (λ (v : ℕ). Inv first (after s (EnterMark c) σ) (amended s (saw c v (holdsTo c f (T .mine s))) T)) e
+      (marks s lt (enters s lt I c ph p room lc cl) c (recordOf σ s .count) (enter-phase s lt I c ph p room) (enter-slot s lt I c ph p room) .1))))
+      (λ j p.
+      rw (amend-same s (λ t. saw c (entryAt (logOf σ s) j .current) (holdsTo c (foundBy (Hold s c) (after s (Mark j (entryAt (logOf σ s) j .current)) σ)) t)) T (r .live) (and-not (T .mine s .done)))
+      (marks s lt I c j ph p .1)))
+
+  -- a seal that finds no cell that publishes
   none-targeted : (s : ℕ) → target σ s 0 ≡ none → (c : ℕ) → written σ s c ≡ false
   none-targeted s p c = flip (written σ s c) (λ w. omega (arith, target-none σ s 0 p c w))
 
@@ -327,7 +339,7 @@ module _ {first : List ℕ} {σ : Store} {T : Ledger} (I : Inv first σ T) where
       let r : Promoting first (T .commits) (T .place) (recordOf σ s .next) (look σ s) (T .mine s) = rw ph at (I .link s) in
       let l = lockAt (σ .lent .locks) c in
       split (InvKept (Advance s)) (not (eqb (l .claimant) 16) && not (eqb (l .claimant) s))
-      (λ _. ticks (roll-back s lt (r .live) (calm₂ s ph)))
+      (λ _. ticks (roll-back s lt (r .live) (λ e. omega (arith, ph, e))))
       (λ cl. split (InvKept (Advance s)) (eqb (otherReaders s (l .readers)) 0)
       (λ z. keep-acquire s lt k two c tgt ph (eqb-true (otherReaders s (l .readers)) 0 z))
       (λ _. waits s lt I (ins s lt k two c tgt) c tgt ph (neither-other (eqb (l .claimant) 16) (eqb (l .claimant) s) cl))))
@@ -348,6 +360,7 @@ module _ {first : List ℕ} {σ : Store} {T : Ledger} (I : Inv first σ T) where
   keep-call (Advance s) = keep-advance s
   keep-call (Abandon s) = keep-abandon s
   keep-call (Peek s c) = keep-quiet (Peek s c) _ (peeks σ s c)
+  keep-call (Hold s c) = keep-hold s c
 
 -- ---- the actions
 

@@ -12,7 +12,7 @@ use Rattle.model.specs.Isolation.{at}
 use Rattle.model.specs.Readers.{member, assign}
 use Rattle.model.proofs.Tools.{same, split, clash, member-assign-same, member-assign-other}
 
--- nothing; entered while running, with the value found; written and not yet promoted; promoted, with the present value; committed
+-- nothing; entered while running, with the value found; to be published and not yet promoted; promoted, with the present value; committed
 -- and not yet published; published and not yet released
 pub data Role : Type 0 where
   out : Role

@@ -13,13 +13,13 @@ use Rattle.model.specs.Told.{ReadOf}
 use Rattle.model.specs.Isolation.{All, at}
 use Rattle.model.specs.Search.{find, tally}
 use Rattle.model.specs.Effects.{readsDropped, change, recordOf, logOf}
-use Rattle.model.proofs.Effects.{Acts, ses-same, frame, look-mine, role-gone, shaped, link-mine, unknown, running-role, look-is, slot-none, slot-some, acts, amended, joined}
+use Rattle.model.proofs.Effects.{not-pending, Acts, ses-same, frame, look-mine, role-gone, shaped, link-mine, unknown, running-role, look-is, slot-none, slot-some, acts, amended, joined}
 use Rattle.model.proofs.Invariant.{roleIn, roleOf, role, latest, before-latest, all-map, Running, Inv, Frame, role-other, quiet, committing}
 use Rattle.model.proofs.Laws.{Long, long-sweep, lock-sweep, leave-leave, tally-more}
 use Rattle.model.proofs.Ledger.{Txn, closed, sealedAt, Ledger, asCommit, valueBefore}
 use Rattle.model.proofs.Roles.{Role, out, wanting, holds, owns, pends, claims?, Locked, Valued, kept, leaves, stays}
 use Rattle.model.proofs.Tools.{test, which, clash}
-use Rattle.model.proofs.View.{slot, look, written, published-dirty}
+use Rattle.model.proofs.View.{slot, look, written, published-marked}
 
 module _ {start : List ℕ} {σ : Store} {T : Ledger} (s : ℕ) (lt : s < 16) (I : Inv start σ T) (ph : recordOf σ s .phase ≡ 1) where
   run : Running (look σ s) (T .mine s)
@@ -46,14 +46,12 @@ module _ {start : List ℕ} {σ : Store} {T : Ledger} (s : ℕ) (lt : s < 16) (I
   wrote-none c p = rw (slot-none σ s c (unfold slot slotIn in p))
 
   no-pend : (c : ℕ) → pends (role σ c s) ≡ false
-  no-pend c =
-      which (find (cellAt (logOf σ s)) (recordOf σ s .count) c) (λ p. rw (unknown σ s c p))
-      (λ k p. rw (running-role σ s c (entryAt (logOf σ s) k) ph (slot-some σ s c (unfold slot slotIn in p))))
+  no-pend c = not-pending σ s c (λ e. omega (arith, ph, e))
 
   after : ℕ → Role
   after c = cond (written σ s c) wanting out
 
-  -- the unwritten entries are left, the written ones stay
+  -- the entries that do not publish are left, the others stay
   dropped-locked : {τ : Store} → Frame s σ τ → (c : ℕ) → c < length start → role τ c s ≡ after c → Locked (role τ c) (lockAt (readsDropped (logOf σ s) (recordOf σ s .count) s (σ .lent .locks)) c)
   unfolding readsDropped publishesIn after
   dropped-locked f c lc b =
@@ -95,7 +93,7 @@ module _ {start : List ℕ} {σ : Store} {T : Ledger} (s : ℕ) (lt : s < 16) (I
     unfolding written
     wrote-is c = run .wrote c
 
-    -- a written cell: it promotes
+    -- a cell that publishes: it promotes
     pub promotes : (c : ℕ) → c < length start → written σ s c ≡ true
         → Inv start (change σ s (readsDropped (logOf σ s) (recordOf σ s .count) s (σ .lent .locks)) (σ .lent .values) (σ .lent .logs) (moveTo 2 0 (recordOf σ s)))
         (amended s (sealedAt (length start) (T .place) (T .mine s)) T)
@@ -109,7 +107,7 @@ module _ {start : List ℕ} {σ : Store} {T : Ledger} (s : ℕ) (lt : s < 16) (I
           open′ = ne-eqb (tally (u .wrote) (length start)) 0 (λ e. omega (arith, tally-more (u .wrote) 0 (length start) c (omega arith) lc (wrote-is c ∙ wc)));
           moved = run .moved ∙ unfold tally in refl;
           wrote = λ d. rw (look-same d) (run .wrote d);
-          value = λ d. rw (look-same d) (λ w. run .value d (published-dirty (look σ s d) w));
+          value = λ d. rw (look-same d) (λ w. run .value d (published-marked (look σ s d) w));
           sealed = (I .begun, omega arith);
           reads = reads-fair;
           apart = all-map (λ j h c p q. h) (T .commits) (I .old);
@@ -133,7 +131,7 @@ module _ {start : List ℕ} {σ : Store} {T : Ledger} (s : ℕ) (lt : s < 16) (I
             unfold role roleOf roleIn written after in
             rw (ses-same a, look-same d) (which (look σ s d) (λ p. rw p) (λ e p. rw (p, le-leb 0 d (omega arith))))
 
-    -- nothing written: it commits with its seal
+    -- nothing publishes: it commits with its seal
     pub rests : ((c : ℕ) → written σ s c ≡ false)
         → let u = closed (sealedAt (length start) (T .place) (T .mine s)) in
         Inv start (change σ s (readsDropped (logOf σ s) (recordOf σ s .count) s (σ .lent .locks)) (σ .lent .values) (σ .lent .logs) idle)

@@ -9,7 +9,7 @@ use lib.Dec.{ltb, eqb}
 use lib.ListN.{length}
 use borrow.Author.Tests.{eqb-true, ltb-true, ltb-false}
 use Rattle.model.specs.declared.Call.{Call}
-use Rattle.model.specs.declared.Call.the-variants.{Begin, Read, Write, Seal, Advance, Abandon, Peek}
+use Rattle.model.specs.declared.Call.the-variants.{Begin, Read, Write, Seal, Advance, Abandon, Peek, Hold}
 use Rattle.model.specs.declared.Answer.{Answer}
 use Rattle.model.specs.declared.Plan.{Plan}
 use Rattle.model.specs.declared.Plan.the-variants.{Refuse, Start}
@@ -19,7 +19,7 @@ use Rattle.model.specs.Isolation.{All}
 use Rattle.model.specs.Plans.{guard, plan, admit}
 use Rattle.model.specs.Effects.{number, valueOf, recordOf, answer, after, logOf}
 use Rattle.model.specs.Step.{sessionOf, planOf, step, answerOf}
-use Rattle.model.specs.Told.{Told, began, got, put, sealed, moved, ended, ending, foundBy, tells, begins}
+use Rattle.model.specs.Told.{Told, began, got, put, held, sealed, moved, ended, ending, foundBy, tells, begins}
 use Rattle.model.proofs.Invariant.{Inv}
 use Rattle.model.proofs.Ledger.{Ledger, calm, amend, starts, hear, hears, observe}
 use Rattle.model.proofs.ManyReads.{ByRead, value, end}
@@ -118,6 +118,10 @@ module _ {first : List ℕ} {σ : Store} {T : Ledger} (I : Inv first σ T) {n : 
   unfolding tells
   says-write s c v a f u = split (Goes s) (eqb (number a) 100) (λ _. told-one s (put c v f) refl u) (λ _. told-ending s a)
 
+  says-hold : (s c : ℕ) (a : Answer) (f : ℕ) → Unsealed (T .mine s) → Goes s (tells (Hold s c) a f)
+  unfolding tells
+  says-hold s c a f u = split (Goes s) (eqb (number a) 101) (λ _. told-one s (held c (valueOf a) f) refl u) (λ _. told-ending s a)
+
   says-seal : (s : ℕ) (a : Answer) → Unsealed (T .mine s) → Goes s (tells (Seal s) a 0)
   unfolding tells
   says-seal s a u =
@@ -155,6 +159,10 @@ module _ {first : List ℕ} {σ : Store} {T : Ledger} (I : Inv first σ T) {n : 
     unfolding planOf plan
     heard-write c v = running (Write s c v) _ (unfold tells ending answer in z) (unfold tells ending answer in z) (unfold tells ending answer in z) (unfold tells ending answer in z) (says-write s c v _ _)
 
+    heard-hold : (c : ℕ) → Fine (Hold s c) (planOf (Hold s c) σ)
+    unfolding planOf plan
+    heard-hold c = running (Hold s c) _ (unfold tells ending answer in z) (unfold tells ending answer in z) (unfold tells ending answer in z) (unfold tells ending answer in z) (says-hold s c _ _)
+
     heard-seal : Fine (Seal s) (planOf (Seal s) σ)
     unfolding planOf plan
     heard-seal = running (Seal s) _ (unfold tells ending answer in z) (unfold tells ending answer in z) (unfold tells ending answer in z) (unfold tells ending answer in z) (says-seal s _)
@@ -174,6 +182,7 @@ module _ {first : List ℕ} {σ : Store} {T : Ledger} (I : Inv first σ T) {n : 
   heard (Advance s) none = says-advance s _
   heard (Abandon s) none = says-abandon s _
   heard (Peek s c) none = unfold tells in told-ending s _
+  heard (Hold s c) none = heard-hold s c
 
 -- ---- an action
 

@@ -7,11 +7,11 @@ use mathlib.Core.List.{List, [], _∷_}
 use lib.Dec.{ltb, eqb}
 use borrow.Author.Tests.{eqb-true, ne-eqb, ltb-true, not-true}
 use Rattle.model.specs.declared.Call.{Call}
-use Rattle.model.specs.declared.Call.the-variants.{Begin, Read, Write, Seal, Advance, Abandon, Peek}
+use Rattle.model.specs.declared.Call.the-variants.{Begin, Read, Write, Seal, Advance, Abandon, Peek, Hold}
 use Rattle.model.specs.declared.Answer.{Answer}
 use Rattle.model.specs.declared.Answer.the-variants.{Refused}
 use Rattle.model.specs.Effects.{number, valueOf}
-use Rattle.model.specs.Told.{Told, began, got, put, sealed, moved, ended, ending, tells, WhereGot}
+use Rattle.model.specs.Told.{Told, began, got, put, held, sealed, moved, ended, ending, tells, WhereGot}
 use Rattle.model.proofs.Tools.{split, both-l, both-r}
 
 pub tells-any : (P : List Told → Type 0) (a : Answer) → P (ending a) → ((w : Told) → 100 ≤ number a → WhereGot (λ c v. v ≡ valueOf a) w → P (w ∷ []))
@@ -30,6 +30,7 @@ tells-any P a e f g k m = go k
     go (Advance s) = split P (eqb (number a) 103) (λ h. f moved (big 103 (omega arith) h) tt) (λ _. e)
     go (Abandon s) = split P (eqb (number a) 100) (λ h. f ended (big 100 (omega arith) h) tt) (λ _. e)
     go (Peek s c) = e
+    go (Hold s c) = split P (eqb (number a) 101) (λ h. f (held c (valueOf a) m) (big 101 (omega arith) h) refl) (λ _. e)
 
 -- a refusal below 100 but 6 tells nothing
 module _ (r : ℕ) (small : (ltb r 100 && not (eqb r 6)) ≡ true) where

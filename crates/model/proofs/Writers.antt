@@ -8,11 +8,11 @@ use lib.Dec.{ltb, eqb}
 use lib.ListN.{length, List·getD-eq-default}
 use borrow.Author.Tests.{ltb-true, ltb-false, le-leb, lt-leb}
 use Rattle.model.specs.Buffers.{Locks, Store, lockAt}
-use Rattle.model.specs.History.{Action, oneCall, manyReads, actor, actionTells, Event, tellsOf, eventOf, Item, add, run, history, Name, transaction, isOpen, wrote, snapshot, commit, committed}
+use Rattle.model.specs.History.{Action, oneCall, manyReads, actor, actionTells, Event, tellsOf, eventOf, Item, add, run, history, Name, transaction, isOpen, heldIn, changedIn, wrote, snapshot, commit, committed}
 use Rattle.model.specs.Isolation.{All, at, Isolated, Holds, firsts, HoldsAtCommit}
 use Rattle.model.specs.Effects.{number, recordOf}
 use Rattle.model.specs.Step.{sessionOf}
-use Rattle.model.specs.Told.{Told, sealed, ended, ending, readsTell, writes, seals, begins}
+use Rattle.model.specs.Told.{Told, sealed, ended, ending, readsTell, writes, holds, seals, begins}
 use Rattle.model.proofs.Advancing.{late, role-late}
 use Rattle.model.proofs.Commits.{pick, all-both, isolated}
 use Rattle.model.proofs.Effects.{running-role}
@@ -117,13 +117,13 @@ later-same : (n : ℕ) (t : List Item) → Later n t t
 later-same n t = record { open′ = λ o. o; done = λ a b. absurd (clash (committed n t) b a); sealed = λ l. l; wrote = λ l c w. w }
 
 later-more : (n : ℕ) (i : Item) (t : List Item) → 0 < i .place → Early (i ∷ t) → isOpen t ≡ true → Later n t (i ∷ t)
-unfolding wrote snapshot
+unfolding heldIn changedIn wrote snapshot
 later-more n i t p e o =
     record {
       open′ = λ _. o;
       done = λ _ _. o;
       sealed = λ l. split (λ (z : ℕ). 0 < z) (seals (i .told)) (λ _. p) (λ _. l);
-      wrote = λ l c w. test (writes (i .told) c) (λ y. absurd (let z = e .0 c y in omega arith)) (λ y. rw y w);
+      wrote = λ l c w. test (writes (i .told) c) (λ y. absurd (let z = e .0 c y in omega arith)) (λ y. rw y (test (holds (i .told) c) (λ z. rw z) (λ z. rw z w)));
     }
 
 later-item : (n : ℕ) (x : Name) (i : Item) (h : List Item) → (x .place ≡ i .place → ⊥) → 0 < i .place → Early (transaction x (i ∷ h))

@@ -1,7 +1,7 @@
--- Small histories to judge the claim by: six that must not pass, as a store without the method would answer, and one that must; written in the order of the calls.
+-- Small histories to judge the claim by: eight that must not pass, as a store without the method would answer, and one that must; written in the order of the calls.
 use Prim.Native.Nat.{ℕ}
 use mathlib.Core.List.{List, [], _∷_, reverse}
-use Rattle.model.specs.declared.Call.the-variants.{Begin, Read, Write, Seal, Advance}
+use Rattle.model.specs.declared.Call.the-variants.{Begin, Read, Write, Seal, Advance, Hold}
 use Rattle.model.specs.declared.Answer.the-variants.{Done, Value, Sealed, Moved, Committed}
 use Rattle.model.specs.History.{Event, event, withFound, readsEvent}
 
@@ -42,3 +42,14 @@ readTogether v =
 -- session 0 writes 4 to cell 0 and commits with its seal, since its log says that it found f there: with 4 nothing would be written, but the store has 3
 unfoldable pub foundAs : ℕ → List Event
 foundAs f = reverse (event (Begin 0) Done ∷ withFound f (event (Write 0 0 4) Done) ∷ event (Seal 0) Committed ∷ [])
+
+-- both sessions hold cell 0 and write nothing there, and commit with spans that meet
+unfoldable pub heldTogether : List Event
+heldTogether =
+    reverse
+    (event (Begin 0) Done ∷ event (Begin 1) Done ∷ withFound 3 (event (Hold 0 0) (Value 3)) ∷ withFound 3 (event (Hold 1 0) (Value 3)) ∷ event (Seal 0) Sealed ∷ event (Seal 1) Sealed
+    ∷ event (Advance 0) Moved ∷ event (Advance 1) Moved ∷ [])
+
+-- session 0 holds cell 0 and is answered 4, which nobody committed
+unfoldable pub heldStale : List Event
+heldStale = reverse (event (Begin 0) Done ∷ withFound 3 (event (Hold 0 0) (Value 4)) ∷ event (Seal 0) Sealed ∷ event (Advance 0) Moved ∷ [])

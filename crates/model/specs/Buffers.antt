@@ -1,7 +1,7 @@
 -- What the caller lends to every call, and how it is read and changed (document 01, "What the caller lends"). Its words here: a figure is a value; of an
 -- entry the figure found is `snapshot`, the present figure `current`, written `dirty`; a lock's mark is `exclusive`.
-use Prim.Native.Nat.{ℕ, zero, suc, _+_, _*_}
-use mathlib.Core.Bool.{Bool, true, false, cond, not, _&&_}
+use Prim.Native.Nat.{ℕ, zero, suc, _+_, _*_, _/_, _%_}
+use mathlib.Core.Bool.{Bool, true, false, cond, not, _&&_, _||_}
 use mathlib.Core.Option.{Option, none, some}
 use mathlib.Core.List.{List, [], _∷_, _++_}
 use lib.Dec.{leb, ltb, eqb}
@@ -73,17 +73,26 @@ onLog s f logs = take (128 * s) logs ++ (f (logIn logs s) ++ drop 128 (drop (128
 unfoldable pub word : List ℕ → ℕ → ℕ → ℕ
 word log k j = getD log (4 * k + j) 0
 
--- an entry besides its cell: the value found, the present value, and whether it was written, by the fourth word's lowest bit
+-- an entry besides its cell: the value found, the present value, and whether it was written and whether it is held, by the fourth word's two lowest bits: written
+-- counts one and held two, and what stands above is not looked at (document 02, Paper 4)
 pub record Entry : Type 0 where
   pub snapshot : ℕ
   pub current : ℕ
   pub dirty : Bool
+  pub held : Bool
+
+-- the fourth word with one of the two marks set: the other stays, and what stands above is gone
+unfoldable pub withDirty : ℕ → ℕ
+withDirty w = w / 2 % 2 * 2 + 1
+
+unfoldable pub withHeld : ℕ → ℕ
+withHeld w = 2 + w % 2
 
 unfoldable pub cellAt : List ℕ → ℕ → ℕ
 cellAt log k = word log k 0
 
 unfoldable pub entryAt : List ℕ → ℕ → Entry
-entryAt log k = record { snapshot = word log k 1; current = word log k 2; dirty = odd (word log k 3) }
+entryAt log k = record { snapshot = word log k 1; current = word log k 2; dirty = odd (word log k 3); held = odd (word log k 3 / 2) }
 
 -- which of the m entries is the cell's, and the entry
 unfoldable pub slotIn : List ℕ → ℕ → ℕ → Option ℕ
@@ -101,9 +110,10 @@ abbrev pub isDirty : Option Entry → Bool
 isDirty none = false
 isDirty (some e) = e .dirty
 
--- an entry publishes, that is counts as written from the seal on, where that bit is set and the present value is not the one found (document 02, Paper 2)
+-- an entry publishes, that is counts as written from the seal on, where it is held (document 02, Paper 4), or written with a present value that is not the one
+-- found (Paper 2)
 unfoldable pub publishes : Entry → Bool
-publishes e = e .dirty && not (eqb (e .current) (e .snapshot))
+publishes e = e .held || (e .dirty && not (eqb (e .current) (e .snapshot)))
 
 abbrev pub isPublished : Option Entry → Bool
 isPublished none = false
@@ -126,13 +136,17 @@ abbrev pub currentOf : Option Entry → ℕ
 currentOf none = 0
 currentOf (some e) = e .current
 
--- entry k new: found and present are the value v, not written
+-- entry k new: found and present are the value v, not written and not held
 unfoldable pub appended : List ℕ → ℕ → ℕ → ℕ → List ℕ
 appended log k c v = sets log (4 * k) (c ∷ v ∷ v ∷ 0 ∷ [])
 
--- the present value v in entry k, whose bit is then set, also where v is the value found
+-- the present value v in entry k, which is then written, also where v is the value found
 unfoldable pub updated : List ℕ → ℕ → ℕ → List ℕ
-updated log k v = sets log (4 * k + 2) (v ∷ 1 ∷ [])
+updated log k v = sets log (4 * k + 2) (v ∷ withDirty (word log k 3) ∷ [])
+
+-- entry k held
+unfoldable pub marked : List ℕ → ℕ → List ℕ
+marked log k = set log (4 * k + 3) (withHeld (word log k 3))
 
 -- ---- locks
 

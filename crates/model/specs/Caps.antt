@@ -1,4 +1,4 @@
--- The caps, beside demand 3: of every list of actions, no value in the store, and none that a read is answered, is above its cell's cap.
+-- The caps, beside demand 3: of every list of actions, no value in the store, and none that a read or a hold is answered, is above its cell's cap.
 use Prim.Native.Nat.{ℕ, _≤_}
 use mathlib.Core.List.{List, []}
 use lib.ListN.{getD}

@@ -6,12 +6,12 @@ use mathlib.Core.List.{List}
 use lib.Dec.{eqb}
 use lib.ListN.{getD, set}
 use Rattle.model.specs.Search.{some?}
-use Rattle.model.specs.Buffers.{Locks, Store, idle, running, sessionAt, withSession, withEntry, moveTo, logIn, onLog, cellAt, publishesIn, targetIn, appended, updated, onLock, sweep, join, leave, vacate, withdraw, claim, acquire}
+use Rattle.model.specs.Buffers.{Locks, Store, idle, running, sessionAt, withSession, withEntry, moveTo, logIn, onLog, cellAt, publishesIn, targetIn, appended, updated, marked, onLock, sweep, join, leave, vacate, withdraw, claim, acquire}
 use Rattle.model.specs.declared.Session.{Session}
 use Rattle.model.specs.declared.Answer.{Answer}
 use Rattle.model.specs.declared.Answer.the-variants.{Done, Value, Sealed, Moved, Waiting, Committed, Refused}
 use Rattle.model.specs.declared.Plan.{Plan}
-use Rattle.model.specs.declared.Plan.the-variants.{Refuse, Start, Tell, Enter, Update, EnterUpdate, RollBack, Cancel, CommitReads, BeginPromotion, Wait, Acquire, Publish, Release, ShowStore, ShowLog}
+use Rattle.model.specs.declared.Plan.the-variants.{Refuse, Start, Tell, Enter, Update, EnterUpdate, Mark, EnterMark, RollBack, Cancel, CommitReads, BeginPromotion, Wait, Acquire, Publish, Release, ShowStore, ShowLog}
 
 -- ---- answers
 
@@ -111,25 +111,27 @@ does a σ = record { answer = a; shown = noWord; store = σ }
 abbrev pub shows : Part → Store → PlanEffect
 shows w σ = record { answer = Done; shown = w; store = σ }
 
+-- session s enters cell c: it is among the cell's readers, and has an entry more, of the store's value
+abbrev pub entered : ℕ → ℕ → Store → Store
+entered s c σ =
+    putRecord s (withEntry (recordOf σ s))
+    (onLogOf s (λ log. appended log (recordOf σ s .count) c (getD (σ .lent .values) c 0)) (onLocks (onLock c (join s)) σ))
+
 -- what a plan of session s does
 unfoldable pub planEffect : ℕ → Plan → Store → PlanEffect
 -- turned down: all as before
 planEffect s (Refuse k) σ = does (Refused k) σ
 -- begin: the session runs, with count 0 and next 0
 planEffect s Start σ = does Done (putRecord s running σ)
--- read: of a cell in the log nothing changes; a new one has the session among its readers, and an entry
+-- read: of a cell in the log nothing changes; a new one is entered
 planEffect s (Tell v) σ = does (Value v) σ
-planEffect s (Enter c) σ =
-    does (Value (getD (σ .lent .values) c 0))
-    (putRecord s (withEntry (recordOf σ s))
-    (onLogOf s (λ log. appended log (recordOf σ s .count) c (getD (σ .lent .values) c 0)) (onLocks (onLock c (join s)) σ)))
+planEffect s (Enter c) σ = does (Value (getD (σ .lent .values) c 0)) (entered s c σ)
 -- write: the entry, which may be new, has the value and is written
 planEffect s (Update k v) σ = does Done (onLogOf s (λ log. updated log k v) σ)
-planEffect s (EnterUpdate c v) σ =
-    does Done
-    (putRecord s (withEntry (recordOf σ s))
-    (onLogOf s (λ log. updated log (recordOf σ s .count) v)
-    (onLogOf s (λ log. appended log (recordOf σ s .count) c (getD (σ .lent .values) c 0)) (onLocks (onLock c (join s)) σ))))
+planEffect s (EnterUpdate c v) σ = does Done (onLogOf s (λ log. updated log (recordOf σ s .count) v) (entered s c σ))
+-- hold: what read does, and the entry, which may be new, is held
+planEffect s (Mark k v) σ = does (Value v) (onLogOf s (λ log. marked log k) σ)
+planEffect s (EnterMark c) σ = does (Value (getD (σ .lent .values) c 0)) (onLogOf s (λ log. marked log (recordOf σ s .count)) (entered s c σ))
 -- rolled back, on a conflict or by abandon: at each entry's cell the session is gone, and it is idle; log words stay
 planEffect s RollBack σ = does (Refused 6) (putRecord s idle (onLocks (rolledBack (logOf σ s) (recordOf σ s .count) s) σ))
 planEffect s Cancel σ = does Done (putRecord s idle (onLocks (rolledBack (logOf σ s) (recordOf σ s .count) s) σ))

@@ -12,7 +12,7 @@ use Rattle.model.specs.Buffers.{Store}
 use Rattle.model.specs.Search.{tally}
 use Rattle.model.specs.ManyReads.{readMany}
 use Rattle.model.specs.Step.{sessionOf, step, answerOf}
-use Rattle.model.specs.Told.{Told, foundBy, tells, readsTell, begins, writes, differs, seals, moves, ends, valuePut, ReadOf, readUnless, andFound}
+use Rattle.model.specs.Told.{Told, foundBy, tells, readsTell, begins, writes, differs, holds, seals, moves, ends, valuePut, ReadOf, readUnless, andFound}
 
 -- ---- actions, answers, and what they tell
 
@@ -30,7 +30,7 @@ abbrev pub actor : Action → ℕ
 actor (oneCall k) = sessionOf k
 actor (manyReads s cs words) = s
 
--- an action and its answer; of many reads, whose answer is their last, the values that they obtained; of a write the value found in its cell, which no answer need show
+-- an action and its answer; of many reads, whose answer is their last, the values that they obtained; of a write or a hold the value found in its cell, which no answer need show
 pub record Event : Type 0 where
   pub action : Action
   pub answer : Answer
@@ -123,33 +123,43 @@ abbrev pub isOpen : List Item → Bool
 isOpen [] = false
 isOpen (i ∷ t) = not (ends (i .told))
 
--- ---- Wrote: a cell for which one of its writes answered 100, where the last such write's value is not the one found (document 02, Paper 2); that write gives
--- its value there
+-- ---- Wrote: a cell for which one of its holds answered 101 (document 02, Paper 4), or one of its writes 100 and the last such write's value is not the one found
+-- (Paper 2); its last write gives its value there, or the value found where no write came
 
 -- one of its writes to the cell answered 100, of whatever value
 unfoldable pub dirtied : List Item → ℕ → Bool
 dirtied [] c = false
 dirtied (i ∷ t) c = writes (i .told) c || dirtied t c
 
+-- the last of them is of a value other than the one found
+unfoldable pub changedIn : List Item → ℕ → Bool
+changedIn [] c = false
+changedIn (i ∷ t) c = cond (writes (i .told) c) (differs (i .told)) (changedIn t c)
+
+-- one of its holds of the cell answered 101
+unfoldable pub heldIn : List Item → ℕ → Bool
+heldIn [] c = false
+heldIn (i ∷ t) c = holds (i .told) c || heldIn t c
+
 unfoldable pub wrote : List Item → ℕ → Bool
-wrote [] c = false
-wrote (i ∷ t) c = cond (writes (i .told) c) (differs (i .told)) (wrote t c)
+unfolding heldIn changedIn
+wrote t c = heldIn t c || changedIn t c
 
 unfoldable pub valueWritten : List Item → ℕ → ℕ
 valueWritten [] c = 0
-valueWritten (i ∷ t) c = cond (writes (i .told) c) (valuePut (i .told)) (valueWritten t c)
+valueWritten (i ∷ t) c = cond (writes (i .told) c || (holds (i .told) c && not (dirtied t c))) (valuePut (i .told)) (valueWritten t c)
 
 -- the number of cells it wrote, of n
 abbrev pub cellsWritten : ℕ → List Item → ℕ
 cellsWritten n t = tally (wrote t) n
 
--- ---- Read before writing: each of its reads answered 101 while no write of its own to that cell had answered 100
+-- ---- Read before writing: each of its reads and holds answered 101 while no write of its own to that cell had answered 100
 
 unfoldable pub readsBeforeWriting : List Item → List ReadOf
 readsBeforeWriting [] = []
 readsBeforeWriting (i ∷ t) = readUnless (dirtied t) (i .told) (readsBeforeWriting t)
 
--- ---- Found: the value found in the cell at each of its writes answered 100
+-- ---- Found: the value found in the cell at each of its writes answered 100 and holds answered 101
 
 unfoldable pub valuesFound : List Item → List ReadOf
 valuesFound [] = []

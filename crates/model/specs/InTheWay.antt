@@ -1,5 +1,5 @@
 -- Who may be in another's way at a cell, beside demand 3: a session that runs, or one that publishes the cell. So past its seal a session is in nobody's way at a cell
--- that it wrote back (document 02, Paper 2).
+-- that it does not publish, one that it wrote back and did not hold among them (document 02, Papers 2 and 4).
 use Prim.Native.Nat.{ℕ, _<_}
 use mathlib.Core.Path.{_≡_}
 use mathlib.Core.Logic.{_⊎_}

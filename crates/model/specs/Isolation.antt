@@ -1,5 +1,5 @@
 -- Demand 3, the claim: the committed transactions of a list of actions have snapshot and commit places such that each read before writing is the last commit's
--- before the snapshot, or the starting value, and so is each value found at a write, and writers of one cell have spans that do not meet; a commit is the call with which all writer locks are held. And the same of code.
+-- before the snapshot, or the starting value, and so is each value found at a write or a hold, and writers of one cell have spans that do not meet; a commit is the call with which all writer locks are held. And the same of code.
 use Prim.Native.Nat.{ℕ, suc, _≤_, _<_}
 use mathlib.Core.Path.{_≡_}
 use mathlib.Core.Logic.{_⊎_}
@@ -60,7 +60,7 @@ module _ (first : List ℕ) (h : List Item) where
     pub commits : (x : Name) → Commits x → ToldAt x (commitOf x) (λ w. cond (eqb (cellsWritten (length first) (at x)) 0) (seals w) (moves w))
     -- each read before writing is the last commit's before the snapshot
     pub reads : (x : Name) → Commits x → All (λ (r : ReadOf). Last (r .cell) (snapshotOf x) (r .value)) (readsBeforeWriting (at x))
-    -- and so is each value found at a write: what is written back is what the last commit left
+    -- and so is each value found at a write or a hold: what is written back, or held and not written, is what the last commit left
     pub finds : (x : Name) → Commits x → All (λ (r : ReadOf). Last (r .cell) (snapshotOf x) (r .value)) (valuesFound (at x))
     -- two writers of one cell have spans, from snapshot to commit, that do not meet
     pub apart : (x y : Name) (c : ℕ) → (x ≡ y → ⊥) → Commits x → Commits y → wrote (at x) c ≡ true → wrote (at y) c ≡ true
@@ -68,7 +68,7 @@ module _ (first : List ℕ) (h : List Item) where
 
 -- ---- writer locks
 
--- session s is claimant of cell c, with mark 1
+-- session s is claimant of cell c, with mark 1: it holds the writer lock, which the call hold by itself does not give
 abbrev pub Holds : Store → ℕ → ℕ → Type 0
 Holds σ s c = (lockAt (σ .lent .locks) c .claimant ≡ s) × (lockAt (σ .lent .locks) c .exclusive ≡ 1)
 

@@ -13,7 +13,10 @@ pub mod SingleReads
 pub mod Caps
 pub mod Serial
 pub mod InTheWay
+pub mod CommitOrder
+pub mod HoldAsRead
 pub mod Orders
+pub mod Holding
 pub mod Rounds
 pub mod Cases
 pub mod SetUpCases

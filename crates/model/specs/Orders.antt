@@ -1,4 +1,5 @@
--- The starred orders of document 01, "Orders to try": a row for each star. proofs/Orders.antt proves the table by computation; Rounds.antt has orders with many reads.
+-- The starred orders of document 01, "Orders to try": a row for each star; two more, and orders with values written back. proofs/Orders.antt proves the tables by
+-- computation; Rounds.antt has orders with many reads, Holding.antt those with holds.
 use Prim.Native.Nat.{ℕ}
 use mathlib.Core.List.{List, [], _∷_}
 use lib.ListN.{length, replicate}

@@ -13,9 +13,9 @@ use Rattle.model.specs.Buffers.{Buffers, cellAt, entryAt, slotIn, lookIn
 use Rattle.model.specs.declared.Session.{Session}
 use Rattle.model.specs.declared.Lock.{Lock}
 use Rattle.model.specs.declared.Call.{Call}
-use Rattle.model.specs.declared.Call.the-variants.{Begin, Read, Write, Seal, Advance, Abandon, Peek}
+use Rattle.model.specs.declared.Call.the-variants.{Begin, Read, Write, Seal, Advance, Abandon, Peek, Hold}
 use Rattle.model.specs.declared.Plan.{Plan}
-use Rattle.model.specs.declared.Plan.the-variants.{Refuse, Start, Tell, Enter, Update, EnterUpdate, RollBack, Cancel, CommitReads, BeginPromotion, Wait, Acquire, Publish, Release, ShowStore, ShowLog}
+use Rattle.model.specs.declared.Plan.the-variants.{Refuse, Start, Tell, Enter, Update, EnterUpdate, Mark, EnterMark, RollBack, Cancel, CommitReads, BeginPromotion, Wait, Acquire, Publish, Release, ShowStore, ShowLog}
 
 -- a test, what becomes of the call where it fails, and what where it passes
 abbrev pub require : {A : Type 0} → Bool → A → A → A
@@ -56,6 +56,14 @@ readSlot log x l c (some k) = Tell (entryAt log k .current)
 
 unfoldable pub readPlan : ℕ → List ℕ → Session → Lock → ℕ → Plan
 readPlan n log x l c = guard n log x (eqb (x .phase) 1) (known n c (readSlot log x l c (slotIn log (x .count) c)))
+
+-- hold: as read, and the entry is marked held (document 02, Paper 4)
+unfoldable pub holdSlot : List ℕ → Session → Lock → ℕ → Option ℕ → Plan
+holdSlot log x l c none = newCell x l (EnterMark c)
+holdSlot log x l c (some k) = Mark k (entryAt log k .current)
+
+unfoldable pub holdPlan : ℕ → List ℕ → Session → Lock → ℕ → Plan
+holdPlan n log x l c = guard n log x (eqb (x .phase) 1) (known n c (holdSlot log x l c (slotIn log (x .count) c)))
 
 -- write: a class above 15 is 8, a value above the cap m is 4 (below); then a new cell is entered as by read, and the entry is updated
 unfoldable pub writeSlot : Session → Lock → ℕ → ℕ → Option ℕ → Plan
@@ -102,7 +110,7 @@ peekPlan n log x c = guard n log x (eqb (x .phase) 1) (known n c (peekSlot log c
 
 -- any call past 7 and 1, by the number of cells, the classes, its session's log and record, and the lock of each cell
 unfoldable pub plan : Call → ℕ → List ℕ → List ℕ → Session → (ℕ → Lock) → Plan
-unfolding readPlan writePlan sealPlan advancePlan peekPlan
+unfolding readPlan holdPlan writePlan sealPlan advancePlan peekPlan
 plan (Begin s) n ks log x lock = guard n log x (eqb (x .phase) 0) Start
 plan (Read s c) n ks log x lock = readPlan n log x (lock c) c
 plan (Write s c v) n ks log x lock = writePlan ks n log x (lock c) c v
@@ -110,3 +118,4 @@ plan (Seal s) n ks log x lock = sealPlan n log x
 plan (Advance s) n ks log x lock = advancePlan s n log x lock
 plan (Abandon s) n ks log x lock = guard n log x (eqb (x .phase) 1 || eqb (x .phase) 2) Cancel
 plan (Peek s c) n ks log x lock = peekPlan n log x c
+plan (Hold s c) n ks log x lock = holdPlan n log x (lock c) c

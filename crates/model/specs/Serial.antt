@@ -11,7 +11,7 @@ use Rattle.model.specs.Buffers.{Store}
 use Rattle.model.specs.History.{Action, Event, tellsOf, run, events, Item, told, history, Name, transaction, isOpen}
 use Rattle.model.specs.Isolation.{All}
 use Rattle.model.specs.Effects.{number}
-use Rattle.model.specs.Told.{Told, began, got, put, sealed, moved, ended, begins, WhereGot}
+use Rattle.model.specs.Told.{Told, began, got, put, held, sealed, moved, ended, begins, WhereGot}
 
 -- ---- the serial store
 
@@ -20,11 +20,12 @@ pub record Serial : Type 0 where
   pub values : List ℕ
   pub draft : List ℕ
 
--- a begin copies the values to the draft; a write changes the draft, whether or not its value is the one found
+-- a begin copies the values to the draft; a write changes the draft, whether or not its value is the one found; a hold changes nothing
 abbrev pub drafted : Told → Serial → Serial
 drafted began z = record { values = z .values; draft = z .values }
 drafted (got c v) z = z
 drafted (put c v f) z = record { values = z .values; draft = set (z .draft) c v }
+drafted (held c v f) z = z
 drafted sealed z = z
 drafted moved z = z
 drafted ended z = z

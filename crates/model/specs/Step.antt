@@ -5,7 +5,7 @@ use Rattle.model.specs.Buffers.{Buffers, Store, size, sessionAt, withSes
 use Rattle.model.specs.declared.Session.{Session}
 use Rattle.model.specs.declared.Sessions.{Sessions}
 use Rattle.model.specs.declared.Call.{Call}
-use Rattle.model.specs.declared.Call.the-variants.{Begin, Read, Write, Seal, Advance, Abandon, Peek}
+use Rattle.model.specs.declared.Call.the-variants.{Begin, Read, Write, Seal, Advance, Abandon, Peek, Hold}
 use Rattle.model.specs.declared.Answer.{Answer}
 use Rattle.model.specs.declared.Answer.the-variants.{Done, Refused}
 use Rattle.model.specs.declared.Plan.{Plan}
@@ -20,6 +20,7 @@ sessionOf (Seal s) = s
 sessionOf (Advance s) = s
 sessionOf (Abandon s) = s
 sessionOf (Peek s c) = s
+sessionOf (Hold s c) = s
 
 -- a call's plan in a store: 7 and 1, then the plan of what its session sees
 unfoldable pub planOf : Call → Store → Plan

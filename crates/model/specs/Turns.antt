@@ -6,14 +6,14 @@ use mathlib.Core.List.{List}
 use lib.ListN.{getD, set}
 use denote.Ref.{now}
 use Rattle.model.specs.Slices.{Slice}
-use Rattle.model.specs.Buffers.{Locks, Store, idle, running, withEntry, moveTo, onLog, appended, updated, onLock, join, claim, acquire, vacate}
+use Rattle.model.specs.Buffers.{Locks, Store, idle, running, withEntry, moveTo, onLog, appended, updated, marked, onLock, join, claim, acquire, vacate}
 use Rattle.model.specs.Effects.{handled, releaseAnswer, rolledBack, readsDropped, change, recordOf}
 use Rattle.model.specs.Step.{Outcome, outcome}
 use Rattle.model.specs.declared.Session.{Session}
 use Rattle.model.specs.declared.Answer.{Answer}
 use Rattle.model.specs.declared.Answer.the-variants as say
 use Rattle.model.specs.declared.Plan.{Plan}
-use Rattle.model.specs.declared.Plan.the-variants.{Refuse, Start, Tell, Enter, Update, EnterUpdate, RollBack, Cancel, CommitReads, BeginPromotion, Wait, Acquire, Publish, Release, ShowStore, ShowLog}
+use Rattle.model.specs.declared.Plan.the-variants.{Refuse, Start, Tell, Enter, Update, EnterUpdate, Mark, EnterMark, RollBack, Cancel, CommitReads, BeginPromotion, Wait, Acquire, Publish, Release, ShowStore, ShowLog}
 use Rattle.model.specs.declared.Change.{Change}
 use Rattle.model.specs.declared.Change.the-variants as to
 use Rattle.model.specs.declared.Turn.{Turn}
@@ -38,6 +38,9 @@ turnOf (Enter c) vs log x = leaves (say.Value (getD vs c 0)) vs (appended log (x
 turnOf (Update k v) vs log x = leaves say.Done vs (updated log k v) x to.Keep
 turnOf (EnterUpdate c v) vs log x =
     leaves say.Done vs (updated (appended log (x .count) c (getD vs c 0)) (x .count) v) (withEntry x) (to.Join c)
+turnOf (Mark k v) vs log x = leaves (say.Value v) vs (marked log k) x to.Keep
+turnOf (EnterMark c) vs log x =
+    leaves (say.Value (getD vs c 0)) vs (marked (appended log (x .count) c (getD vs c 0)) (x .count)) (withEntry x) (to.Join c)
 turnOf RollBack vs log x = leaves (say.Refused 6) vs log idle to.Withdraw
 turnOf Cancel vs log x = leaves say.Done vs log idle to.Withdraw
 turnOf CommitReads vs log x = leaves say.Committed vs log idle to.DropReads

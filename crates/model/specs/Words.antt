@@ -5,15 +5,15 @@ use mathlib.Core.Bool.{Bool, true, false}
 use mathlib.Core.List.{List, [], _∷_, _++_, reverse}
 use lib.ListN.{replicate}
 use Rattle.model.specs.declared.Call.{Call}
-use Rattle.model.specs.declared.Call.the-variants.{Begin, Read, Write, Seal, Advance, Abandon, Peek}
+use Rattle.model.specs.declared.Call.the-variants.{Begin, Read, Write, Seal, Advance, Abandon, Peek, Hold}
 use Rattle.model.specs.declared.Answer.{Answer}
 use Rattle.model.specs.declared.Answer.the-variants.{Done, Value, Sealed, Moved, Waiting, Committed, Refused}
 use Rattle.model.specs.Buffers.{Store, idle}
 use Rattle.model.specs.History.{Event, event, withFound, readsEvent, Item, item, told, Name, name, transaction, isOpen, wrote, valueWritten, readsBeforeWriting, valuesFound, snapshot, commit, committed}
 use Rattle.model.specs.Serial.{Serial, serial}
-use Rattle.model.specs.Told.{Told, began, got, put, sealed, moved, ended, ReadOf}
+use Rattle.model.specs.Told.{Told, began, got, put, held, sealed, moved, ended, ReadOf}
 
--- ---- what a call with its answer tells, where 6 is the value found: a write alone tells it
+-- ---- what a call with its answer tells, where 6 is the value found: a write and a hold tell it
 
 pub record Telling : Type 0 where
   pub call : Call
@@ -38,6 +38,7 @@ tellings =
     ∷ telling (Abandon 1) Done (ended ∷ []) ∷ telling (Abandon 1) (Refused 2) [] ∷ telling (Abandon 1) (Refused 6) (ended ∷ [])
     -- a peek gets nothing as read does
     ∷ telling (Peek 1 2) Done [] ∷ telling (Peek 1 2) (Refused 14) [] ∷ telling (Peek 1 2) (Refused 6) (ended ∷ [])
+    ∷ telling (Hold 1 2) (Value 7) (held 2 7 6 ∷ []) ∷ telling (Hold 1 2) (Refused 5) [] ∷ telling (Hold 1 2) (Refused 6) (ended ∷ []) ∷ telling (Hold 1 2) Done []
     ∷ []
 
 -- ---- what many reads tell, by the cells, the values obtained and the last answer
@@ -161,6 +162,21 @@ rows =
     -- of two cells with a write one is changed: the first answer 103 makes the commit
     ∷ row (event (Begin 0) Done ∷ withFound 3 (event (Write 0 0 3) Done) ∷ withFound 5 (event (Write 0 1 6) Done) ∷ event (Seal 0) Sealed ∷ event (Advance 0) Moved ∷ event (Advance 0) Moved ∷ [])
     (name 1 0) (word true false true 3 6 [] 4 5 true)
+    -- a held cell is written, with the value found; what the hold got is read before writing
+    ∷ row (event (Begin 0) Done ∷ withFound 3 (event (Hold 0 0) (Value 3)) ∷ event (Seal 0) Sealed ∷ event (Advance 0) Moved ∷ []) (name 1 0) (word true true false 3 0 (read 0 3 ∷ []) 3 4 true)
+    -- with the value of a later write, and of an earlier one, also where it is the one found; after an own write the hold is none of the snapshot's
+    ∷ row (event (Begin 0) Done ∷ withFound 3 (event (Hold 0 0) (Value 3)) ∷ withFound 3 (event (Write 0 0 4) Done) ∷ []) (name 1 0) (word true true false 4 0 (read 0 3 ∷ []) 0 0 false)
+    ∷ row (event (Begin 0) Done ∷ withFound 3 (event (Write 0 0 4) Done) ∷ withFound 3 (event (Hold 0 0) (Value 4)) ∷ []) (name 1 0) (word true true false 4 0 [] 0 0 false)
+    ∷ row (event (Begin 0) Done ∷ withFound 3 (event (Write 0 0 4) Done) ∷ withFound 3 (event (Write 0 0 3) Done) ∷ withFound 3 (event (Hold 0 0) (Value 3)) ∷ event (Seal 0) Sealed ∷ []) (name 1 0)
+    (word true true false 3 0 [] 5 0 false)
+    ∷ row (event (Begin 0) Done ∷ withFound 3 (event (Hold 0 0) (Value 3)) ∷ withFound 3 (event (Write 0 0 3) Done) ∷ event (Seal 0) Sealed ∷ event (Advance 0) Moved ∷ []) (name 1 0)
+    (word true true false 3 0 (read 0 3 ∷ []) 4 5 true)
+    -- a read after a hold counts, and so does a second hold; a cell held and one changed make two, and the second answer 103 is the commit
+    ∷ row (event (Begin 0) Done ∷ withFound 3 (event (Hold 0 0) (Value 3)) ∷ event (Read 0 0) (Value 3) ∷ withFound 3 (event (Hold 0 0) (Value 3)) ∷ withFound 5 (event (Write 0 1 6) Done)
+    ∷ event (Seal 0) Sealed ∷ event (Advance 0) Moved ∷ event (Advance 0) Moved ∷ event (Advance 0) Moved ∷ []) (name 1 0)
+    (word true true true 3 6 (read 0 3 ∷ read 0 3 ∷ read 0 3 ∷ []) 6 8 true)
+    -- a refused hold holds nothing, and one that is answered 6 ends it
+    ∷ row (event (Begin 0) Done ∷ event (Hold 0 0) (Refused 5) ∷ event (Hold 0 1) (Refused 6) ∷ withFound 3 (event (Hold 0 0) (Value 3)) ∷ []) (name 1 0) nothing
     -- sealed, and not committed
     ∷ row (event (Begin 0) Done ∷ withFound 5 (event (Write 0 1 4) Done) ∷ event (Seal 0) (Refused 9) ∷ event (Seal 0) Sealed ∷ event (Advance 0) Waiting ∷ []) (name 1 0)
     (word true false true 0 4 [] 4 0 false)
@@ -176,7 +192,7 @@ rows =
     ∷ atStart (name 0 0) (word true true false 4 0 [] 2 3 true) ∷ atStart (name 0 1) (word false false false 0 0 (read 1 5 ∷ []) 1 1 true) ∷ atStart (name 0 2) nothing
     ∷ []
 
--- the values found: of each write answered 100, the newest first; of a refused one and of a read none
+-- the values found: of each write answered 100 and each hold answered 101, the newest first; of a refused one and of a read none
 pub record FoundRow : Type 0 where
   pub events : List Event
   pub found : List ReadOf
@@ -191,6 +207,8 @@ unfoldable pub foundRows : List FoundRow
 foundRows =
     foundRow (event (Begin 0) Done ∷ event (Read 0 0) (Value 3) ∷ withFound 3 (event (Write 0 0 4) Done) ∷ withFound 5 (event (Write 0 1 5) Done) ∷ withFound 3 (event (Write 0 0 6) Done) ∷ [])
     (read 0 3 ∷ read 1 5 ∷ read 0 3 ∷ [])
+    ∷ foundRow (event (Begin 0) Done ∷ withFound 3 (event (Write 0 0 4) Done) ∷ withFound 3 (event (Hold 0 0) (Value 4)) ∷ withFound 5 (event (Hold 0 1) (Value 5)) ∷ withFound 3 (event (Hold 0 0) (Refused 9)) ∷ [])
+    (read 1 5 ∷ read 0 3 ∷ read 0 3 ∷ [])
     ∷ foundRow (event (Begin 0) Done ∷ withFound 3 (event (Write 0 0 9) (Refused 4)) ∷ withFound 3 (event (Write 1 0 4) Done) ∷ []) []
     ∷ []
 
@@ -222,6 +240,8 @@ serialRows =
     ∷ event (Seal 1) Committed ∷ []) (3 ∷ 5 ∷ []) (3 ∷ 5 ∷ [])
     -- a value written back is in the draft, and the values are what they were
     ∷ serialRow (event (Begin 0) Done ∷ withFound 5 (event (Write 0 1 4) Done) ∷ withFound 5 (event (Write 0 1 5) Done) ∷ event (Seal 0) Committed ∷ []) (3 ∷ 5 ∷ []) (3 ∷ 5 ∷ [])
+    -- a hold leaves both as they are
+    ∷ serialRow (event (Begin 0) Done ∷ withFound 5 (event (Write 0 1 4) Done) ∷ withFound 5 (event (Hold 0 1) (Value 4)) ∷ withFound 3 (event (Hold 0 0) (Value 3)) ∷ []) (3 ∷ 5 ∷ []) (3 ∷ 4 ∷ [])
     -- many reads leave both as they are, also those that a conflict stops
     ∷ serialRow (event (Begin 0) Done ∷ withFound 5 (event (Write 0 1 4) Done) ∷ readsEvent 0 (1 ∷ 0 ∷ []) 2 (4 ∷ 3 ∷ []) (Value 3) ∷ []) (3 ∷ 5 ∷ []) (3 ∷ 4 ∷ [])
     ∷ serialRow (event (Begin 0) Done ∷ withFound 5 (event (Write 0 1 4) Done) ∷ readsEvent 0 (1 ∷ 0 ∷ []) 2 (4 ∷ []) (Refused 6) ∷ []) (3 ∷ 5 ∷ []) (3 ∷ 4 ∷ [])

@@ -37,6 +37,7 @@ pub enum Call {
     Advance(u8),
     Abandon(u8),
     Peek(u8, u32),
+    Hold(u8, u32),
 }
 
 impl Call {
@@ -52,6 +53,7 @@ impl Call {
             Call::Advance(s) => s,
             Call::Abandon(s) => s,
             Call::Peek(s, _) => s,
+            Call::Hold(s, _) => s,
         }
     }
 }
@@ -126,6 +128,10 @@ pub enum Plan {
     // a cell of the store, an entry of the log
     ShowStore(u32),
     ShowLog(u32),
+    // an entry to be held, and its value
+    Mark(u32, u32),
+    // a new cell to be held
+    EnterMark(u32),
 }
 
 // What becomes of the locks when a plan is carried out: nothing; one cell's changes; or those of the session's entries do.

@@ -1,4 +1,4 @@
--- The claim judges: a lost update, a dirty read, a broken snapshot, a read ahead, a stale value among many reads and a false value found do not meet it; write skew
+-- The claim judges: a lost update, a dirty read, a broken snapshot, a read ahead, a stale value among many reads, a false value found, two holders whose spans meet and a false value held do not meet it; write skew
 -- does, and so does a cell written back while another changes it. Each is computed; what is accepted is the theorem's.
 use Prim.Native.Nat.{_<_}
 use native.Mathlib.Omega.{arith}
@@ -7,9 +7,9 @@ use mathlib.Core.Logic.{_⊎_, inl, inr}
 use mathlib.Core.Bool.{Bool, true, false, not, _&&_, _||_}
 use mathlib.Core.List.{List, [], _∷_, _++_, reverse}
 use lib.Dec.{leb, eqb}
-use borrow.Author.Tests.{le-leb}
+use borrow.Author.Tests.{le-leb, leb-true}
 use Rattle.model.specs.declared.Call.the-variants.{Begin, Write, Seal, Advance}
-use Rattle.model.specs.Anomalies.{lostUpdate, dirtyRead, brokenSnapshot, readAhead, readTogether, foundAs}
+use Rattle.model.specs.Anomalies.{lostUpdate, dirtyRead, brokenSnapshot, readAhead, readTogether, foundAs, heldTogether, heldStale}
 use Rattle.model.specs.Computing.{computing, counting}
 use Rattle.model.specs.History.{Action, oneCall, manyReads, asActions, Event, events, Item, told, history, Name, name, transaction, isOpen, wrote, valueWritten, dirtied, snapshot, commit, committed}
 use Rattle.model.specs.Isolation.{Last, lastCommit, noCommit, Isolated}
@@ -133,6 +133,30 @@ back-commits = (refl, refl, refl, refl, refl, refl, refl)
 pub back-accepted : Isolated (3 ∷ 5 ∷ []) backed
 unfolding changedMeanwhile given computing
 back-accepted = demand3 (given changedMeanwhile) refl (asActions (changedMeanwhile .calls)) .isolated
+
+-- ---- holds
+
+pub held-together-refused : Isolated (3 ∷ 5 ∷ []) (told [] heldTogether) → ⊥
+unfolding heldTogether counting
+held-together-refused i = go (i .apart (name 1 0) (name 2 1) 0 (λ e. let z = ap (λ (x : Name). x .place) e in omega arith) refl refl refl refl)
+  where
+    go : (7 < 6) ⊎ (8 < 5) → ⊥
+    go (inl h) = omega arith
+    go (inr h) = omega arith
+
+-- 4 is nobody's commit before the seal and not the starting value
+pub held-stale-refused : Isolated (3 ∷ 5 ∷ []) (told [] heldStale) → ⊥
+unfolding heldStale counting
+held-stale-refused i = go (i .reads (name 1 0) refl .0)
+  where
+    later : Name → Bool
+    later x = not (committed 2 (transaction x (told [] heldStale))) || leb 4 (commit 2 (transaction x (told [] heldStale)))
+
+    go : Last (3 ∷ 5 ∷ []) (told [] heldStale) 0 3 4 → ⊥
+    go (noCommit _ e) = omega arith
+    go (lastCommit x c _ _) =
+        let l : leb 4 (commit 2 (transaction x (told [] heldStale))) ≡ true = rw (c .commits) at (committed-in 2 later (told [] heldStale) refl x (c .commits)) in
+        omega (arith, c .before, leb-true 4 (commit 2 (transaction x (told [] heldStale))) l)
 
 -- ---- write skew
 

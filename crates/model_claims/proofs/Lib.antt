@@ -7,6 +7,8 @@ pub mod InTheWay
 pub mod SerialExamples
 pub mod Started
 pub mod Anomalies
+pub mod CommitOrderExamples
 pub mod ReadWords
 pub mod ReadClaims
 pub mod PastTheCount
+pub mod HoldAsRead

@@ -1,21 +1,21 @@
 -- What a call decides does not go by the words past its session's entries (document 02, Paper 3): by the first `count` entries of the log alone, every plan is the same.
 use Prim.Native.Nat.{ℕ, zero, suc, _+_, _*_, _<_, _≤_}
 use native.Mathlib.Omega.{arith}
-use mathlib.Core.Path.{_≡_, refl}
+use mathlib.Core.Path.{_≡_, refl, ap}
 use mathlib.Core.Bool.{Bool, _||_}
 use mathlib.Core.List.{List, [], _∷_}
-use mathlib.Core.Option.{some}
+use mathlib.Core.Option.{Option, none, some}
 use lib.Dec.{leb, eqb}
 use lib.ListN.{set}
 use lib.Seq.{getD-set-other}
 use Rattle.model.specs.declared.Call.{Call}
-use Rattle.model.specs.declared.Call.the-variants.{Begin, Read, Write, Seal, Advance, Abandon, Peek}
+use Rattle.model.specs.declared.Call.the-variants.{Begin, Read, Write, Seal, Advance, Abandon, Peek, Hold}
 use Rattle.model.specs.declared.Lock.{Lock}
 use Rattle.model.specs.declared.Plan.{Plan}
 use Rattle.model.specs.declared.Plan.the-variants.{Tell}
 use Rattle.model.specs.declared.Session.{Session}
 use Rattle.model.specs.Buffers.{free, word, cellAt, entryAt, entryOf, slotIn, lookIn, publishesIn, targetIn}
-use Rattle.model.specs.Plans.{entriesFit, recordFits, guard, known, readSlot, readPlan, writeCapped, writePlan, sealPlan, advanceTarget, advancePlan, peekSlot, peekPlan, plan}
+use Rattle.model.specs.Plans.{entriesFit, recordFits, guard, known, readSlot, readPlan, holdSlot, holdPlan, writeCapped, writePlan, sealPlan, advanceTarget, advancePlan, peekSlot, peekPlan, plan}
 use Rattle.model.specs.Readers.{odd}
 use Rattle.model.specs.Search.{orElse, find, lowest, below}
 use Rattle.model.proofs.Laws.{find-some, find-ext, below-ext}
@@ -63,12 +63,22 @@ module _ (n : ℕ) (log other : List ℕ) (x : Session) (h : SameEntries (x .cou
   unfolding guard recordFits entriesFit
   guards fit e = rw (belows log other (x .count) h n, targets log other (x .count) h (x .next), e)
 
+  -- what goes by a cell's entry
+  on-slot : (c : ℕ) (f g : Option ℕ → Plan) → f none ≡ g none → ((k : ℕ) → k < x .count → f (some k) ≡ g (some k)) → f (slotIn log (x .count) c) ≡ g (slotIn other (x .count) c)
+  on-slot c f g new known =
+      rw (slots log other (x .count) h c)
+      (which (slotIn other (x .count) c) (λ e. rw e new) (λ k e. rw e (known k (among log other (x .count) h c k e))))
+
+  entry : (k : ℕ) → k < x .count → entryAt log k ≡ entryAt other k
+  entry = entries log other (x .count) h
+
   reads : (l : Lock) (c : ℕ) → readPlan n log x l c ≡ readPlan n other x l c
   unfolding readPlan readSlot
-  reads l c =
-      guards (eqb (x .phase) 1)
-      (rw (slots log other (x .count) h c)
-      (which (slotIn other (x .count) c) (λ e. rw e) (λ k e. rw (e, entries log other (x .count) h k (among log other (x .count) h c k e)))))
+  reads l c = guards (eqb (x .phase) 1) (ap (known n c) (on-slot c (readSlot log x l c) (readSlot other x l c) refl (λ k i. rw (entry k i))))
+
+  holds : (l : Lock) (c : ℕ) → holdPlan n log x l c ≡ holdPlan n other x l c
+  unfolding holdPlan holdSlot
+  holds l c = guards (eqb (x .phase) 1) (ap (known n c) (on-slot c (holdSlot log x l c) (holdSlot other x l c) refl (λ k i. rw (entry k i))))
 
   writes : (ks : List ℕ) (l : Lock) (c v : ℕ) → writePlan ks n log x l c v ≡ writePlan ks n other x l c v
   unfolding writePlan writeCapped
@@ -87,10 +97,7 @@ module _ (n : ℕ) (log other : List ℕ) (x : Session) (h : SameEntries (x .cou
 
   peeks : (c : ℕ) → peekPlan n log x c ≡ peekPlan n other x c
   unfolding peekPlan peekSlot
-  peeks c =
-      guards (eqb (x .phase) 1)
-      (rw (slots log other (x .count) h c)
-      (which (slotIn other (x .count) c) (λ e. rw e) (λ k e. rw (e, entries log other (x .count) h k (among log other (x .count) h c k e)))))
+  peeks c = guards (eqb (x .phase) 1) (ap (known n c) (on-slot c (peekSlot log c) (peekSlot other c) refl (λ k i. rw (entry k i))))
 
 -- two logs with the same first `count` entries give every call the same plan
 pub entries-decide : (call : Call) (n : ℕ) (ks log other : List ℕ) (x : Session) (lock : ℕ → Lock)
@@ -104,6 +111,7 @@ entries-decide (Seal s) n ks log other x lock h = seals n log other x h
 entries-decide (Advance s) n ks log other x lock h = advances n log other x h s lock
 entries-decide (Abandon s) n ks log other x lock h = guards n log other x h (eqb (x .phase) 1 || eqb (x .phase) 2) refl
 entries-decide (Peek s c) n ks log other x lock h = peeks n log other x h c
+entries-decide (Hold s c) n ks log other x lock h = holds n log other x h (lock c) c
 
 -- ---- what that is of, and what not
 

@@ -8,7 +8,7 @@ use mathlib.Core.List.{List, [], _∷_, reverse}
 use lib.Dec.{leb, eqb}
 use lib.ListN.{getD, take}
 use borrow.Author.Tests.{eqb-true, eqb-false, leb-true, ltb-true}
-use Rattle.model.specs.declared.Call.the-variants.{Begin, Read, Write, Seal, Advance, Abandon}
+use Rattle.model.specs.declared.Call.the-variants.{Begin, Read, Write, Seal, Advance, Abandon, Hold}
 use Rattle.model.specs.declared.Answer.the-variants.{Done, Value, Moved, Waiting, Refused}
 use Rattle.model.specs.Cases.{state, session, storeWith}
 use Rattle.model.specs.Caps.{GotWithin, WithinCaps}
@@ -21,12 +21,11 @@ use Rattle.model.specs.Orders.{given, listing}
 use Rattle.model.specs.Readers.{member}
 use Rattle.model.specs.Serial.{serialStep, serial, NoneOpen, ReadsSerially, Undisturbed, SeriallyEqual}
 use Rattle.model.specs.Step.{step, answerOf, setUp}
-use Rattle.model.specs.Told.{began, got, put, sealed, moved, seals, moves, ReadOf}
+use Rattle.model.specs.Told.{began, got, put, held, sealed, moved, seals, moves, ReadOf}
 use Rattle.model.specs.Words.{wroteThenRead, firstRead, midway, toldRunning, toldSealed}
 use Rattle.model_claims.proofs.InTheWay.{in-the-way}
-use Rattle.model.proofs.Matching.{name-is}
-use Rattle.model.proofs.Names.{committed-in, noneOpen, none-open}
-use Rattle.model.proofs.Tools.{clash, both-l, both-r}
+use Rattle.model.proofs.Names.{name-by-test, committed-in, noneOpen, none-open}
+use Rattle.model.proofs.Tools.{clash}
 
 abbrev first : List ℕ
 first = 3 ∷ 5 ∷ []
@@ -119,8 +118,7 @@ first-read-isolated =
     only : (x : Name) → Commits first (told [] firstRead) x → name 1 0 ≡ x
     only x d =
         let t = committed-in 2 (λ x. eqb (x .place) 1 && eqb (x .session) 0) (told [] firstRead) (unfold firstRead counting in refl) x d in
-        name-is 1 0 x (sym (eqb-true (x .place) 1 (both-l (eqb (x .place) 1) (eqb (x .session) 0) t)))
-        (sym (eqb-true (x .session) 0 (both-r (eqb (x .place) 1) (eqb (x .session) 0) t)))
+        name-by-test 1 0 x t
 
 -- not of one that is sealed where it begins, nor of one that is sealed after its commit
 pub sealed-too-early : Isolated first (item 5 0 sealed ∷ item 5 0 began ∷ []) → ⊥
@@ -232,6 +230,11 @@ pub got-within-not : (GotWithin (midway 1 4 16 0) (item 3 0 (got 0 9)) → ⊥) 
 unfolding midway computing
 got-within-not = (λ l. let h : 9 ≤ 8 = l in omega arith, λ l. let h : 8 ≤ 6 = l in omega arith)
 
+-- a hold's is one
+pub held-within : GotWithin (midway 1 4 16 0) (item 3 0 (held 0 8 3)) × (GotWithin (midway 1 4 16 0) (item 3 0 (held 0 9 3)) → ⊥)
+unfolding midway computing
+held-within = (omega arith, λ l. let h : 9 ≤ 8 = l in omega arith)
+
 pub stored-above : WithinCaps (midway 3 9 1 1) (oneCall (Advance 1) ∷ []) → ⊥
 unfolding midway computing counting
 stored-above w = let h : 9 ≤ 8 = w .stored 0 in omega arith
@@ -239,6 +242,10 @@ stored-above w = let h : 9 ≤ 8 = w .stored 0 in omega arith
 pub got-above : WithinCaps (midway 1 9 16 0) (oneCall (Read 1 0) ∷ []) → ⊥
 unfolding midway computing counting
 got-above w = let h : 9 ≤ 8 = w .got .0 in omega arith
+
+pub got-above-held : WithinCaps (midway 1 9 16 0) (oneCall (Hold 1 0) ∷ []) → ⊥
+unfolding midway computing counting
+got-above-held w = let h : 9 ≤ 8 = w .got .0 in omega arith
 
 pub got-above-many : WithinCaps (midway 1 9 16 0) (manyReads 1 (1 ∷ 0 ∷ []) 2 ∷ []) → ⊥
 unfolding midway computing counting
@@ -265,7 +272,16 @@ pub reads-draft-not : ReadsSerially first (event (Read 0 0) (Value 3) ∷ event 
 unfolding counting serial serialStep
 reads-draft-not r = eqb-false 3 4 refl (r .1 .0)
 
--- and so is each of many
+-- and so is a hold's
+pub reads-draft-held : ReadsSerially first (event (Hold 0 0) (Value 4) ∷ event (Write 0 0 4) Done ∷ event (Begin 0) Done ∷ [])
+unfolding counting serial serialStep
+reads-draft-held = (((tt, (tt, tt)), (tt, tt)), (refl, tt))
+
+pub reads-draft-held-not : ReadsSerially first (event (Hold 0 0) (Value 3) ∷ event (Write 0 0 4) Done ∷ event (Begin 0) Done ∷ []) → ⊥
+unfolding counting serial serialStep
+reads-draft-held-not r = eqb-false 3 4 refl (r .1 .0)
+
+-- and each of many
 pub reads-draft-many : ReadsSerially first (readsEvent 0 (1 ∷ 0 ∷ []) 2 (5 ∷ 4 ∷ []) (Value 4) ∷ event (Write 0 0 4) Done ∷ event (Begin 0) Done ∷ [])
 unfolding counting serial serialStep
 reads-draft-many = (((tt, (tt, tt)), (tt, tt)), (refl, (refl, tt)))

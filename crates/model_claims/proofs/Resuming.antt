@@ -9,21 +9,20 @@ use lib.Dec.{ltb, eqb}
 use lib.ListN.{length, List·getD-eq-default}
 use borrow.Author.Tests.{eq-eqb, ne-eqb, not-true, ltb-true, ltb-false}
 use Rattle.model.specs.Buffers.{Store, idle, sessionAt}
-use Rattle.model.specs.History.{Action, Item, item, run, history, Name, name, extend, transaction, isOpen, dirtied, wrote, valueWritten, cellsWritten, snapshot, movesIn, moveNumber, commit, committed}
+use Rattle.model.specs.History.{Action, Item, item, run, history, Name, name, extend, transaction, isOpen, dirtied, changedIn, heldIn, wrote, valueWritten, cellsWritten, snapshot, movesIn, moveNumber, commit, committed}
 use Rattle.model.specs.Isolation.{All, Demand3}
 use Rattle.model.specs.Search.{below}
 use Rattle.model.specs.Effects.{recordOf}
 use Rattle.model.specs.Told.{Told, seals, moves, ends}
 use Rattle.model.proofs.Demand3.{demand3-from}
-use Rattle.model.proofs.Effects.{idle-out, running-role}
-use Rattle.model.proofs.Invariant.{roleOf, role, latest, all-map, all-append, Running, Link, Shape, Inv}
+use Rattle.model.proofs.Effects.{not-pending}
+use Rattle.model.proofs.Invariant.{latest, all-map, all-append, Running, Link, Shape, Inv}
 use Rattle.model.proofs.Laws.{below-is}
 use Rattle.model.proofs.Ledger.{Txn, Ledger}
 use Rattle.model.proofs.Matching.{name-is, cond-at, cond-off, Next, stays, grows, starts-here, next, In, Stands, Matches}
-use Rattle.model.proofs.Roles.{pends}
 use Rattle.model.proofs.Runs.{Ready, ledger-of, inv-run, match-run}
 use Rattle.model.proofs.Settled.{unborn}
-use Rattle.model.proofs.Tools.{same, split, test, which, clash}
+use Rattle.model.proofs.Tools.{same, split, test, clash}
 use Rattle.model.proofs.View.{look}
 use Rattle.model.proofs.Words.{observed, summary, build, Early, not-yet}
 
@@ -54,20 +53,29 @@ unfolding atStart
 start-open [] = refl
 start-open (i ∷ t) = refl
 
-start-wrote : (t : List Item) → wrote (atStart t) ≡ wrote t
-unfolding atStart wrote
-start-wrote [] = refl
-start-wrote (i ∷ t) = fun-ext (λ c. rw (start-wrote t))
+start-held : (t : List Item) → heldIn (atStart t) ≡ heldIn t
+unfolding atStart heldIn
+start-held [] = refl
+start-held (i ∷ t) = fun-ext (λ c. rw (start-held t))
 
-start-value : (t : List Item) → valueWritten (atStart t) ≡ valueWritten t
-unfolding atStart valueWritten
-start-value [] = refl
-start-value (i ∷ t) = fun-ext (λ c. rw (start-value t))
+start-changed : (t : List Item) → changedIn (atStart t) ≡ changedIn t
+unfolding atStart changedIn
+start-changed [] = refl
+start-changed (i ∷ t) = fun-ext (λ c. rw (start-changed t))
+
+start-wrote : (t : List Item) → wrote (atStart t) ≡ wrote t
+unfolding wrote
+start-wrote t = fun-ext (λ c. rw (start-held t, start-changed t))
 
 start-dirtied : (t : List Item) → dirtied (atStart t) ≡ dirtied t
 unfolding atStart dirtied
 start-dirtied [] = refl
 start-dirtied (i ∷ t) = fun-ext (λ c. rw (start-dirtied t))
+
+start-value : (t : List Item) → valueWritten (atStart t) ≡ valueWritten t
+unfolding atStart valueWritten
+start-value [] = refl
+start-value (i ∷ t) = fun-ext (λ c. rw (start-dirtied t, start-value t))
 
 start-observed : (t : List Item) → observed (atStart t) ≡ observed t
 unfolding atStart observed
@@ -215,6 +223,7 @@ fromStart t =
       live = t .live;
       reads = t .reads;
       dirtied = t .dirtied;
+      held = t .held;
       wrote = t .wrote;
       value = t .value;
       snap = t .snap;
@@ -288,11 +297,6 @@ module _ (h : List Item) (T : Ledger) where
 
 -- of a store with the invariant, its ledger to go on with keeps it and matches
 module _ {first : List ℕ} {σ : Store} {T : Ledger} (I : Inv first σ T) (u : NoneSealed σ) where
-  none-pending : (c s : ℕ) → pends (role σ c s) ≡ false
-  none-pending c s =
-      same (recordOf σ s .phase) 0 (λ e. ap pends (idle-out σ s c e))
-      (λ d. which (look σ s c) (λ y. unfold role roleOf in rw y) (λ e y. ap pends (running-role σ s c e (omega (arith, u s)) y)))
-
   -- an open transaction runs
   running : (s : ℕ) → T .mine s .live ≡ true → Running (look σ s) (T .mine s)
   running s l = go (recordOf σ s .phase) (u s) (I .link s)
@@ -315,7 +319,7 @@ module _ {first : List ℕ} {σ : Store} {T : Ledger} (I : Inv first σ T) (u : 
         locked = λ c l. I .locked c (omega (arith, I .shape .values));
         valued = λ c l.
             let v = I .valued c (omega (arith, I .shape .values)) in
-            let e = v .settled (none-pending c) in
+            let e = v .settled (λ s. not-pending σ s c (λ e. omega (arith, u s, e))) in
             record { fresh = λ s f h. v .fresh s f h ∙ sym e ∙ unfold latest in refl; due = λ s f h. v .due s f h ∙ sym e ∙ unfold latest in refl; settled = λ _. unfold latest in refl };
         link = λ s. go s (recordOf σ s .phase) (u s) (I .link s);
         lawful = tt;
@@ -334,6 +338,7 @@ module _ {first : List ℕ} {σ : Store} {T : Ledger} (I : Inv first σ T) (u : 
             moved = k .moved;
             unsealed = k .unsealed;
             dirtied = k .dirtied;
+            held = k .held;
             wrote = k .wrote;
             value = k .value;
             reads = k .reads;
@@ -357,7 +362,7 @@ module _ {first : List ℕ} {σ : Store} {T : Ledger} (I : Inv first σ T) (u : 
         let b = start-below t in
         let d : committed n t ≡ false = sym (ap (λ (t : Txn). t .done) (is s l)) ∙ running s l .open′ in
         ap fromStart (is s l) ∙ rw (start-open t)
-        (build 0 (isOpen t) (sym (start-observed t)) (sym (start-dirtied t)) (sym (start-wrote t)) (sym (start-value t)) (no-snapshot s l ∙ sym (snapshot-none (atStart t) b)) (sym (start-moves t))
+        (build 0 (isOpen t) (sym (start-observed t)) (sym (start-dirtied t)) (sym (start-held t)) (sym (start-wrote t)) (sym (start-value t)) (no-snapshot s l ∙ sym (snapshot-none (atStart t) b)) (sym (start-moves t))
         (d ∙ sym (committed-none n (atStart t) b)) (not-yet n 0 s t d ∙ sym (commit-none n (atStart t) b)))
 
     no-seals : All (λ (i : Item). seals (i .told) ≡ false) (openItems h T)

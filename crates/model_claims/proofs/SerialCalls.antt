@@ -10,24 +10,24 @@ use lib.Dec.{leb, ltb, eqb}
 use lib.ListN.{length, getD}
 use borrow.Author.Tests.{eqb-true, eqb-false, eq-eqb, leb-true, not-true}
 use Rattle.model.specs.declared.Call.{Call}
-use Rattle.model.specs.declared.Call.the-variants.{Begin, Read, Write, Seal, Advance, Abandon, Peek}
+use Rattle.model.specs.declared.Call.the-variants.{Begin, Read, Write, Seal, Advance, Abandon, Peek, Hold}
 use Rattle.model.specs.declared.Answer.{Answer}
 use Rattle.model.specs.declared.Answer.the-variants.{Done, Value, Sealed, Moved, Committed, Refused}
 use Rattle.model.specs.declared.Plan.{Plan}
-use Rattle.model.specs.declared.Plan.the-variants.{Refuse, Start, Enter, EnterUpdate, Cancel}
-use Rattle.model.specs.Buffers.{Store, size, entryAt, slotIn, targetIn, onLog, updated, lockAt, cap}
+use Rattle.model.specs.declared.Plan.the-variants.{Refuse, Start, Enter, EnterUpdate, EnterMark, Cancel}
+use Rattle.model.specs.Buffers.{Store, size, entryAt, slotIn, targetIn, onLog, updated, marked, lockAt, cap}
 use Rattle.model.specs.History.{Action, oneCall, manyReads, actor, Event, event, withFound, readsEvent, tellsOf, eventOf}
 use Rattle.model.specs.Isolation.{All}
 use Rattle.model.specs.ManyReads.{readMany}
 use Rattle.model.specs.Serial.{Serial, drafted, draftedBy, serialStep, Undisturbed}
 use Rattle.model.specs.Readers.{otherReaders}
 use Rattle.model.specs.Search.{some?, tally}
-use Rattle.model.specs.Plans.{recordFits, guard, known, claimed, newCell, readSlot, writeSlot, writeCapped, sealTarget, promotePlan, advanceTarget, plan, admit}
+use Rattle.model.specs.Plans.{recordFits, guard, known, claimed, newCell, readSlot, holdSlot, writeSlot, writeCapped, sealTarget, promotePlan, advanceTarget, plan, admit}
 use Rattle.model.specs.Effects.{number, recordOf, releaseAnswer, answer, after, changeLogs, logOf}
 use Rattle.model.specs.Step.{sessionOf, planOf, step, answerOf}
 use Rattle.model.specs.Told.{Told, ending, foundBy, tells, begins, WhereGot}
 use Rattle.model.proofs.Advancing.{target-some}
-use Rattle.model.proofs.Effects.{slot-some, running-role, enters, enter-phase, enter-slot, notes}
+use Rattle.model.proofs.Effects.{slot-some, running-role, enters, enter-phase, enter-slot, notes, marks}
 use Rattle.model.proofs.Invariant.{latest, all-append, Promoting, Finishing, Inv}
 use Rattle.model.proofs.Ledger.{closed, saw, sealedAt, advanced, Ledger, calm, starts, hears, observe}
 use Rattle.model.proofs.ManyReads.{ByRead, value, end, read-by-read, reads-by-read}
@@ -35,8 +35,8 @@ use Rattle.model.proofs.Passing.{choose, guarded, running-cell, cell-new}
 use Rattle.model.proofs.Preservation.{inside, inside-wrote, phase-le, runs, none-written, kept-with-inv}
 use Rattle.model.proofs.Quiet.{Quiet, refuses, peeks}
 use Rattle.model.proofs.Roles.{flip}
-use Rattle.model_claims.proofs.SerialLedger.{overlay, Follows, follows-tick, follows-calm, follows-rest, follows-start, follows-on, follows-commit, follows-end, follows-write}
-use Rattle.model_claims.proofs.SerialLocks.{unlogged-out, no-readers, own-claim, reads-store, reads-entry}
+use Rattle.model_claims.proofs.SerialLedger.{overlay, Follows, follows-tick, follows-calm, follows-rest, follows-start, follows-on, follows-commit, follows-end, follows-write, follows-hold}
+use Rattle.model_claims.proofs.SerialLocks.{unlogged-out, no-readers, own-claim, reads-store, reads-entry, holds-value}
 use Rattle.model.proofs.Tools.{split, test, clash, both-l, both-r}
 use Rattle.model.proofs.View.{slot, look, target}
 
@@ -52,10 +52,16 @@ module _ {start : List ℕ} {T : Ledger} {z : Serial} (k : Call) (a : Answer) {f
       → let e = withFound f (event k a) in Follows start (observe (length start) e T) (serialStep e z) → Serially start T z e
   answered x y r h = record { follows = h; undisturbed = (eqb-false (number a) 6 x, eqb-false (number a) 104 y); read = r }
 
--- the value found in a cell that a running session writes is the last committed
-found-latest : {start : List ℕ} {σ : Store} {T : Ledger} (s : ℕ) → s < 16 → (I : Inv start σ T) (c k v : ℕ) → recordOf σ s .phase ≡ 1 → slot σ s c ≡ some k → c < length start
-    → foundBy (Write s c v) (changeLogs σ (onLog s (λ log. updated log k v) (σ .lent .logs))) ≡ latest start (T .commits) c
-found-latest {σ = σ} s lt I c k v ph h lc = notes s lt I c k v ph h .0 ∙ I .valued c lc .fresh s (entryAt (logOf σ s) k .snapshot) (running-role σ s c (entryAt (logOf σ s) k) ph (slot-some σ s c h))
+-- the value found in a cell that a running session writes or holds is the last committed
+module _ {start : List ℕ} {σ : Store} {T : Ledger} (s : ℕ) (lt : s < 16) (I : Inv start σ T) (c k : ℕ) (ph : recordOf σ s .phase ≡ 1) (h : slot σ s c ≡ some k) (lc : c < length start) where
+  entry-latest : entryAt (logOf σ s) k .snapshot ≡ latest start (T .commits) c
+  entry-latest = I .valued c lc .fresh s (entryAt (logOf σ s) k .snapshot) (running-role σ s c (entryAt (logOf σ s) k) ph (slot-some σ s c h))
+
+  found-latest : (v : ℕ) → foundBy (Write s c v) (changeLogs σ (onLog s (λ log. updated log k v) (σ .lent .logs))) ≡ latest start (T .commits) c
+  found-latest v = notes s lt I c k v ph h .0 ∙ entry-latest
+
+  held-latest : foundBy (Hold s c) (changeLogs σ (onLog s (λ log. marked log k) (σ .lent .logs))) ≡ latest start (T .commits) c
+  held-latest = marks s lt I c k ph h .0 ∙ entry-latest
 
 -- reads, which others may follow at their place: the ledger then, what they told, and the last answer
 record Reading (start : List ℕ) (U : Ledger) (z : Serial) (ws : List Told) (a : Answer) : Type 0 where
@@ -160,13 +166,32 @@ module _ {start : List ℕ} {σ : Store} {T : Ledger} {z : Serial} (I : Inv star
       (λ _. split (Fine (Write s c v)) (leb v (cap k))
       (λ _. choose (Fine (Write s c v)) (writeSlot (recordOf σ s) (lockAt (σ .lent .locks) c) c v) (slot σ s c)
       (λ p. on-new (Fine (Write s c v)) (refused 5 refl (Write s c v)) s c (EnterUpdate c v) ph lc p
-      (λ room cl. wrote ph lc _ (found-latest s lt (enters s lt I c ph p room lc cl) c (recordOf σ s .count) v (enter-phase s lt I c ph p room) (enter-slot s lt I c ph p room) lc)))
-      (λ j p. wrote ph lc _ (found-latest s lt I c j v ph p lc)))
+      (λ room cl. wrote ph lc _ (found-latest s lt (enters s lt I c ph p room lc cl) c (recordOf σ s .count) (enter-phase s lt I c ph p room) (enter-slot s lt I c ph p room) lc v)))
+      (λ j p. wrote ph lc _ (found-latest s lt I c j ph p lc v)))
       (λ _. refused 4 refl (Write s c v)))
       (λ _. refused 8 refl (Write s c v)))
     where
       wrote : recordOf σ s .phase ≡ 1 → c < length start → (f : ℕ) → f ≡ latest start (T .commits) c → Serially start T z (withFound f (event (Write s c v) Done))
       wrote ph lc f e = let r = runs I s ph in answered (Write s c v) Done refl refl (tt, tt) (follows-tick (follows-write G s (r .live) c v f lc (r .open′) e))
+
+  hold-fine : (s c : ℕ) → Fine (Hold s c) (planOf (Hold s c) σ)
+  unfolding planOf plan holdSlot answer after observe tells ending serialStep slot
+  hold-fine s c =
+      on-cell (Fine (Hold s c)) (λ r small. refused r small (Hold s c)) s c (holdSlot (logOf σ s) (recordOf σ s) (lockAt (σ .lent .locks) c) c (slotIn (logOf σ s) (recordOf σ s .count) c))
+      (λ lt ph lc.
+      let a = alone s (runs I s ph .live) in
+      choose (Fine (Hold s c)) (holdSlot (logOf σ s) (recordOf σ s) (lockAt (σ .lent .locks) c) c) (slot σ s c)
+      (λ p. on-new (Fine (Hold s c)) (refused 5 refl (Hold s c)) s c (EnterMark c) ph lc p
+      (λ room cl. held ph lc (getD (σ .lent .values) c 0) _ (reads-store I s a c lc ph p)
+      (held-latest s lt (enters s lt I c ph p room lc cl) c (recordOf σ s .count) (enter-phase s lt I c ph p room) (enter-slot s lt I c ph p room) lc)))
+      (λ j p. held ph lc (entryAt (logOf σ s) j .current) _ (reads-entry I s a c lc ph (entryAt (logOf σ s) j) (slot-some σ s c p)) (held-latest s lt I c j ph p lc)))
+    where
+      held : recordOf σ s .phase ≡ 1 → c < length start → (v f : ℕ) → v ≡ overlay (T .mine s) (latest start (T .commits)) c → f ≡ latest start (T .commits) c
+          → Serially start T z (withFound f (event (Hold s c) (Value v)))
+      held ph lc v f e g =
+          let r = runs I s ph in
+          answered (Hold s c) (Value v) refl refl (e ∙ sym (F .works s (r .live) .draft (r .open′) c lc), tt)
+          (follows-tick (follows-hold G s (r .live) c v f (r .open′) (holds-value I s (alone s (r .live)) c lc ph f g)))
 
   seal-fine : (s : ℕ) → Fine (Seal s) (planOf (Seal s) σ)
   unfolding planOf plan sealTarget answer observe tells ending serialStep target
@@ -254,6 +279,7 @@ module _ {start : List ℕ} {σ : Store} {T : Ledger} {z : Serial} (I : Inv star
   serially-call (Advance s) b = advance-fine s
   serially-call (Abandon s) b = abandon-fine s
   serially-call (Peek s c) b = quiet (Peek s c) _ (peeks σ s c)
+  serially-call (Hold s c) b = hold-fine s c
 
 -- ---- the actions
 

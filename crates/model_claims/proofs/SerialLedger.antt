@@ -3,7 +3,7 @@
 use Prim.Native.Nat.{ℕ, _<_}
 use native.Mathlib.Omega.{arith}
 use mathlib.Core.Path.{_≡_, refl, sym, _∙_, ap}
-use mathlib.Core.Bool.{true, false, cond, not, _&&_}
+use mathlib.Core.Bool.{Bool, true, false, cond, not, _&&_, _||_}
 use mathlib.Core.List.{List, _∷_}
 use lib.Dec.{eqb}
 use lib.ListN.{length, getD, set, length-set}
@@ -11,9 +11,13 @@ use lib.Seq.{getD-set-same, getD-set-other}
 use borrow.Author.Tests.{eqb-true, not-true}
 use Rattle.model.specs.Serial.{Serial}
 use Rattle.model.proofs.Invariant.{latest}
-use Rattle.model.proofs.Ledger.{Txn, opened, closed, wroteTo, Commit, Ledger, tick, calm, asCommit, amend, starts}
+use Rattle.model.proofs.Ledger.{Txn, opened, closed, saw, wroteTo, holdsTo, Commit, Ledger, tick, calm, asCommit, amend, starts}
 use Rattle.model.proofs.Roles.{flip}
 use Rattle.model.proofs.Tools.{same, split, test, clash, both-l, both-r, upd, upd-same, upd-other}
+
+or-true : (a : Bool) → (a || true) ≡ true
+or-true true = refl
+or-true false = refl
 
 -- values under what a transaction wrote
 abbrev pub overlay : Txn → (ℕ → ℕ) → ℕ → ℕ
@@ -139,14 +143,38 @@ module _ {start : List ℕ} {T : Ledger} {z : Serial} (F : Follows start T z) wh
         record {
           values = λ _. W .values d;
           draft = λ _ e le. same e c
-              (λ q. rw (q, upd-same (T .mine s .wrote) c (not (eqb v f)), upd-same (T .mine s .value) c v)
-              (getD-set-same (z .draft) c v 0 (omega (arith, F .lengths .1)) ∙ test (eqb v f) (λ y. rw y (eqb-true v f y ∙ found)) (λ y. rw y)))
-              (λ n. rw (upd-other (T .mine s .wrote) c (not (eqb v f)) e n, upd-other (T .mine s .value) c v e n) (getD-set-other (z .draft) c e v 0 n ∙ W .draft d e le));
+              (λ q. rw (q, upd-same (T .mine s .wrote) c w, upd-same (T .mine s .value) c v)
+              (getD-set-same (z .draft) c v 0 (omega (arith, F .lengths .1)) ∙ test w (λ y. rw y) (λ y. rw y (unwritten y))))
+              (λ n. rw (upd-other (T .mine s .wrote) c w e n, upd-other (T .mine s .value) c v e n) (getD-set-other (z .draft) c e v 0 n ∙ W .draft d e le));
           committed = λ e. absurd (clash (T .mine s .done) e d);
         }))
       where
         W : Works start (T .commits) (T .mine s) z
         W = F .works s l
+
+        w : Bool
+        w = T .mine s .held c || not (eqb v f)
+
+        unwritten : w ≡ false → v ≡ latest start (T .commits) c
+        unwritten y = test (eqb v f) (λ q. eqb-true v f q ∙ found) (λ q. absurd (clash (T .mine s .held c || not (eqb v f)) (rw q (or-true (T .mine s .held c))) y))
+
+    -- it holds a cell: the draft stays, where what counts is what it has there
+    pub follows-hold : (c v f : ℕ) → T .mine s .done ≡ false
+        → cond (T .mine s .dirtied c) (T .mine s .value c) f ≡ overlay (T .mine s) (latest start (T .commits)) c
+        → Follows start (amend s (λ t. saw c v (holdsTo c f t)) T) z
+    follows-hold c v f d has =
+        amended (λ t. saw c v (holdsTo c f t)) z (F .lengths) (λ e. absurd (clash (T .mine s .live) l e))
+        (λ _.
+        split (λ (ks : List Commit). Works start ks (saw c v (holdsTo c f (T .mine s))) z)
+        (T .mine s .done && not (T .mine s .done)) (λ y. absurd (clash (T .mine s .done) (both-l (T .mine s .done) (not (T .mine s .done)) y) d))
+        (λ _.
+        record {
+          values = λ _. F .works s l .values d;
+          draft = λ _ e le. same e c
+              (λ q. rw (q, upd-same (T .mine s .wrote) c true, upd-same (T .mine s .value) c (cond (T .mine s .dirtied c) (T .mine s .value c) f), has) (rw q at (F .works s l .draft d e le)))
+              (λ n. rw (upd-other (T .mine s .wrote) c true e n, upd-other (T .mine s .value) c (cond (T .mine s .dirtied c) (T .mine s .value c) f) e n) (F .works s l .draft d e le));
+          committed = λ e. absurd (clash (T .mine s .done) e d);
+        }))
 
 -- it is sealed with nothing written and ends committed: the values are the draft
 pub follows-rest : {start : List ℕ} {T : Ledger} {z : Serial} → Follows start T z → (s : ℕ) → T .mine s .live ≡ true → (f : Txn → Txn) → let t = T .mine s in

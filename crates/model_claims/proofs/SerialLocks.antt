@@ -3,11 +3,11 @@
 use Prim.Native.Nat.{ℕ, zero, suc, _<_}
 use mathlib.Core.Path.{_≡_, refl, sym, _∙_, ap, subst}
 use mathlib.Core.Logic.{_⊎_, inl, inr}
-use mathlib.Core.Bool.{true, false}
+use mathlib.Core.Bool.{true, false, cond}
 use mathlib.Core.Option.{none, some}
 use mathlib.Core.List.{List}
 use lib.ListN.{length, getD}
-use Rattle.model.specs.Buffers.{Store, Entry, slotIn, publishes, isPublished, currentOf, lockAt}
+use Rattle.model.specs.Buffers.{Store, Entry, slotIn, isDirty, publishes, isPublished, currentOf, lockAt}
 use Rattle.model.specs.Readers.{otherReaders}
 use Rattle.model.specs.Effects.{recordOf}
 use Rattle.model.proofs.Effects.{unknown, idle-out, running-role, slot-none}
@@ -17,8 +17,8 @@ use Rattle.model.proofs.Preservation.{runs}
 use Rattle.model.proofs.Roles.{out, holds, pends, claims?}
 use Rattle.model_claims.proofs.SerialLedger.{overlay}
 use Rattle.model.proofs.Sets.{alone-others}
-use Rattle.model.proofs.Tools.{same, test, clash}
-use Rattle.model.proofs.View.{slot, look, published-dirty, unpublished-found}
+use Rattle.model.proofs.Tools.{same, test, which, clash}
+use Rattle.model.proofs.View.{slot, look, published-marked, unpublished-found}
 
 -- ---- who is nothing to a cell
 
@@ -85,5 +85,16 @@ module _ {start : List ℕ} {σ : Store} {T : Ledger} (I : Inv start σ T) where
       pub reads-entry : (e : Entry) → look σ s c ≡ some e → e .current ≡ overlay (T .mine s) (latest start (T .commits)) c
       reads-entry e p =
           test (publishes e)
-          (λ w. let q : isPublished (look σ s c) ≡ true = ap isPublished p ∙ w in rw (run .wrote c ∙ q) (sym (run .value c (published-dirty (look σ s c) q) ∙ ap currentOf p)))
+          (λ w. let q : isPublished (look σ s c) ≡ true = ap isPublished p ∙ w in rw (run .wrote c ∙ q) (sym (run .value c (published-marked (look σ s c) q) ∙ ap currentOf p)))
           (λ w. rw (run .wrote c ∙ ap isPublished p ∙ w) (unpublished e p w ∙ I .valued c lc .fresh s (e .snapshot) (running-role σ s c e ph p)))
+
+      -- the value with which a held cell counts is what is read of it
+      pub holds-value : (f : ℕ) → f ≡ latest start (T .commits) c
+          → cond (T .mine s .dirtied c) (T .mine s .value c) f ≡ overlay (T .mine s) (latest start (T .commits)) c
+      holds-value f found =
+          which (look σ s c)
+          (λ p. rw (run .dirtied c, run .wrote c, p) found)
+          (λ e p.
+          test (e .dirty)
+          (λ d. rw (run .dirtied c ∙ ap isDirty p ∙ d) (run .value c (rw (p, d)) ∙ ap currentOf p ∙ reads-entry e p))
+          (λ d. rw (run .dirtied c ∙ ap isDirty p ∙ d) (found ∙ sym (I .valued c lc .fresh s (e .snapshot) (running-role σ s c e ph p)) ∙ sym (run .clean c e p d) ∙ reads-entry e p)))

@@ -1,28 +1,26 @@
--- What the calls on three slices cite: which part of a change each call's turn can hand back, and that what a read or a write decides with the lock looked up for it
+-- What the calls on three slices cite: which part of a change each call's turn can hand back, and that what a read, a hold or a write decides with the lock looked up for it
 -- is its plan.
 use mathlib.Core.Path.{_≡_, refl, sym, ap, _∙_}
-use mathlib.Core.Bool.{Bool, false, cond, not, _&&_, _||_}
+use mathlib.Core.Bool.{Bool, false, not, _&&_}
 use mathlib.Core.Option.{Option, none, some}
 use mathlib.Core.List.{List}
-use Prim.Native.Nat.{ℕ, _+_, _*_, _%_, _<_, _≤_}
+use Prim.Native.Nat.{ℕ, _<_, _≤_}
 use lib.Dec.{T, eqb}
-use lib.ListN.{length, getD, set}
-use Rattle.model.specs.Buffers.{Locks, Buffers, free, idle, sessionAt, withSession, logIn, entryAt, targetIn, lockAt, lengthsMatch}
+use lib.ListN.{length}
+use Rattle.model.specs.Buffers.{Locks, Buffers, free, logIn, entryAt, targetIn, lockAt, lengthsMatch}
 use Rattle.model.specs.Readers.{otherReaders}
-use Rattle.model.specs.Plans.{guard, claimed, promotePlan, sealTarget, sealPlan, readPlan, writePlan, plan}
-use Rattle.model.specs.Step.{outcome, effect, sessionOf, TakesRecord}
+use Rattle.model.specs.Plans.{guard, claimed, promotePlan, sealTarget, sealPlan, readPlan, holdPlan, writePlan, plan}
+use Rattle.model.specs.Step.{sessionOf, TakesRecord}
 use Rattle.model.specs.Turns.{TurnEffect, leaves, turnOf, changed}
 use Rattle.model.specs.declared.Session.{Session}
 use Rattle.model.specs.declared.Lock.{Lock}
-use Rattle.model.specs.declared.Sessions.{Sessions}
 use Rattle.model.specs.declared.Call.{Call}
 use Rattle.model.specs.declared.Call.the-variants.{Advance}
-use Rattle.model.specs.declared.Answer.{Answer}
 use Rattle.model.specs.declared.Answer.the-variants as say
 use Rattle.model.specs.declared.SessionReply.{SessionReply}
 use Rattle.model.specs.declared.Turn.{Turn}
 use Rattle.model.specs.declared.Plan.{Plan}
-use Rattle.model.specs.declared.Plan.the-variants.{Refuse, Tell, Enter, Update, EnterUpdate, Cancel}
+use Rattle.model.specs.declared.Plan.the-variants.{Refuse, Tell, Enter, Update, EnterUpdate, Mark, EnterMark, Cancel}
 use Rattle.model.specs.declared.Change.{Change}
 use Rattle.model.specs.declared.Change.the-variants.{Keep}
 use Rattle.model.proofs.Tools.{split}
@@ -33,7 +31,7 @@ use Rattle.calls.specs.Pieces.{admission, dueOn, dueCell, advanceOn, duePlan}
 use Rattle.calls.specs.declared.Due.{Due}
 use Rattle.calls.specs.declared.Due.the-variants.{Refused, Slot}
 use Rattle.calls.proofs.Agree.{advance-agree}
-use Rattle.calls.proofs.Choices.{Choice, refuses, knows, enters, read-choice, write-choice, when-told}
+use Rattle.calls.proofs.Choices.{Choice, refuses, knows, enters, read-choice, hold-choice, write-choice, when-told}
 use Rattle.turns.specs.InLogs.{inLogs}
 use Rattle.turns.proofs.Lengths.{Admitted, refused-by}
 use Rattle.turns.proofs.Guards.{guarded}
@@ -65,7 +63,7 @@ module _ (n : ℕ) (log : List ℕ) (x : Session) (vs : List ℕ) where
   seal-drops =
       behind (λ d. (oneOf d ≡ Keep) × (withdrawOf d ≡ Keep)) (unfold oneOf withdrawOf in (refl, refl)) (eqb (x .phase) 1) (sealTarget (targetIn log (x .count) 0)) (sealed (targetIn log (x .count) 0))
 
-  -- read, write and advance drop no reads
+  -- read, hold, write and advance drop no reads
   chosen : (l : Lock) (c : ℕ) (known : ℕ → Plan) (new p q : Plan) → ((k : ℕ) → dropOf (changeOf (known k)) ≡ Keep) → dropOf (changeOf new) ≡ Keep
       → Choice n log x l c known new p q → dropOf (changeOf q) ≡ Keep
   unfolding turnOf dropOf
@@ -76,6 +74,10 @@ module _ (n : ℕ) (log : List ℕ) (x : Session) (vs : List ℕ) where
   pub read-drops-none : (l : Lock) (c : ℕ) → dropOf (changeOf (readPlan n log x l c)) ≡ Keep
   unfolding turnOf dropOf
   read-drops-none l c = chosen l c (λ k. Tell (entryAt log k .current)) (Enter c) _ _ (λ k. refl) refl (read-choice n log x l c)
+
+  pub hold-drops-none : (l : Lock) (c : ℕ) → dropOf (changeOf (holdPlan n log x l c)) ≡ Keep
+  unfolding turnOf dropOf
+  hold-drops-none l c = chosen l c (λ k. Mark k (entryAt log k .current)) (EnterMark c) _ _ (λ k. refl) refl (hold-choice n log x l c)
 
   pub write-drops-none : (l : Lock) (c v : ℕ) (ks : List ℕ) → dropOf (changeOf (writePlan ks n log x l c v)) ≡ Keep
   unfolding turnOf dropOf
@@ -123,6 +125,11 @@ module _ (n : ℕ) (log : List ℕ) (x : Session) (c : ℕ) (L : Locks) (l : Loc
   read-planned p e f =
       at-lock (read-choice n log x l c) (read-choice n log x (lockAt L c) c) (λ a. tt) (λ j. tt) (λ h. f .enters c (e ∙ h))
       (λ h. ap (λ (k : Lock). readPlan n log x k c) h)
+
+  pub hold-planned : (p : Plan) → p ≡ holdPlan n log x free c → LockFor p L l → holdPlan n log x l c ≡ holdPlan n log x (lockAt L c) c
+  hold-planned p e f =
+      at-lock (hold-choice n log x l c) (hold-choice n log x (lockAt L c) c) (λ a. tt) (λ j. tt) (λ h. f .marks c (e ∙ h))
+      (λ h. ap (λ (k : Lock). holdPlan n log x k c) h)
 
   pub write-planned : (ks : List ℕ) (v : ℕ) (p : Plan) → p ≡ writePlan ks n log x free c v → LockFor p L l
       → writePlan ks n log x l c v ≡ writePlan ks n log x (lockAt L c) c v

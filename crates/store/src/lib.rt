@@ -4,7 +4,7 @@
 ghost use mathlib.Core.Path.{_≡_};
 ghost use lib.ListN.{length, replicate};
 ghost use Rattle.model.specs.declared.Answer.the-variants.{Refused};
-ghost use Rattle.model.specs.declared.Call.the-variants.{Begin, Read, Write, Seal, Advance, Abandon, Peek};
+ghost use Rattle.model.specs.declared.Call.the-variants.{Begin, Read, Write, Seal, Advance, Abandon, Peek, Hold};
 ghost use Rattle.store.specs.Lent.{TakesOne, SetsUp, PeekPlans, HandsBack};
 use model::Answer;
 use model::Plan;
@@ -153,6 +153,46 @@ pub fn read(
     let p = calls::read_plan(log::of_session(&logs[..], session), n, x, cell);
     let l = locks::lock_for(&readers[..], &claimants[..], &exclusives[..], p);
     let t = turns::read(values, logs, x, l, session, cell, p);
+    let change = t.change;
+    let count = x.count as usize;
+    locks::carry_out(
+        change,
+        log::of_session(&logs[..], session),
+        count,
+        readers,
+        claimants,
+        exclusives,
+        session,
+    );
+    replied(t)
+}
+
+// Hold: running only. As read, and with 101 the cell's entry is held: from the seal on the cell counts as written.
+pub fn hold(
+    x: Session,
+    values: &[u32],
+    classes: &[u8],
+    readers: &mut [u16],
+    claimants: &mut [u8],
+    exclusives: &mut [u8],
+    logs: &mut [u32],
+    session: u8,
+    cell: u32,
+) -> SessionReply
+    ensures { λ r. ⌜ TakesOne (Hold session cell) values classes readers claimants exclusives logs x r ⌝ }
+{
+    let n = values.len();
+    let k = classes.len();
+    let r = readers.len();
+    let c = claimants.len();
+    let m = exclusives.len();
+    let w = logs.len();
+    if !calls::admits(n, k, r, c, m, w, session) {
+        return refused(calls::admit(n, k, r, c, m, w, session), x);
+    }
+    let p = calls::hold_plan(log::of_session(&logs[..], session), n, x, cell);
+    let l = locks::lock_for(&readers[..], &claimants[..], &exclusives[..], p);
+    let t = turns::hold(values, logs, x, l, session, cell, p);
     let change = t.change;
     let count = x.count as usize;
     locks::carry_out(

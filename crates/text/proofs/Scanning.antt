@@ -76,6 +76,7 @@ module _ (bytes : List ℕ) (place : ℕ) where
   by-kind kind.Advance x n h = h
   by-kind kind.Abandon x n h = h
   by-kind kind.StartingCell x n h = h
+  by-kind kind.Hold x n h = h
 
   by-reading : (r : Reading) → readingAt bytes place ≡ r → Advances bytes place (nextOf r)
   unfolding nextOf

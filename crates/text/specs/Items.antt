@@ -23,6 +23,7 @@ nextOfField kind.Seal x n = next.Call (call.Seal (x .session)) n
 nextOfField kind.Advance x n = next.Call (call.Advance (x .session)) n
 nextOfField kind.Abandon x n = next.Call (call.Abandon (x .session)) n
 nextOfField kind.StartingCell x n = next.Cell (x .class) (x .value) n
+nextOfField kind.Hold x n = next.Call (call.Hold (x .session) (x .cell)) n
 
 unfoldable pub nextOf : Reading → Next
 nextOf (reading.Field k x n) = nextOfField k x n

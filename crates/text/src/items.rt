@@ -44,6 +44,10 @@ fn next_of(kind: Kind, numbers: field::Call, length: usize) -> Next
             value: numbers.value,
             length,
         },
+        Kind::Hold => Next::Call {
+            call: Call::Hold(session, cell),
+            length,
+        },
     }
 }
 

@@ -1,5 +1,5 @@
--- Worked inputs with what the replay prints, byte by byte (document 01, "Call fields"). A new row is written here and nowhere else: that the definitions
--- print it is found by computation (proofs/Worked.antt: worked-print).
+-- Worked inputs with what the replay prints, byte by byte (document 01, "Call fields"; holds: document 02, Paper 4). A new row is written here and nowhere
+-- else: that the definitions print it is found by computation (proofs/Worked.antt: worked-print).
 use Prim.Native.Nat.{ℕ}
 use mathlib.Core.List.{List, [], _∷_}
 use lib.ListN.{replicate}
@@ -86,6 +86,86 @@ worked =
           ∷ 51 ∷ 32 ∷ 49 ∷ 48 ∷ 49 ∷ 32 ∷ 53 ∷ 49 ∷ 51 ∷ 10
           ∷ 99 ∷ 32 ∷ 48 ∷ 32 ∷ 48 ∷ 10
           ∷ 99 ∷ 32 ∷ 49 ∷ 32 ∷ 53 ∷ 49 ∷ 51 ∷ 10 ∷ [];
+    }
+    -- holds: two sessions hold what they read and write the other's cell, crosswise. One is rolled back; the cell that the other holds is promoted, published
+    -- and released as a changed one is, with the value found
+    ∷ record {
+      input =
+          8 ∷ 5 ∷ 0 ∷ 2 ∷ 3 ∷ 0 ∷ 0 ∷ 0
+          ∷ 8 ∷ 5 ∷ 0 ∷ 2 ∷ 5 ∷ 0 ∷ 0 ∷ 0
+          ∷ 1 ∷ 1 ∷ 0 ∷ 0
+          ∷ 1 ∷ 1 ∷ 0 ∷ 1
+          ∷ 9 ∷ 3 ∷ 0 ∷ 0 ∷ 0 ∷ 0
+          ∷ 9 ∷ 3 ∷ 0 ∷ 1 ∷ 1 ∷ 0
+          ∷ 3 ∷ 7 ∷ 0 ∷ 0 ∷ 1 ∷ 0 ∷ 4 ∷ 0 ∷ 0 ∷ 0
+          ∷ 3 ∷ 7 ∷ 0 ∷ 1 ∷ 0 ∷ 0 ∷ 4 ∷ 0 ∷ 0 ∷ 0
+          ∷ 4 ∷ 1 ∷ 0 ∷ 0
+          ∷ 4 ∷ 1 ∷ 0 ∷ 1
+          ∷ 5 ∷ 1 ∷ 0 ∷ 0
+          ∷ 5 ∷ 1 ∷ 0 ∷ 1
+          ∷ 5 ∷ 1 ∷ 0 ∷ 0
+          ∷ 5 ∷ 1 ∷ 0 ∷ 0
+          ∷ 5 ∷ 1 ∷ 0 ∷ 0
+          ∷ 5 ∷ 1 ∷ 0 ∷ 0
+          ∷ 5 ∷ 1 ∷ 0 ∷ 0
+          ∷ 5 ∷ 1 ∷ 0 ∷ 0 ∷ [];
+      output =
+          49 ∷ 32 ∷ 49 ∷ 48 ∷ 48 ∷ 10
+          ∷ 50 ∷ 32 ∷ 49 ∷ 48 ∷ 48 ∷ 10
+          ∷ 51 ∷ 32 ∷ 49 ∷ 48 ∷ 49 ∷ 32 ∷ 51 ∷ 10
+          ∷ 52 ∷ 32 ∷ 49 ∷ 48 ∷ 49 ∷ 32 ∷ 53 ∷ 10
+          ∷ 53 ∷ 32 ∷ 49 ∷ 48 ∷ 48 ∷ 10
+          ∷ 54 ∷ 32 ∷ 49 ∷ 48 ∷ 48 ∷ 10
+          ∷ 55 ∷ 32 ∷ 49 ∷ 48 ∷ 50 ∷ 10
+          ∷ 56 ∷ 32 ∷ 49 ∷ 48 ∷ 50 ∷ 10
+          ∷ 57 ∷ 32 ∷ 49 ∷ 48 ∷ 52 ∷ 10
+          ∷ 49 ∷ 48 ∷ 32 ∷ 54 ∷ 10
+          ∷ 49 ∷ 49 ∷ 32 ∷ 49 ∷ 48 ∷ 51 ∷ 10
+          ∷ 49 ∷ 50 ∷ 32 ∷ 49 ∷ 48 ∷ 51 ∷ 10
+          ∷ 49 ∷ 51 ∷ 32 ∷ 49 ∷ 48 ∷ 51 ∷ 10
+          ∷ 49 ∷ 52 ∷ 32 ∷ 49 ∷ 48 ∷ 51 ∷ 10
+          ∷ 49 ∷ 53 ∷ 32 ∷ 49 ∷ 48 ∷ 51 ∷ 10
+          ∷ 49 ∷ 54 ∷ 32 ∷ 49 ∷ 48 ∷ 53 ∷ 10
+          ∷ 99 ∷ 32 ∷ 48 ∷ 32 ∷ 51 ∷ 10
+          ∷ 99 ∷ 32 ∷ 49 ∷ 32 ∷ 52 ∷ 10 ∷ [];
+    }
+    -- holds refused as reads are: an idle session's (2), a cell not below n (3), a session above 15 (1), a claimed lock (6). A held cell counts with the value
+    -- found written back too: 102. Last a hold whose length is not the tag's own
+    ∷ record {
+      input =
+          8 ∷ 5 ∷ 0 ∷ 2 ∷ 3 ∷ 0 ∷ 0 ∷ 0
+          ∷ 9 ∷ 3 ∷ 0 ∷ 0 ∷ 0 ∷ 0
+          ∷ 1 ∷ 1 ∷ 0 ∷ 0
+          ∷ 9 ∷ 3 ∷ 0 ∷ 0 ∷ 1 ∷ 0
+          ∷ 9 ∷ 3 ∷ 0 ∷ 16 ∷ 0 ∷ 0
+          ∷ 9 ∷ 3 ∷ 0 ∷ 0 ∷ 0 ∷ 0
+          ∷ 3 ∷ 7 ∷ 0 ∷ 0 ∷ 0 ∷ 0 ∷ 4 ∷ 0 ∷ 0 ∷ 0
+          ∷ 9 ∷ 3 ∷ 0 ∷ 0 ∷ 0 ∷ 0
+          ∷ 3 ∷ 7 ∷ 0 ∷ 0 ∷ 0 ∷ 0 ∷ 3 ∷ 0 ∷ 0 ∷ 0
+          ∷ 4 ∷ 1 ∷ 0 ∷ 0
+          ∷ 1 ∷ 1 ∷ 0 ∷ 1
+          ∷ 5 ∷ 1 ∷ 0 ∷ 0
+          ∷ 9 ∷ 3 ∷ 0 ∷ 1 ∷ 0 ∷ 0
+          ∷ 5 ∷ 1 ∷ 0 ∷ 0
+          ∷ 5 ∷ 1 ∷ 0 ∷ 0
+          ∷ 9 ∷ 4 ∷ 0 ∷ 0 ∷ 0 ∷ 0 ∷ 0 ∷ [];
+      output =
+          49 ∷ 32 ∷ 50 ∷ 10
+          ∷ 50 ∷ 32 ∷ 49 ∷ 48 ∷ 48 ∷ 10
+          ∷ 51 ∷ 32 ∷ 51 ∷ 10
+          ∷ 52 ∷ 32 ∷ 49 ∷ 10
+          ∷ 53 ∷ 32 ∷ 49 ∷ 48 ∷ 49 ∷ 32 ∷ 51 ∷ 10
+          ∷ 54 ∷ 32 ∷ 49 ∷ 48 ∷ 48 ∷ 10
+          ∷ 55 ∷ 32 ∷ 49 ∷ 48 ∷ 49 ∷ 32 ∷ 52 ∷ 10
+          ∷ 56 ∷ 32 ∷ 49 ∷ 48 ∷ 48 ∷ 10
+          ∷ 57 ∷ 32 ∷ 49 ∷ 48 ∷ 50 ∷ 10
+          ∷ 49 ∷ 48 ∷ 32 ∷ 49 ∷ 48 ∷ 48 ∷ 10
+          ∷ 49 ∷ 49 ∷ 32 ∷ 49 ∷ 48 ∷ 51 ∷ 10
+          ∷ 49 ∷ 50 ∷ 32 ∷ 54 ∷ 10
+          ∷ 49 ∷ 51 ∷ 32 ∷ 49 ∷ 48 ∷ 51 ∷ 10
+          ∷ 49 ∷ 52 ∷ 32 ∷ 49 ∷ 48 ∷ 53 ∷ 10
+          ∷ 102 ∷ 105 ∷ 101 ∷ 108 ∷ 100 ∷ 32 ∷ 56 ∷ 56 ∷ 32 ∷ 49 ∷ 50 ∷ 10
+          ∷ 99 ∷ 32 ∷ 48 ∷ 32 ∷ 51 ∷ 10 ∷ [];
     }
     -- refused calls: a second begin (2), a cell not below n (3), a value above its cap (4), a session above 15 (1)
     ∷ record {

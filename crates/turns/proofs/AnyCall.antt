@@ -7,7 +7,7 @@ use Rattle.model.specs.Turns.{TurnEffect, turnOf}
 use Rattle.model.specs.declared.Session.{Session}
 use Rattle.model.specs.declared.Lock.{Lock}
 use Rattle.model.specs.declared.Call.{Call}
-use Rattle.model.specs.declared.Call.the-variants.{Begin, Read, Write, Seal, Advance, Abandon, Peek}
+use Rattle.model.specs.declared.Call.the-variants.{Begin, Read, Write, Seal, Advance, Abandon, Peek, Hold}
 use Rattle.calls.specs.Pieces.{dueOn, duePlan}
 use Rattle.calls.specs.declared.Due.{Due}
 use Rattle.calls.proofs.Agree.{advance-agree}
@@ -23,6 +23,7 @@ one-lock (Seal s) n ks log x f = refl
 one-lock (Advance s) n ks log x f = sym (advance-agree n s ks log x (λ c. f (cellFor (Advance s) n log x))) ∙ advance-agree n s ks log x f
 one-lock (Abandon s) n ks log x f = refl
 one-lock (Peek s c) n ks log x f = refl
+one-lock (Hold s c) n ks log x f = refl
 
 -- an advance decides by that of the entry that is due
 pub advances : (n s : ℕ) (vs ks log : List ℕ) (x : Session) (l : Lock) (d : Due) → d ≡ dueOn n log x → {t : TurnEffect} → t ≡ turnOf (duePlan s log x l d) vs log x

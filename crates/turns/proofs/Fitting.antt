@@ -17,7 +17,7 @@ use Rattle.model.specs.declared.Lock.{Lock}
 use Rattle.model.specs.declared.Call.{Call}
 use Rattle.model.specs.declared.Call.the-variants as call
 use Rattle.model.specs.declared.Plan.{Plan}
-use Rattle.model.specs.declared.Plan.the-variants.{Refuse, Start, Tell, Enter, Update, EnterUpdate, RollBack, Cancel, CommitReads, BeginPromotion, Wait, Acquire, Publish, Release, ShowStore, ShowLog}
+use Rattle.model.specs.declared.Plan.the-variants.{Refuse, Start, Tell, Enter, Update, EnterUpdate, Mark, EnterMark, RollBack, Cancel, CommitReads, BeginPromotion, Wait, Acquire, Publish, Release, ShowStore, ShowLog}
 use Rattle.model.proofs.Tools.{split, test}
 use Rattle.locks.specs.Sweeps.{Swept}
 use Rattle.locks.specs.Changes.{ChangeFits}
@@ -27,7 +27,7 @@ use Rattle.calls.specs.declared.Due.the-variants.{Refused, Slot}
 use Rattle.model.proofs.Passing.{Entries, record-entries}
 use Rattle.turns.proofs.Guards.{guarded}
 use Rattle.calls.proofs.Agree.{Advancing, due-known, advance-agree}
-use Rattle.calls.proofs.Choices.{Choice, refuses, knows, enters, read-choice, write-choice}
+use Rattle.calls.proofs.Choices.{Choice, refuses, knows, enters, read-choice, hold-choice, write-choice}
 
 -- what a plan asks of the session's log and record, of n cells
 unfoldable PlanFits : ℕ → List ℕ → Session → Plan → Type 0
@@ -37,6 +37,8 @@ PlanFits n log x (Tell v) = Unit
 PlanFits n log x (Enter c) = c < n
 PlanFits n log x (Update k v) = Unit
 PlanFits n log x (EnterUpdate c v) = c < n
+PlanFits n log x (Mark k v) = Unit
+PlanFits n log x (EnterMark c) = c < n
 PlanFits n log x RollBack = Entries n log x
 PlanFits n log x Cancel = Entries n log x
 PlanFits n log x CommitReads = Entries n log x
@@ -49,7 +51,7 @@ PlanFits n log x (ShowStore c) = Unit
 PlanFits n log x (ShowLog k) = Unit
 
 module _ (n : ℕ) (log : List ℕ) (x : Session) where
-  -- ---- read and write
+  -- ---- read, hold and write
 
   choice-fits : (l : Lock) (c : ℕ) (known : ℕ → Plan) (new p q : Plan) → ((k : ℕ) → PlanFits n log x (known k)) → (c < n → PlanFits n log x new)
       → Choice n log x l c known new p q → PlanFits n log x q
@@ -108,6 +110,9 @@ module _ (n : ℕ) (log : List ℕ) (x : Session) where
       tested (eqb (x .phase) 1 || eqb (x .phase) 2) Cancel
       (λ t u. unfold PlanFits in test (eqb (x .phase) 1) (λ i. entered t 1 i (omega arith)) (λ i. entered t 2 (rw i at u) (omega arith)))
   plan-fits ks lock (call.Peek s c) = unfold plan peekPlan in tested (eqb (x .phase) 1) _ (λ t u. peeked c (slotIn log (x .count) c))
+  plan-fits ks lock (call.Hold s c) =
+      unfold plan PlanFits in
+      choice-fits (lock c) c (λ k. Mark k (entryAt log k .current)) (EnterMark c) _ _ (λ k. tt) (λ i. i) (hold-choice n log x (lock c) c)
 
   -- ---- the change of the locks
 
@@ -123,6 +128,8 @@ module _ (n : ℕ) (log : List ℕ) (x : Session) where
     change-fits (Enter c) f = f
     change-fits (Update k v) f = tt
     change-fits (EnterUpdate c v) f = f
+    change-fits (Mark k v) f = tt
+    change-fits (EnterMark c) f = f
     change-fits RollBack f = swept f
     change-fits Cancel f = swept f
     change-fits CommitReads f = (swept f, few)

@@ -1,15 +1,15 @@
 -- A turn of a session's log is one of the logs: where the log was lent on as a part of them, and where it was only read.
 use mathlib.Core.Path.{_≡_, refl, sym, ap, _∙_}
-use mathlib.Core.List.{List, [], _∷_}
+use mathlib.Core.List.{List}
 use Prim.Native.Nat.{ℕ, suc, _+_, _*_, _<_}
 use lib.ListN.{length, getD, set, length-set}
-use Rattle.model.specs.Buffers.{logIn, onLog, appended, updated}
+use Rattle.model.specs.Buffers.{logIn, word, appended, withDirty, withHeld, updated, marked}
 use Rattle.model.specs.Turns.{TurnEffect, leaves, turnOf}
 use Rattle.model.specs.declared.Session.{Session}
 use Rattle.model.specs.declared.Answer.{Answer}
 use Rattle.model.specs.declared.Change.{Change}
 use Rattle.model.specs.declared.Plan.{Plan}
-use Rattle.model.specs.declared.Plan.the-variants.{Refuse, Start, Tell, Enter, Update, EnterUpdate, RollBack, Cancel, CommitReads, BeginPromotion, Wait, Acquire, Publish, Release, ShowStore, ShowLog}
+use Rattle.model.specs.declared.Plan.the-variants.{Refuse, Start, Tell, Enter, Update, EnterUpdate, Mark, EnterMark, RollBack, Cancel, CommitReads, BeginPromotion, Wait, Acquire, Publish, Release, ShowStore, ShowLog}
 use Rattle.model.proofs.Laws.{log-length, log-same, length-on}
 use Rattle.model.proofs.Carried.{same-log, length-appended}
 use Rattle.turns.specs.InLogs.{inLogs}
@@ -17,7 +17,11 @@ use Rattle.turns.proofs.Logs.{cut, puts, cut-is, puts-is}
 
 length-updated : (log : List ℕ) (k v : ℕ) → length (updated log k v) ≡ length log
 unfolding updated
-length-updated log k v = length-set (set log (4 * k + 2) v) (suc (4 * k + 2)) 1 ∙ length-set log (4 * k + 2) v
+length-updated log k v = length-set (set log (4 * k + 2) v) (suc (4 * k + 2)) (withDirty (word log k 3)) ∙ length-set log (4 * k + 2) v
+
+length-marked : (log : List ℕ) (k : ℕ) → length (marked log k) ≡ length log
+unfolding marked
+length-marked log k = length-set log (4 * k + 3) (withHeld (word log k 3))
 
 -- a turn leaves a log as long as it was
 pub turn-length : (p : Plan) (vs log : List ℕ) (x : Session) → length (turnOf p vs log x .log) ≡ length log
@@ -29,6 +33,9 @@ turn-length (Enter c) vs log x = length-appended log (x .count) c (getD vs c 0)
 turn-length (Update k v) vs log x = length-updated log k v
 turn-length (EnterUpdate c v) vs log x =
     length-updated (appended log (x .count) c (getD vs c 0)) (x .count) v ∙ length-appended log (x .count) c (getD vs c 0)
+turn-length (Mark k v) vs log x = length-marked log k
+turn-length (EnterMark c) vs log x =
+    length-marked (appended log (x .count) c (getD vs c 0)) (x .count) ∙ length-appended log (x .count) c (getD vs c 0)
 turn-length RollBack vs log x = refl
 turn-length Cancel vs log x = refl
 turn-length CommitReads vs log x = refl

@@ -6,7 +6,7 @@ use Rattle.model.specs.declared.Session.{Session}
 use Rattle.model.specs.declared.Lock.{Lock}
 use Rattle.model.specs.declared.Plan.{Plan}
 use Rattle.model.specs.declared.Call.{Call}
-use Rattle.model.specs.declared.Call.the-variants.{Begin, Read, Write, Seal, Advance, Abandon, Peek}
+use Rattle.model.specs.declared.Call.the-variants.{Begin, Read, Write, Seal, Advance, Abandon, Peek, Hold}
 use Rattle.calls.specs.Pieces.{dueOn, dueCell}
 
 -- by its session's log and record, of n cells; 0 where it needs none
@@ -18,6 +18,7 @@ cellFor (Seal s) n log x = 0
 cellFor (Advance s) n log x = dueCell log (dueOn n log x)
 cellFor (Abandon s) n log x = 0
 cellFor (Peek s c) n log x = 0
+cellFor (Hold s c) n log x = c
 
 abbrev pub planWith : Call → ℕ → List ℕ → List ℕ → Session → Lock → Plan
 planWith k n classes log x l = plan k n classes log x (λ c. l)

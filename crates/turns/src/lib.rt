@@ -5,7 +5,7 @@ ghost use mathlib.Core.Path.{_≡_};
 ghost use Prim.Native.Nat.{_<_, _≤_, _%_};
 ghost use lib.ListN.{length};
 ghost use Rattle.model.specs.Buffers.{free, sessionAt, withSession, logIn};
-ghost use Rattle.model.specs.Plans.{readPlan, writePlan, peekPlan};
+ghost use Rattle.model.specs.Plans.{readPlan, holdPlan, writePlan, peekPlan};
 ghost use Rattle.model.specs.Step.{sessionOf};
 ghost use Rattle.model.specs.Turns.{TakesTurn, TurnsLog};
 ghost use Rattle.turns.specs.AnyCall.{cellFor, planWith};
@@ -38,6 +38,24 @@ pub fn read(
     let a = 128 * (session as usize);
     let e = a + 128;
     calls::take_read(values, &mut logs[a..e], x, l, cell, p)
+}
+
+// Hold.
+pub fn hold(
+    values: &[u32],
+    logs: &mut [u32],
+    x: Session,
+    l: Lock,
+    session: u8,
+    cell: u32,
+    p: Plan,
+) -> Turn
+    requires { ⌜ (session < 16) × (length (now logs) ≡ 2048) × (p ≡ holdPlan (length (now values)) (logIn (now logs) session) x free cell) ⌝ }
+    ensures { λ r. ⌜ TakesIn session (holdPlan (length (now (values .entry))) (logIn (now (logs .entry)) session) x l cell) values logs x r ⌝ }
+{
+    let a = 128 * (session as usize);
+    let e = a + 128;
+    calls::take_hold(values, &mut logs[a..e], x, l, cell, p)
 }
 
 // Write.
@@ -97,6 +115,7 @@ pub fn cell_for(call: Call, log: &[u32], n: usize, x: Session) -> u32
         }
         Call::Abandon(_) => 0,
         Call::Peek(_, _) => 0,
+        Call::Hold(_, c) => c,
     }
 }
 
@@ -150,6 +169,10 @@ fn take_call(
         }
         Call::Abandon(_) => calls::take_abandon(&log[..], n, x),
         Call::Peek(_, c) => take_peek(&log[..], n, x, c),
+        Call::Hold(_, c) => {
+            let p = calls::hold_plan(&log[..], n, x, c);
+            calls::take_hold(&values[..], log, x, l, c, p)
+        }
     }
 }
 

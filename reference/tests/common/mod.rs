@@ -15,7 +15,7 @@ pub fn store_of(n: usize) -> Buffers {
     store(&vec![(2, 3); n])
 }
 
-/// Session 3 in this phase with these entries (cell, snapshot value, current value, dirty) in a store of three cells.
+/// Session 3 in this phase with these entries (cell, snapshot value, current value, marks) in a store of three cells.
 pub fn entered(phase: u8, entries: &[[u32; 4]]) -> Buffers {
     let mut buffers = store_of(3);
     buffers.sessions[3] = Session { phase, count: entries.len() as u8, next: 0 };
@@ -27,7 +27,7 @@ pub fn entered(phase: u8, entries: &[[u32; 4]]) -> Buffers {
 
 /// Asserts that every call of session 3 but set-up gets this refusal and leaves everything as before.
 pub fn all_refused(buffers: &Buffers, refusal: u32) {
-    for call in [begin(3), read(3, 0), write(3, 0, 1), seal(3), advance(3), abandon(3), peek(3, 0)] {
+    for call in [begin(3), read(3, 0), hold(3, 0), write(3, 0, 1), seal(3), advance(3), abandon(3), peek(3, 0)] {
         let mut after = buffers.clone();
         assert_eq!(after.call(call), number(refusal), "{:?}", call);
         assert_eq!(&after, buffers, "{:?}", call);
@@ -68,6 +68,10 @@ pub fn begin(session: u8) -> Call {
 
 pub fn read(session: u8, cell: u32) -> Call {
     Call::Read { session, cell }
+}
+
+pub fn hold(session: u8, cell: u32) -> Call {
+    Call::Hold { session, cell }
 }
 
 pub fn write(session: u8, cell: u32, value: u32) -> Call {

@@ -4,7 +4,7 @@ use native.Mathlib.Omega.{arith}
 use borrow.Author.Tests.{not-true, not-false}
 use Rattle.model.specs.Plans.{peekPlan}
 use Rattle.log.proofs.Searches.{known-within, unknown-past}
-use Rattle.calls.proofs.Ways.{run-refused, few, room, inside, peek-outside, peek-new, peek-written, peek-read}
+use Rattle.calls.proofs.Ways.{run-refused, few, room, inside, outside, peek-new, peek-written, peek-read}
 use borrow.Author.Needs.{needs}
 use Rattle.calls.proofs.peek_plan.Statement.{statement}
 use Rattle.calls.proofs.peek_plan.Tie as tie
@@ -17,7 +17,8 @@ unfolding peekPlan
 returns c = run-refused _ _ _ _ (c .before .before .runs .ensures) (not-true _ (c .before .if1 .taken)) _ (c .running-refusal .ensures) _
 
 returns-2 : tie.Need-returns-2
-returns-2 c = peek-outside _ _ _ _ (c .before .before .runs .ensures) (not-false _ (c .before .if1 .left)) _ (c .if2 .taken)
+unfolding peekPlan
+returns-2 c = outside _ _ _ _ (c .before .before .runs .ensures) (not-false _ (c .before .if1 .left)) _ _ (c .if2 .taken)
 
 locate-requires : tie.Need-locate-requires
 locate-requires c κs = room _ _ _ _ (c .before .before .runs .ensures) (not-false _ (c .before .if1 .left)) (c .before .before .before .before .before .pre .0)

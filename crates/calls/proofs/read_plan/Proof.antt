@@ -3,7 +3,7 @@ use mathlib.Core.Path.{sym, _∙_}
 use borrow.Author.Tests.{not-true, not-false}
 use Rattle.model.specs.Plans.{readPlan}
 use Rattle.log.proofs.Searches.{known-within, unknown-past}
-use Rattle.calls.proofs.Ways.{run-refused, room, inside, read-outside, read-known, read-new}
+use Rattle.calls.proofs.Ways.{run-refused, room, inside, outside, read-known, read-new}
 use borrow.Author.Needs.{needs}
 use Rattle.calls.proofs.read_plan.Statement.{statement}
 use Rattle.calls.proofs.read_plan.Tie as tie
@@ -16,7 +16,8 @@ unfolding readPlan
 returns c = run-refused _ _ _ _ (c .before .before .runs .ensures) (not-true _ (c .before .if1 .taken)) _ (c .running-refusal .ensures) _
 
 returns-2 : tie.Need-returns-2
-returns-2 c = read-outside _ _ _ _ (c .before .before .runs .ensures) (not-false _ (c .before .if1 .left)) _ _ (c .if2 .taken)
+unfolding readPlan
+returns-2 c = outside _ _ _ _ (c .before .before .runs .ensures) (not-false _ (c .before .if1 .left)) _ _ (c .if2 .taken)
 
 locate-requires : tie.Need-locate-requires
 locate-requires c κs = room _ _ _ _ (c .before .before .runs .ensures) (not-false _ (c .before .if1 .left)) (c .before .before .before .before .before .pre .0)

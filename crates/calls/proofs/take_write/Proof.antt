@@ -4,7 +4,7 @@ use native.Mathlib.Omega.{arith}
 use lib.ListN.{length}
 use Rattle.model.specs.Plans.{writePlan}
 use Rattle.model.specs.declared.Plan.the-variants.{Update, EnterUpdate}
-use Rattle.calls.proofs.Choices.{Choice, write-choice, when-told, when-new, when-known}
+use Rattle.calls.proofs.Choices.{Choice, write-choice, when-told, when-new, when-updated}
 use Rattle.calls.proofs.Turning.{turn-updated, turn-refused, turn-rolled-back, turn-enter-updated}
 use borrow.Author.Needs.{needs}
 use Rattle.calls.proofs.take_write.Statement.{statement}
@@ -15,7 +15,7 @@ chosen : (c : tie.Start) → let a = c .args in Choice (length (a .values .now))
 chosen c = rw (c .pre .2) (write-choice _ _ _ _ _ _ _)
 
 update-requires : tie.Need-update-requires
-update-requires c κs = let h = when-known (chosen (c .before .before .before .before .before .before .before)) _ _ (c .before .before .p .given .1) in omega (arith, h, c .before .before .before .before .before .before .before .pre .0)
+update-requires c κs = let h = when-updated (chosen (c .before .before .before .before .before .before .before)) _ _ (c .before .before .p .given .1) in omega (arith, h, c .before .before .before .before .before .before .before .pre .0)
 
 returns : tie.Need-returns
 returns c = turn-updated _ _ _ _ _ _ _ _ (when-told (chosen (c .before .before .before .before .before .before .before .before .before .before .before)) _ tt (c .before .before .before .before .before .before .p .given .1)) (c .before .before .before .update .ensures) (c .keeps .ensures)

@@ -2,7 +2,7 @@
 use mathlib.Core.Path.{sym, _∙_}
 use borrow.Author.Tests.{not-true, not-false}
 use Rattle.model.specs.Plans.{writePlan}
-use Rattle.calls.proofs.Ways.{run-refused, few, write-outside, write-odd, write-class}
+use Rattle.calls.proofs.Ways.{run-refused, few, outside, write-odd, write-class}
 use borrow.Author.Needs.{needs}
 use Rattle.calls.proofs.write_plan.Statement.{statement}
 use Rattle.calls.proofs.write_plan.Tie as tie
@@ -15,7 +15,8 @@ unfolding writePlan
 returns c = run-refused _ _ _ _ (c .before .before .runs .ensures) (not-true _ (c .before .if1 .taken)) _ (c .running-refusal .ensures) _
 
 returns-2 : tie.Need-returns-2
-returns-2 c = write-outside _ _ _ _ (c .before .before .runs .ensures) (not-false _ (c .before .if1 .left)) _ _ _ _ (c .if2 .taken)
+unfolding writePlan
+returns-2 c = outside _ _ _ _ (c .before .before .runs .ensures) (not-false _ (c .before .if1 .left)) _ _ (c .if2 .taken)
 
 shared-slice-read-class : tie.Need-shared-slice-read-class
 shared-slice-read-class c = c .before .if2 .left

@@ -8,8 +8,8 @@ use Rattle.lock_records.proofs.cell_of.Tie as tie
 entry-cell-requires : tie.Need-entry-cell-requires
 entry-cell-requires c κs = withdraw-fits (c .before .before .before .before .args .logs .now) (c .before .before .before .before .args .change) _ _ (c .before .before .before .before .args .i) (c .before .change5 .given .1) (c .before .before .before .before .pre .0) (c .before .before .before .before .pre .1)
 
-unwritten-cell-requires : tie.Need-unwritten-cell-requires
-unwritten-cell-requires c κs = leave-fits (c .before .before .before .before .args .logs .now) (c .before .before .before .before .args .change) _ _ (c .before .before .before .before .args .i) (c .before .change6 .given .1) (c .before .before .before .before .pre .0) (c .before .before .before .before .pre .1)
+unpublished-cell-requires : tie.Need-unpublished-cell-requires
+unpublished-cell-requires c κs = leave-fits (c .before .before .before .before .args .logs .now) (c .before .before .before .before .args .change) _ _ (c .before .before .before .before .args .i) (c .before .change6 .given .1) (c .before .before .before .before .pre .0) (c .before .before .before .before .pre .1)
 
 returns : tie.Need-returns
 unfolding cellOf
@@ -36,7 +36,7 @@ unfolding cellOf
 returns-6 c = rw (c .before .before .change5 .given .1) (c .entry-cell .ensures)
 
 returns-7 : tie.Need-returns-7
-returns-7 c = rw (c .before .before .change6 .given .1) (c .unwritten-cell .ensures)
+returns-7 c = rw (c .before .before .change6 .given .1) (c .unpublished-cell .ensures)
 
 returns-8 : tie.Need-returns-8
 unfolding cellOf
@@ -47,5 +47,5 @@ cell-of-spec =
     tie.close
     (tie.spec
     (λ c. search needs) (λ c. search needs) (λ c. search needs) (λ c. search needs) (λ c. search needs) (λ c. search needs) (λ c. search needs)
-    (λ c. search needs) (λ c. search needs) (λ c. search needs) entry-cell-requires (λ c. search needs) unwritten-cell-requires (λ c. search needs)
+    (λ c. search needs) (λ c. search needs) (λ c. search needs) entry-cell-requires (λ c. search needs) unpublished-cell-requires (λ c. search needs)
     returns returns-2 returns-3 returns-4 returns-5 returns-6 returns-7 returns-8)

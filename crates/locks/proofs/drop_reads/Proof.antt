@@ -1,6 +1,6 @@
--- The loop keeps which cells are marked, and what the entries so far leave of any readers of which the unwritten ones before left those at its start.
+-- The loop keeps which cells are marked, and what the entries so far leave of any readers of which the unpublished ones before left those at its start.
 use Prim.Native.Nat.{ℕ, _<_, _≤_, _-_}
-use mathlib.Core.Path.{refl, sym, _∙_, _≡_}
+use mathlib.Core.Path.{refl, _∙_, _≡_}
 use mathlib.Core.List.{List}
 use native.Mathlib.Omega.{arith}
 use lib.ListN.{length}
@@ -19,17 +19,17 @@ Inv-loop log count readers₀ session first written₀ i₀ readers written i =
 abbrev μ-loop : tie.MeasureT-loop
 μ-loop log count readers₀ session first written₀ i₀ readers written i = count - i
 
-drop-unwritten-requires : tie.Need-drop-unwritten-requires Inv-loop μ-loop
-drop-unwritten-requires c κs = c .before .before .before .pre
+drop-unpublished-requires : tie.Need-drop-unpublished-requires Inv-loop μ-loop
+drop-unpublished-requires c κs = c .before .before .before .pre
 
 same-length : tie.Need-same-length Inv-loop μ-loop
-same-length c = c .before .before .before .drop-unwritten .kept .1 .1 .0
+same-length c = c .before .before .before .drop-unpublished .kept .1 .1 .0
 
 returns : tie.Need-returns Inv-loop μ-loop
-returns c = rw (c .if1 .taken) at (c .before .before .before .drop-unwritten .ensures .2)
+returns c = rw (c .if1 .taken) at (c .before .before .before .drop-unpublished .ensures .2)
 
 loop-holds : tie.Need-loop-holds Inv-loop μ-loop
-loop-holds c = let d = c .before .before .before .drop-unwritten .ensures in (d .0, refl, λ R e w. w, marks-none _ _ (d .1))
+loop-holds c = let d = c .before .before .before .drop-unpublished .ensures in (d .0, refl, λ R e w. w, marks-none _ _ (d .1))
 
 drop-at-requires : tie.Need-drop-at-requires Inv-loop μ-loop
 drop-at-requires c κs =
@@ -37,7 +37,7 @@ drop-at-requires c κs =
     let u = c .before .before .before .before .before .before .before in
     let a = u .before .before .before .before in
     let lt = below-is _ (cellAt _) _ (a .pre .0 .cells) (l .i) (c .before .before .loop-test .taken) in
-    (a .pre .0 .session, omega arith, omega arith, omega (arith, l .inv .1, u .drop-unwritten .kept .1 .1 .0))
+    (a .pre .0 .session, omega arith, omega arith, omega (arith, l .inv .1, u .drop-unpublished .kept .1 .1 .0))
 
 add-i : tie.Need-add-i Inv-loop μ-loop
 add-i c = let h = c .before .before .before .before .before .loop-test .taken in omega arith
@@ -53,7 +53,7 @@ loop-again c =
     let d = c .before .before .drop-at in
     let h = c .before .before .before .before .before .loop-test .taken in
     let lR = below-is _ (cellAt _) _ (a .pre .0 .cells) (l .i) h in
-    let k = u .drop-unwritten .kept .1 .1 .0 in
+    let k = u .drop-unpublished .kept .1 .1 .0 in
     let lt : cellAt (a .args .log .now) (l .i) < 1024 = omega arith in (
       omega arith,
       d .kept .1 .1 .0 ∙ l .inv .1,
@@ -62,16 +62,16 @@ loop-again c =
     )
 
 same-length-2 : tie.Need-same-length-2 Inv-loop μ-loop
-same-length-2 c = c .before .loop .inv .1 ∙ c .before .before .before .before .before .drop-unwritten .kept .1 .1 .0
+same-length-2 c = c .before .loop .inv .1 ∙ c .before .before .before .before .before .drop-unpublished .kept .1 .1 .0
 
 returns-2 : tie.Need-returns-2 Inv-loop μ-loop
 returns-2 c =
     let u = c .before .before .before .before .before in
     let e : c .before .loop .i ≡ u .before .before .before .before .args .count = omega arith in
-    rw e at (c .before .loop .inv .2 _ (u .drop-unwritten .kept .1 .1 .0) (u .drop-unwritten .ensures .2))
+    rw e at (c .before .loop .inv .2 _ (u .drop-unpublished .kept .1 .1 .0) (u .drop-unpublished .ensures .2))
 
 pub drop-reads-spec : {M : Type 1} → statement M
 drop-reads-spec =
     tie.close
     (tie.spec
-    Inv-loop μ-loop drop-unwritten-requires same-length returns loop-holds drop-at-requires add-i loop-less loop-again same-length-2 returns-2)
+    Inv-loop μ-loop drop-unpublished-requires same-length returns loop-holds drop-at-requires add-i loop-less loop-again same-length-2 returns-2)

@@ -1,7 +1,7 @@
--- One way through for each return: the cell is below the start, not below what is held, taken, or not written.
+-- One way through for each return: the cell is below the start, not below the best so far, taken, or not published.
 use mathlib.Core.Path.{sym, _∙_}
 use borrow.Author.Needs.{needs}
-use Rattle.log.proofs.Targets.{lower-before, lower-above, lower-here, lower-unwritten}
+use Rattle.log.proofs.Targets.{lower-before, lower-above, lower-here, lower-unpublished}
 use Rattle.log.proofs.lower.Statement.{statement}
 use Rattle.log.proofs.lower.Tie as tie
 
@@ -21,7 +21,7 @@ returns-3 : tie.Need-returns-3
 returns-3 c = lower-here _ _ _ _ _ (c .before .before .before .before .cell-at .ensures) (c .before .before .before .if1 .left) (c .before .before .if2 .left) (sym (c .before .publishes .ensures) ∙ c .if3 .taken)
 
 returns-4 : tie.Need-returns-4
-returns-4 c = lower-unwritten _ _ _ _ _ (c .before .before .before .before .cell-at .ensures) (sym (c .before .publishes .ensures) ∙ c .if3 .left)
+returns-4 c = lower-unpublished _ _ _ _ _ (c .before .before .before .before .cell-at .ensures) (sym (c .before .publishes .ensures) ∙ c .if3 .left)
 
 pub lower-spec : {M : Type 1} → statement M
 lower-spec =

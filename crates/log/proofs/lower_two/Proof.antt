@@ -1,9 +1,9 @@
--- One way through for each return: the cell is below the start, not below the higher held, the entry is not written, its cell is taken as the lower or as the
+-- One way through for each return: the cell is below the start, not below the higher so far, the entry does not publish, its cell is taken as the lower or as the
 -- higher, or is the lower again.
 use mathlib.Core.Path.{sym, _∙_}
 use borrow.Author.Needs.{needs}
 use borrow.Author.Tests.{not-true, not-false}
-use Rattle.log.proofs.Twos.{two-unwritten, two-before, two-above, two-lower, two-between, two-again}
+use Rattle.log.proofs.Twos.{two-unpublished, two-before, two-above, two-lower, two-between, two-again}
 use Rattle.log.proofs.lower_two.Statement.{statement}
 use Rattle.log.proofs.lower_two.Tie as tie
 
@@ -15,7 +15,7 @@ returns-2 c = λ n w. two-above _ _ _ _ _ _ _ (c .before .before .cell-at .ensur
 
 returns-3 : tie.Need-returns-3
 returns-3 c =
-    λ n w. two-unwritten _ _ _ _ _ _ _ (c .before .before .before .before .cell-at .ensures) w (sym (c .before .publishes .ensures) ∙ not-true _ (c .if3 .taken))
+    λ n w. two-unpublished _ _ _ _ _ _ _ (c .before .before .before .before .cell-at .ensures) w (sym (c .before .publishes .ensures) ∙ not-true _ (c .if3 .taken))
 
 returns-4 : tie.Need-returns-4
 returns-4 c =

@@ -8,10 +8,10 @@ use Rattle.log.proofs.lowest_publishing.Statement.{statement}
 use Rattle.log.proofs.lowest_publishing.Tie as tie
 
 abbrev Inv-loop : tie.InvT-loop
-Inv-loop log count n from i₀ held₀ i held = (i ≤ count) × (held ≡ lowestPublishing log n from i)
+Inv-loop log count n from i₀ best₀ i best = (i ≤ count) × (best ≡ lowestPublishing log n from i)
 
 abbrev μ-loop : tie.MeasureT-loop
-μ-loop log count n from i₀ held₀ i held = count - i
+μ-loop log count n from i₀ best₀ i best = count - i
 
 loop-holds : tie.Need-loop-holds Inv-loop μ-loop
 unfolding lowestPublishing

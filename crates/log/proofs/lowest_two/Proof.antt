@@ -7,10 +7,10 @@ use Rattle.log.proofs.lowest_two.Statement.{statement}
 use Rattle.log.proofs.lowest_two.Tie as tie
 
 abbrev Inv-loop : tie.InvT-loop
-Inv-loop log count n from i₀ held₀ i held = (i ≤ count) × LowestTwo log n from i (held .low) (held .high)
+Inv-loop log count n from i₀ best₀ i best = (i ≤ count) × LowestTwo log n from i (best .low) (best .high)
 
 abbrev μ-loop : tie.MeasureT-loop
-μ-loop log count n from i₀ held₀ i held = count - i
+μ-loop log count n from i₀ best₀ i best = count - i
 
 loop-holds : tie.Need-loop-holds Inv-loop μ-loop
 unfolding lowestPublishing

@@ -39,7 +39,11 @@ returns-7 : tie.Need-returns-7
 unfolding plan
 returns-7 c = rw (c .before .before .before .call4 .given .1) (c .take-peek .ensures _)
 
+returns-8 : tie.Need-returns-8
+unfolding plan
+returns-8 c = rw (c .before .before .before .before .before .before .before .before .call5 .given .1) (c .before .before .take-hold .ensures)
+
 pub take-call-spec : {M : Type 1} → statement M
 take-call-spec =
     tie.close
-    (tie.spec (λ c. search needs) (λ c κs. search needs) (λ c. search needs) (λ c κs. search needs) (λ c κs. search needs) (λ c. search needs) (λ c κs. search needs) take-write-requires (λ c. search needs) (λ c κs. search needs) (λ c. search needs) (λ c κs. search needs) take-advance-requires (λ c. search needs) (λ c κs. search needs) (λ c. search needs) (λ c κs. search needs) (λ c. search needs) returns (λ c. search needs) (λ c. search needs) returns-2 (λ c. search needs) (λ c. search needs) returns-3 (λ c. search needs) returns-4 (λ c. search needs) (λ c. search needs) returns-5 (λ c. search needs) returns-6 (λ c. search needs) returns-7)
+    (tie.spec (λ c. search needs) (λ c κs. search needs) (λ c. search needs) (λ c κs. search needs) (λ c κs. search needs) (λ c. search needs) (λ c κs. search needs) take-write-requires (λ c. search needs) (λ c κs. search needs) (λ c. search needs) (λ c κs. search needs) take-advance-requires (λ c. search needs) (λ c κs. search needs) (λ c. search needs) (λ c κs. search needs) (λ c. search needs) (λ c κs. search needs) (λ c κs. search needs) (λ c. search needs) returns (λ c. search needs) (λ c. search needs) returns-2 (λ c. search needs) (λ c. search needs) returns-3 (λ c. search needs) returns-4 (λ c. search needs) (λ c. search needs) returns-5 (λ c. search needs) returns-6 (λ c. search needs) returns-7 (λ c. search needs) (λ c. search needs) returns-8)

@@ -3,6 +3,7 @@
 use crate::{close, stop, Run};
 use reference::arbitrary::{self, Numbers, REQUIRED, REQUIRED_FIELDS};
 use reference::boundary::{Fields, Reference, Store};
+use reference::holds;
 use reference::look_ups::{self, LookUps};
 use reference::many_reads;
 use reference::random::Random;
@@ -70,7 +71,9 @@ pub fn compare_calls(run: &Run) {
     }
     print!("{}", counted);
     let Counted { numbers, look_ups } = counted;
-    close(run, [numbers.missing(&REQUIRED), numbers.missing(&written_back::REQUIRED), look_ups.missing_on_buffers()].concat());
+    let of_papers =
+        [numbers.missing(&written_back::REQUIRED), holds::missing_on_buffers(&numbers), look_ups.missing_on_buffers()];
+    close(run, [numbers.missing(&REQUIRED), of_papers.concat()].concat());
 }
 
 /// `count` runs, each from a store that is set up.
@@ -92,7 +95,8 @@ pub fn compare_runs(run: &Run) {
     }
     print!("{}", counted);
     let Counted { numbers, look_ups } = counted;
-    close(run, [numbers.missing(&runs::REQUIRED), numbers.missing(&written_back::REQUIRED), look_ups.missing_in_runs()].concat());
+    let of_papers = [numbers.missing(&written_back::REQUIRED), holds::missing_in_runs(&numbers), look_ups.missing_in_runs()];
+    close(run, [numbers.missing(&runs::REQUIRED), of_papers.concat()].concat());
 }
 
 /// One call or many reads on every store, counted.
@@ -100,7 +104,8 @@ fn compare_next(stores: &mut [Box<dyn Store>], case: u64, buffers: &mut Buffers,
     let Counted { numbers, look_ups } = counted;
     match next {
         Next::One(call) => {
-            let (kinds, look_up) = (written_back::kinds(buffers, call), look_ups::of_call(buffers, call));
+            let kinds = [written_back::kinds(buffers, call), holds::kinds(buffers, call)].concat();
+            let look_up = look_ups::of_call(buffers, call);
             let number = compare_call(stores, case, buffers, call).number;
             numbers.add(arbitrary::kind(call), number);
             kinds.into_iter().for_each(|kind| numbers.add(kind, number));

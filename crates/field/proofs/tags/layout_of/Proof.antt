@@ -38,15 +38,20 @@ returns-7 c = c .known7 .ensures ∙ ap layoutOf (sym (c .before .match .keys7))
 
 returns-8 : tie.Need-returns-8
 unfolding layoutOf find table
-returns-8 c = ⊎-elim (λ e. rw e) (λ e. rw e) (c .match .keys8)
+returns-8 c = c .known8 .ensures ∙ ap layoutOf (sym (c .before .match .keys8))
 
 returns-9 : tie.Need-returns-9
+unfolding layoutOf find table
+returns-9 c = ⊎-elim (λ e. rw e) (λ e. rw e) (c .match .keys9)
+
+returns-10 : tie.Need-returns-10
 unfolding table
-returns-9 c = sym (unlisted _ (c .match .rest .0))
+returns-10 c = sym (unlisted _ (c .match .rest .0))
 
 pub layout-of-spec : {M : Type 1} → statement M
 layout-of-spec =
     tie.close
     (tie.spec
     (λ c κs. search needs) (λ c κs. search needs) (λ c κs. search needs) (λ c κs. search needs) (λ c κs. search needs)
-    (λ c κs. search needs) (λ c κs. search needs) returns returns-2 returns-3 returns-4 returns-5 returns-6 returns-7 returns-8 returns-9)
+    (λ c κs. search needs) (λ c κs. search needs) (λ c κs. search needs)
+    returns returns-2 returns-3 returns-4 returns-5 returns-6 returns-7 returns-8 returns-9 returns-10)

@@ -25,9 +25,12 @@ returns-6 c = ap sessionOf (sym (c .before .self6 .given .1))
 returns-7 : tie.Need-returns-7
 returns-7 c = ap sessionOf (sym (c .before .self7 .given .1))
 
+returns-8 : tie.Need-returns-8
+returns-8 c = ap sessionOf (sym (c .before .self8 .given .1))
+
 pub session-spec : {M : Type 1} → statement M
 session-spec =
     tie.close
     (tie.spec
     (λ c. c .match .keys1) (λ c. c .match .keys2) (λ c. c .match .keys3) (λ c. c .match .keys4) (λ c. c .match .keys5)
-    (λ c. c .match .keys6) (λ c. c .match .keys7) returns returns-2 returns-3 returns-4 returns-5 returns-6 returns-7)
+    (λ c. c .match .keys6) (λ c. c .match .keys7) (λ c. c .match .keys8) returns returns-2 returns-3 returns-4 returns-5 returns-6 returns-7 returns-8)

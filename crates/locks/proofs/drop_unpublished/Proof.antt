@@ -5,14 +5,14 @@ use native.Mathlib.Omega.{arith}
 use lib.ListN.{length}
 use Rattle.model.specs.Buffers.{cellAt}
 use Rattle.model.proofs.Laws.{below-is}
-use Rattle.locks.specs.Sweeps.{NoneWritten, DroppedSoFar}
+use Rattle.locks.specs.Sweeps.{NonePublished, DroppedSoFar}
 use Rattle.locks.proofs.Sweeps.{drop-start, drop-unmarked, none-more}
-use Rattle.locks.proofs.drop_unwritten.Statement.{statement}
-use Rattle.locks.proofs.drop_unwritten.Tie as tie
+use Rattle.locks.proofs.drop_unpublished.Statement.{statement}
+use Rattle.locks.proofs.drop_unpublished.Tie as tie
 
 abbrev Inv-loop : tie.InvT-loop
 Inv-loop log count readers₀ session i₀ readers i =
-    (i ≤ count) × (length readers ≡ length readers₀) × NoneWritten log i × DroppedSoFar log count i session readers₀ readers
+    (i ≤ count) × (length readers ≡ length readers₀) × NonePublished log i × DroppedSoFar log count i session readers₀ readers
 
 abbrev μ-loop : tie.MeasureT-loop
 μ-loop log count readers₀ session i₀ readers i = count - i
@@ -69,8 +69,8 @@ same-length-2 c = c .before .loop .inv .1
 returns-2 : tie.Need-returns-2 Inv-loop μ-loop
 returns-2 c = let l = c .before .loop in (l .inv .0, l .inv .2, l .inv .3)
 
-pub drop-unwritten-spec : {M : Type 1} → statement M
-drop-unwritten-spec =
+pub drop-unpublished-spec : {M : Type 1} → statement M
+drop-unpublished-spec =
     tie.close
     (tie.spec
     Inv-loop μ-loop loop-holds publishes-requires same-length returns cell-at-requires leave-at-requires add-i loop-less loop-again same-length-2
