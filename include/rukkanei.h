@@ -179,13 +179,14 @@ rukkanei_reply rukkanei_read(rukkanei_session record, const uint32_t *values, si
                              uint16_t *readers, size_t readers_len, uint8_t *claimants, size_t claimants_len, uint8_t *exclusives,
                              size_t exclusives_len, uint32_t *logs, size_t logs_len, uint8_t session, uint32_t cell);
 
-/* A running session reads a cell and holds it: what rukkanei_read answers and leaves, and with 101 the cell is one to publish, written or not. A hold keeps
- * nobody out: several sessions may hold a cell, and at their advances one gets it while the others wait, 104, or are rolled back, 6.
+/* A running session reads a cell and holds it: what rukkanei_read answers and leaves, and with 101 the cell is one to publish, written or not. A hold
+ * keeps nobody out: several sessions may hold a cell. The first of them to advance to it claims it and waits, 104, until the others are gone; one of
+ * these that advances to it is rolled back, 6.
  *
  * Hold what you read where two sessions must not change cells crosswise, each by what it read of the other's. If each committed transaction that
  * changed or held a cell changed or held every cell that it read before writing it, by many reads too, then all that they read, and the values
  * whenever no session is in phase 3, are as if they had run whole, one after the other: by the answer 103 that promoted the last cell, or by the
- * seal of one that had none to publish. */
+ * seal of one that had none to publish. A transaction that reads by holds alone meets this, whatever it writes. */
 rukkanei_reply rukkanei_hold(rukkanei_session record, const uint32_t *values, size_t values_len, const uint8_t *classes, size_t classes_len,
                              uint16_t *readers, size_t readers_len, uint8_t *claimants, size_t claimants_len, uint8_t *exclusives,
                              size_t exclusives_len, uint32_t *logs, size_t logs_len, uint8_t session, uint32_t cell);

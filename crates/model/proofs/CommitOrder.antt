@@ -4,18 +4,19 @@ use Prim.Native.Nat.{ℕ, suc, _+_, _≤_, _<_}
 use native.Mathlib.Omega.{arith}
 use mathlib.Core.Path.{_≡_, refl, sym, _∙_, ap, subst}
 use mathlib.Core.Logic.{_⊎_, inl, inr}
-use mathlib.Core.Bool.{true, false}
+use mathlib.Core.Bool.{true, false, _||_}
 use mathlib.Core.List.{List, [], _∷_, reverse}
+use lib.Dec.{eqb}
 use lib.ListN.{length, getD}
 use borrow.Author.Tests.{eq-eqb}
 use Rattle.model.specs.declared.Answer.{Answer}
 use Rattle.model.specs.Buffers.{Store, fresh}
-use Rattle.model.specs.CommitOrder.{NewestFirst, ByCommit, valueAfter, ReadsInOrder, CoversReads, NonePublishing, InCommitOrder}
+use Rattle.model.specs.CommitOrder.{NewestFirst, ByCommit, valueAfter, ReadsInOrder, CoversReads, ReadsByHolds, NonePublishing, InCommitOrder}
 use Rattle.model.specs.Effects.{number}
-use Rattle.model.specs.History.{Action, Event, run, Item, told, history, Name, wrote, valueWritten, cellsWritten, readsBeforeWriting, commit}
+use Rattle.model.specs.History.{Action, Event, run, Item, told, history, Name, dirtied, heldIn, wrote, valueWritten, cellsWritten, readsBeforeWriting, commit}
 use Rattle.model.specs.Isolation.{All, Any, at, Commits, snapshotOf, commitOf, CommitsTo, Last, lastCommit, noCommit, Isolated, Ran}
 use Rattle.model.specs.Step.{Outcome, outcome, setUpEffect, setUpAnswer, setUp}
-use Rattle.model.specs.Told.{ReadOf}
+use Rattle.model.specs.Told.{Told, began, got, put, held, sealed, moved, ended, holds, ReadOf, readUnless}
 use Rattle.model.proofs.Commits.{last-value}
 use Rattle.model.proofs.Demand3.{set-up-fresh, ran-is}
 use Rattle.model.proofs.Effects.{not-pending}
@@ -123,6 +124,30 @@ module _ (first : List ℕ) (h : List Item) where
           all-map (λ r l. sym (after-is (r .cell) (r .value) (commitOf first h x) xs o l)) (readsBeforeWriting (at first h x)) (read-last x d (f x d)),
           reads-in-order f (commitOf first h x) xs o,
         )
+
+-- ---- holds cover what they read
+
+module _ (t : List Item) where
+  told-more : (w : Told) → ((c v : ℕ) → w ≡ got c v → ⊥) → (rs : List ReadOf) → All (λ (r : ReadOf). heldIn t (r .cell) ≡ true) rs
+      → All (λ (r : ReadOf). (holds w (r .cell) || heldIn t (r .cell)) ≡ true) (readUnless (dirtied t) w rs)
+  told-more began n rs a = a
+  told-more (got c v) n rs a = absurd (n c v refl)
+  told-more (put c v f) n rs a = a
+  told-more (held c v f) n rs a =
+      let rest = all-map {Q = λ (r : ReadOf). (eqb c (r .cell) || heldIn t (r .cell)) ≡ true} (λ r e. test (eqb c (r .cell)) (λ y. rw y) (λ y. rw y e)) rs a in
+      test (dirtied t c) (λ y. rw y rest) (λ y. rw y (rw (eq-eqb c c refl), rest))
+  told-more sealed n rs a = a
+  told-more moved n rs a = a
+  told-more ended n rs a = a
+
+by-holds : (t : List Item) → All (λ (i : Item). (c v : ℕ) → i .told ≡ got c v → ⊥) t → All (λ (r : ReadOf). heldIn t (r .cell) ≡ true) (readsBeforeWriting t)
+unfolding heldIn readsBeforeWriting
+by-holds [] a = tt
+by-holds (i ∷ t) a = told-more t (i .told) (a .0) (readsBeforeWriting t) (by-holds t (a .1))
+
+pub holds-cover : (first : List ℕ) (h : List Item) (x : Name) → ReadsByHolds first h x → CoversReads first h x
+unfolding wrote
+holds-cover first h x a = inr (all-map (λ r e. rw e) (readsBeforeWriting (at first h x)) (by-holds (at first h x) a))
 
 -- ---- there is one such list
 

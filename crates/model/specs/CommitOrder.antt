@@ -10,7 +10,7 @@ use Rattle.model.specs.Buffers.{Store}
 use Rattle.model.specs.Effects.{recordOf}
 use Rattle.model.specs.History.{Item, Name, wrote, valueWritten, cellsWritten, readsBeforeWriting, startingValue}
 use Rattle.model.specs.Isolation.{All, Any, at, Commits, commitOf}
-use Rattle.model.specs.Told.{ReadOf}
+use Rattle.model.specs.Told.{got, ReadOf}
 
 -- of the starting values and what a list of actions tells
 module _ (first : List ℕ) (h : List Item) where
@@ -43,6 +43,10 @@ module _ (first : List ℕ) (h : List Item) where
   abbrev pub CoversReads : Name → Type 0
   CoversReads x =
       (cellsWritten (length first) (at first h x) ≡ 0) ⊎ All (λ (r : ReadOf). wrote (at first h x) (r .cell) ≡ true) (readsBeforeWriting (at first h x))
+
+  -- one way to meet it, whatever is written: no value was got by a read, of one cell or of many, so that all were by holds (`holds-cover`)
+  abbrev pub ReadsByHolds : Name → Type 0
+  ReadsByHolds x = All (λ (i : Item). (c v : ℕ) → i .told ≡ got c v → ⊥) (at first h x)
 
 -- no session is in phase 3
 abbrev pub NonePublishing : Store → Type 0

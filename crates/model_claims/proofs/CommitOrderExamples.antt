@@ -4,20 +4,21 @@ use Prim.Native.Nat.{ℕ, zero, suc, _<_}
 use native.Mathlib.Omega.{arith}
 use mathlib.Core.Path.{_≡_, refl, sym, _∙_, ap, subst}
 use mathlib.Core.Logic.{_⊎_, inl, inr}
-use mathlib.Core.Bool.{Bool, true, false, cond, _&&_, _||_}
+use mathlib.Core.Bool.{Bool, true, false, cond, not, _&&_, _||_}
 use mathlib.Core.List.{List, [], _∷_, reverse}
 use lib.Dec.{eqb}
 use lib.ListN.{getD, replicate}
 use borrow.Author.Tests.{eqb-false}
 use Rattle.model.specs.Buffers.{Store, idle, sessionAt}
-use Rattle.model.specs.CommitOrder.{ByCommit, valueAfter, ReadsInOrder, CoversReads, NonePublishing, InCommitOrder}
+use Rattle.model.specs.CommitOrder.{ByCommit, valueAfter, ReadsInOrder, CoversReads, ReadsByHolds, NonePublishing, InCommitOrder}
 use Rattle.model.specs.Computing.{computing, counting}
 use Rattle.model.specs.History.{asActions, run, Item, history, Name, name, transaction, readsBeforeWriting, committed}
 use Rattle.model.specs.Isolation.{All, Any, Commits}
 use Rattle.model.specs.Holding.{skewHeld, skewAfter, skewBack, readerBetween}
 use Rattle.model.specs.Orders.{Row, given, skew, halfPublished}
 use Rattle.model.specs.Step.{setUp}
-use Rattle.model.proofs.CommitOrder.{one-order, in-commit-order}
+use Rattle.model.specs.Told.{Told, began, got, put, held, sealed, moved, ended}
+use Rattle.model.proofs.CommitOrder.{holds-cover, one-order, in-commit-order}
 use Rattle.model.proofs.Names.{name-by-test, committed-in}
 use Rattle.model.proofs.Tools.{test, clash}
 
@@ -148,13 +149,43 @@ between-by-seals r = eqb-false 3 1 refl (r .0 .1 .0)
 
 -- ---- with holds
 
+-- that a transaction read by holds alone, by a test
+abbrev gets : Told → Bool
+gets began = false
+gets (got c v) = true
+gets (put c v f) = false
+gets (held c v f) = false
+gets sealed = false
+gets moved = false
+gets ended = false
+
+abbrev gotNone : List Item → Bool
+gotNone [] = true
+gotNone (i ∷ t) = not (gets (i .told)) && gotNone t
+
+by-test : (t : List Item) → gotNone t ≡ true → All (λ (i : Item). (c v : ℕ) → i .told ≡ got c v → ⊥) t
+by-test [] e = tt
+by-test (i ∷ t) e =
+    test (gets (i .told)) (λ y. absurd (clash false (rw y at e) refl))
+    (λ y. ((λ c v g. clash (gets (i .told)) (ap gets g) y), by-test t (rw y at e)))
+
+pub after-by-holds : ReadsByHolds first (toldBy skewAfter) x × ReadsByHolds first (toldBy skewAfter) y
+after-by-holds = (
+  by-test (transaction x (toldBy skewAfter)) (unfold skewAfter given computing counting in refl),
+  by-test (transaction y (toldBy skewAfter)) (unfold skewAfter given computing counting in refl),
+)
+
+pub skew-by-reads : ReadsByHolds first (toldBy skew) x → ⊥
+unfolding skew given computing counting
+skew-by-reads a = a .1 .1 .1 .1 .1 .0 1 5 refl
+
 -- where y comes after, both meet the condition, and so the theorem's claim on reads holds of the order
 pub after-covered : (z : Name) → Commits first (toldBy skewAfter) z → CoversReads first (toldBy skewAfter) z
-after-covered z d = go z (either z (committed-in 2 both (toldBy skewAfter) (unfold skewAfter given computing counting in refl) z d))
+after-covered z d = holds-cover first (toldBy skewAfter) z (go z (either z (committed-in 2 both (toldBy skewAfter) (unfold skewAfter given computing counting in refl) z d)))
   where
-    go : (z : Name) → OneOf z → CoversReads first (toldBy skewAfter) z
-    go z (inl e) = subst (CoversReads first (toldBy skewAfter)) e (unfold skewAfter given computing counting in inr (refl, (refl, tt)))
-    go z (inr e) = subst (CoversReads first (toldBy skewAfter)) e (unfold skewAfter given computing counting in inr (refl, (refl, tt)))
+    go : (z : Name) → OneOf z → ReadsByHolds first (toldBy skewAfter) z
+    go z (inl e) = subst (ReadsByHolds first (toldBy skewAfter)) e (after-by-holds .0)
+    go z (inr e) = subst (ReadsByHolds first (toldBy skewAfter)) e (after-by-holds .1)
 
 pub after-commits : Commits first (toldBy skewAfter) x × Commits first (toldBy skewAfter) y
 unfolding skewAfter given computing counting
