@@ -12,13 +12,14 @@ use borrow.Author.Tests.{eqb-false}
 use Rattle.model.specs.Buffers.{Store, idle, sessionAt}
 use Rattle.model.specs.CommitOrder.{ByCommit, valueAfter, ReadsInOrder, CoversReads, ReadsByHolds, NonePublishing, InCommitOrder}
 use Rattle.model.specs.Computing.{computing, counting}
-use Rattle.model.specs.History.{asActions, run, Item, history, Name, name, transaction, readsBeforeWriting, committed}
+use Rattle.model.specs.History.{asActions, run, Item, item, history, Name, name, transaction, wrote, valueWritten, readsBeforeWriting, committed}
 use Rattle.model.specs.Isolation.{All, Any, Commits}
 use Rattle.model.specs.Holding.{skewHeld, skewAfter, skewBack, readerBetween}
 use Rattle.model.specs.Orders.{Row, given, skew, halfPublished}
 use Rattle.model.specs.Step.{setUp}
-use Rattle.model.specs.Told.{Told, began, got, put, held, sealed, moved, ended}
+use Rattle.model.specs.Told.{Told, began, got, put, held, sealed, moved, ended, ReadOf}
 use Rattle.model.proofs.CommitOrder.{holds-cover, one-order, in-commit-order}
+use Rattle.model.proofs.Invariant.{all-map}
 use Rattle.model.proofs.Names.{name-by-test, committed-in}
 use Rattle.model.proofs.Tools.{test, clash}
 
@@ -53,64 +54,93 @@ either z h =
 
 -- ---- write skew
 
+-- what it tells, the newest first
+abbrev skewTold : List Item
+skewTold =
+    item 16 1 ended ∷ item 15 1 moved ∷ item 14 1 moved ∷ item 13 0 ended ∷ item 12 0 moved ∷ item 11 0 moved ∷ item 10 1 sealed ∷ item 9 0 sealed
+    ∷ item 8 1 (put 1 2 5) ∷ item 7 0 (put 0 1 3) ∷ item 6 1 (got 1 5) ∷ item 5 1 (got 0 3) ∷ item 4 0 (got 1 5) ∷ item 3 0 (got 0 3) ∷ item 2 1 began ∷ item 1 0 began ∷ []
+
+skew-told : toldBy skew ≡ skewTold
+unfolding skew given computing counting
+skew-told = refl
+
 -- neither wrote or held what it read and did not change
 pub skew-uncovered : (CoversReads first (toldBy skew) x → ⊥) × (CoversReads first (toldBy skew) y → ⊥)
-skew-uncovered = (of-x, of-y)
+skew-uncovered = rw skew-told (of-x, of-y)
   where
-    of-x : CoversReads first (toldBy skew) x → ⊥
-    of-x (inl e) = unfold skew given computing counting in eqb-false 1 0 refl e
-    of-x (inr a) = unfold skew given computing counting in clash false (a .0) refl
+    of-x : CoversReads first skewTold x → ⊥
+    of-x (inl e) = unfold counting in eqb-false 1 0 refl e
+    of-x (inr a) = unfold counting in clash false (a .0) refl
 
-    of-y : CoversReads first (toldBy skew) y → ⊥
-    of-y (inl e) = unfold skew given computing counting in eqb-false 1 0 refl e
-    of-y (inr a) = unfold skew given computing counting in clash false (a .1 .0) refl
+    of-y : CoversReads first skewTold y → ⊥
+    of-y (inl e) = unfold counting in eqb-false 1 0 refl e
+    of-y (inr a) = unfold counting in clash false (a .1 .0) refl
 
 -- the order by commit place: x, then y
 pub skew-order : ByCommit first (toldBy skew) (y ∷ x ∷ [])
 skew-order =
-    record {
-      committed = unfold skew given computing counting in (refl, (refl, tt));
-      every = λ z d. go z (either z (committed-in 2 both (toldBy skew) (unfold skew given computing counting in refl) z d));
-      newestFirst = unfold skew given computing counting in ((omega arith, tt), (tt, tt));
-    }
+    rw skew-told
+    (record {
+      committed = unfold counting in (refl, (refl, tt));
+      every = λ z d. go z (either z (committed-in 2 both skewTold (unfold counting in refl) z d));
+      newestFirst = unfold counting in ((omega arith, tt), (tt, tt));
+    })
   where
     go : (z : Name) → OneOf z → Any (λ (w : Name). w ≡ z) (y ∷ x ∷ [])
     go z (inl e) = inr (inl e)
     go z (inr e) = inl e
 
--- each leaves another value than the other read
-module _ where
-  abbrev h : List Item
-  h = toldBy skew
+-- of two transactions a alone wrote cell c, and b read another value there than a left
+record Unseen (h : List Item) (a b : Name) (c : ℕ) : Type 0 where
+  written : wrote (transaction a h) c ≡ true
+  spared : wrote (transaction b h) c ≡ false
+  read : (f : ℕ → ℕ) → f c ≡ valueWritten (transaction a h) c → All (λ (r : ReadOf). r .value ≡ f (r .cell)) (readsBeforeWriting (transaction b h)) → ⊥
 
-  after-x : (zs : List Name) → All OneOf zs → Any (λ (z : Name). z ≡ x) zs → valueAfter first h zs 0 ≡ 1
-  after-x [] a i = absurd i
-  after-x (z ∷ zs) a i = go (after-x zs (a .1)) (a .0) i
+module _ (h : List Item) (a b : Name) (c : ℕ) (u : Unseen h a b c) where
+  -- after a, and whatever else of the two, the cell has what a left
+  left : (zs : List Name) → All (λ (z : Name). (a ≡ z) ⊎ (b ≡ z)) zs → Any (λ (z : Name). z ≡ a) zs → valueAfter first h zs c ≡ valueWritten (transaction a h) c
+  left [] o i = absurd i
+  left (z ∷ zs) o i = go (left zs (o .1)) (o .0) i
     where
-      go : (Any (λ (z : Name). z ≡ x) zs → valueAfter first h zs 0 ≡ 1) → OneOf z → (z ≡ x) ⊎ Any (λ (z : Name). z ≡ x) zs → valueAfter first h (z ∷ zs) 0 ≡ 1
-      go f (inl e) _ = rw (← e) (unfold skew given computing counting in refl)
-      go f (inr e) (inl d) = absurd (eqb-false 2 1 refl (ap (λ (z : Name). z .place) (e ∙ d)))
-      go f (inr e) (inr i) = rw (← e) (unfold skew given computing counting in f i)
+      go : (Any (λ (z : Name). z ≡ a) zs → valueAfter first h zs c ≡ valueWritten (transaction a h) c) → (a ≡ z) ⊎ (b ≡ z) → (z ≡ a) ⊎ Any (λ (z : Name). z ≡ a) zs
+          → valueAfter first h (z ∷ zs) c ≡ valueWritten (transaction a h) c
+      go f (inl e) _ = rw (← e, u .written)
+      go f (inr e) (inl d) = absurd (clash (wrote (transaction a h) c) (u .written) (rw (← (e ∙ d)) (u .spared)))
+      go f (inr e) (inr i) = rw (← e, u .spared) (f i)
 
-  after-y : (zs : List Name) → All OneOf zs → Any (λ (z : Name). z ≡ y) zs → valueAfter first h zs 1 ≡ 2
-  after-y [] a i = absurd i
-  after-y (z ∷ zs) a i = go (after-y zs (a .1)) (a .0) i
-    where
-      go : (Any (λ (z : Name). z ≡ y) zs → valueAfter first h zs 1 ≡ 2) → OneOf z → (z ≡ y) ⊎ Any (λ (z : Name). z ≡ y) zs → valueAfter first h (z ∷ zs) 1 ≡ 2
-      go f (inr e) _ = rw (← e) (unfold skew given computing counting in refl)
-      go f (inl e) (inl d) = absurd (eqb-false 1 2 refl (ap (λ (z : Name). z .place) (e ∙ d)))
-      go f (inl e) (inr i) = rw (← e) (unfold skew given computing counting in f i)
+  -- so b does not come after it
+  not-after : (zs : List Name) → All (λ (z : Name). (a ≡ z) ⊎ (b ≡ z)) zs → Any (λ (z : Name). z ≡ a) zs → ReadsInOrder first h (b ∷ zs) → ⊥
+  not-after zs o i r = u .read (valueAfter first h zs) (left zs o i) (r .0)
 
-  -- in whatever order the two stand, and however often, the reads are not those of the order
-  pub skew-in-no-order : (zs : List Name) → All OneOf zs → Any (λ (z : Name). z ≡ x) zs → Any (λ (z : Name). z ≡ y) zs → ReadsInOrder first h zs → ⊥
-  skew-in-no-order [] a i j r = i
-  skew-in-no-order (z ∷ zs) a i j r = go (a .0) i j (r .0)
-    where
-      go : OneOf z → (z ≡ x) ⊎ Any (λ (z : Name). z ≡ x) zs → (z ≡ y) ⊎ Any (λ (z : Name). z ≡ y) zs → All (λ r. r .value ≡ valueAfter first h zs (r .cell)) (readsBeforeWriting (transaction z h)) → ⊥
-      go (inl e) _ (inl d) r = eqb-false 1 2 refl (ap (λ (z : Name). z .place) (e ∙ d))
-      go (inl e) _ (inr j) r = let q : 5 ≡ valueAfter first h zs 1 = unfold skew given computing counting in (rw (← e) at r) .0 in omega (arith, q, after-y zs (a .1) j)
-      go (inr e) (inl d) _ r = eqb-false 2 1 refl (ap (λ (z : Name). z .place) (e ∙ d))
-      go (inr e) (inr i) _ r = let q : 3 ≡ valueAfter first h zs 0 = unfold skew given computing counting in (rw (← e) at r) .1 .0 in omega (arith, q, after-x zs (a .1) i)
+-- in skew y did not see what x left in cell 0, nor x what y left in cell 1
+x-unseen : Unseen skewTold x y 0
+unfolding counting
+x-unseen = record { written = refl; spared = refl; read = λ f e r. omega (arith, e, r .1 .0) }
+
+y-unseen : Unseen skewTold y x 1
+unfolding counting
+y-unseen = record { written = refl; spared = refl; read = λ f e r. omega (arith, e, r .0) }
+
+-- in whatever order the two stand, and however often, the reads are not those of the order
+pub skew-in-no-order : (zs : List Name) → All OneOf zs → Any (λ (z : Name). z ≡ x) zs → Any (λ (z : Name). z ≡ y) zs → ReadsInOrder first (toldBy skew) zs → ⊥
+skew-in-no-order zs o i j = rw skew-told (unordered zs o i j)
+  where
+    swapped : (zs : List Name) → All OneOf zs → All (λ (z : Name). (y ≡ z) ⊎ (x ≡ z)) zs
+    swapped zs o = all-map (λ z e. swap e) zs o
+      where
+        swap : {z : Name} → OneOf z → (y ≡ z) ⊎ (x ≡ z)
+        swap (inl e) = inr e
+        swap (inr e) = inl e
+
+    unordered : (zs : List Name) → All OneOf zs → Any (λ (z : Name). z ≡ x) zs → Any (λ (z : Name). z ≡ y) zs → ReadsInOrder first skewTold zs → ⊥
+    unordered [] o i j r = i
+    unordered (z ∷ zs) o i j r = go (o .0) i j r
+      where
+        go : OneOf z → (z ≡ x) ⊎ Any (λ (z : Name). z ≡ x) zs → (z ≡ y) ⊎ Any (λ (z : Name). z ≡ y) zs → ReadsInOrder first skewTold (z ∷ zs) → ⊥
+        go (inl e) _ (inl d) r = eqb-false 1 2 refl (ap (λ (z : Name). z .place) (e ∙ d))
+        go (inl e) _ (inr j) r = not-after skewTold y x 1 y-unseen zs (swapped zs (o .1)) j (rw (← e) at r)
+        go (inr e) (inl d) _ r = eqb-false 2 1 refl (ap (λ (z : Name). z .place) (e ∙ d))
+        go (inr e) (inr i) _ r = not-after skewTold x y 0 x-unseen zs (o .1) i (rw (← e) at r)
 
 -- ---- values written back excuse nothing
 
@@ -176,8 +206,7 @@ after-by-holds = (
 )
 
 pub skew-by-reads : ReadsByHolds first (toldBy skew) x → ⊥
-unfolding skew given computing counting
-skew-by-reads a = a .1 .1 .1 .1 .1 .0 1 5 refl
+skew-by-reads = rw skew-told (λ a. unfold counting in a .1 .1 .1 .1 .1 .0 1 5 refl)
 
 -- where y comes after, both meet the condition, and so the theorem's claim on reads holds of the order
 pub after-covered : (z : Name) → Commits first (toldBy skewAfter) z → CoversReads first (toldBy skewAfter) z
@@ -248,11 +277,11 @@ other-way-not b = eqb-false 1 2 refl (ap (λ zs. firstPlace zs) (one-order first
     firstPlace (z ∷ zs) = z .place
 
 pub one-missing-not : ByCommit first (toldBy skew) (x ∷ []) → ⊥
-one-missing-not b = go (b .every y (unfold skew given computing counting in refl))
+one-missing-not b = go (b .every y (rw skew-told (unfold counting in refl)))
   where
     go : (x ≡ y) ⊎ ⊥ → ⊥
     go (inl e) = eqb-false 1 2 refl (ap (λ (z : Name). z .place) e)
     go (inr i) = i
 
 pub twice-not : ByCommit first (toldBy skew) (y ∷ y ∷ x ∷ []) → ⊥
-twice-not b = let l : 14 < 14 = unfold skew given computing counting in b .newestFirst .0 .0 in omega arith
+twice-not b = let l : 14 < 14 = unfold counting in (rw skew-told at (b .newestFirst .0 .0)) in omega arith
