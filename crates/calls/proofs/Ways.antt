@@ -210,28 +210,35 @@ module _ (n : ℕ) (log : List ℕ) (x : Session) where
     unfolding guard known
     outside c p h = simp (whole, runs, le-ltb c n h)
 
-    -- ---- read
+    -- f decides by the place of the cell's entry; k is the place that the search for the cell answered
+    module _ (c : ℕ) (h : c < n) (k : ℕ) (s : found (x .count) k ≡ slotIn log (x .count) c) (f : Option ℕ → Plan) where
+      by-entry : k < x .count → f (some k) ≡ guard n log x (eqb (x .phase) 1) (known n c (f (slotIn log (x .count) c)))
+      unfolding guard known
+      by-entry i = simp (whole, runs, lt-ltb c n h, found-here (x .count) k _ s i)
+
+      by-none : x .count ≤ k → f none ≡ guard n log x (eqb (x .phase) 1) (known n c (f (slotIn log (x .count) c)))
+      unfolding guard known
+      by-none i = simp (whole, runs, lt-ltb c n h, found-nowhere (x .count) k _ s i)
 
     module _ (l : Lock) (c : ℕ) where
-      -- k is the place that the search for the cell answered
+      -- ---- read and hold
+
       module _ (h : c < n) (k : ℕ) (s : found (x .count) k ≡ slotIn log (x .count) c) where
         pub read-known : k < x .count → (v : ℕ) → v ≡ entryAt log k .current → Tell v ≡ readPlan n log x l c
-        unfolding guard readSlot known readPlan
-        read-known i v q = simp (whole, runs, lt-ltb c n h, found-here (x .count) k _ s i, q)
+        unfolding readSlot readPlan
+        read-known i v q = ap Tell q ∙ by-entry c h k s (readSlot log x l c) i
 
         pub read-new : x .count ≤ k → (p : Plan) → p ≡ newCell x l (Enter c) → p ≡ readPlan n log x l c
-        unfolding guard readSlot known readPlan
-        read-new i p q = simp (whole, runs, lt-ltb c n h, found-nowhere (x .count) k _ s i, q)
-
-        -- ---- hold
+        unfolding readSlot readPlan
+        read-new i p q = q ∙ by-none c h k s (readSlot log x l c) i
 
         pub hold-known : k < x .count → (v : ℕ) → v ≡ entryAt log k .current → Mark k v ≡ holdPlan n log x l c
-        unfolding guard holdSlot known holdPlan
-        hold-known i v q = simp (whole, runs, lt-ltb c n h, found-here (x .count) k _ s i, q)
+        unfolding holdSlot holdPlan
+        hold-known i v q = ap (Mark k) q ∙ by-entry c h k s (holdSlot log x l c) i
 
         pub hold-new : x .count ≤ k → (p : Plan) → p ≡ newCell x l (EnterMark c) → p ≡ holdPlan n log x l c
-        unfolding guard holdSlot known holdPlan
-        hold-new i p q = simp (whole, runs, lt-ltb c n h, found-nowhere (x .count) k _ s i, q)
+        unfolding holdSlot holdPlan
+        hold-new i p q = q ∙ by-none c h k s (holdSlot log x l c) i
 
       -- ---- write
 
@@ -261,17 +268,19 @@ module _ (n : ℕ) (log : List ℕ) (x : Session) where
     module _ (c : ℕ) where
       module _ (h : c < n) (k : ℕ) (s : found (x .count) k ≡ slotIn log (x .count) c) where
         pub peek-new : x .count ≤ k → Refuse 14 ≡ peekPlan n log x c
-        unfolding guard peekSlot known peekPlan
-        peek-new i = simp (whole, runs, lt-ltb c n h, found-nowhere (x .count) k _ s i)
+        unfolding peekSlot peekPlan
+        peek-new i = by-none c h k s (peekSlot log c) i
 
         module _ (i : k < x .count) (b : Bool) (d : b ≡ entryAt log k .dirty) where
+          shows : (q : Bool) → b ≡ q → cond q (ShowLog k) (ShowStore c) ≡ peekPlan n log x c
+          unfolding peekSlot peekPlan
+          shows q g = ap (λ (z : Bool). cond z (ShowLog k) (ShowStore c)) (sym g ∙ d) ∙ by-entry c h k s (peekSlot log c) i
+
           pub peek-written : b ≡ true → ShowLog k ≡ peekPlan n log x c
-          unfolding guard peekSlot known peekPlan
-          peek-written g = simp (whole, runs, lt-ltb c n h, found-here (x .count) k _ s i, sym d ∙ g)
+          peek-written g = shows true g
 
           pub peek-read : b ≡ false → ShowStore c ≡ peekPlan n log x c
-          unfolding guard peekSlot known peekPlan
-          peek-read g = simp (whole, runs, lt-ltb c n h, found-here (x .count) k _ s i, sym d ∙ g)
+          peek-read g = shows false g
 
 -- ---- write, once the cap is known
 
