@@ -194,12 +194,15 @@ fn committed_transactions_that_hold_what_they_read_run_one_after_the_other() {
     let (mut many_covered, mut many_skewed) = (0, 0);
     for case in 0..RUNS {
         let random = Random::for_case(SEED, case);
-        let (start, history, buffers) = random_run(&random, case % 2 == 0);
+        let covering = case % 2 == 0;
+        let (start, history, buffers) = random_run(&random, covering);
         let committed = history.committed();
         keeps_snapshots(&start, &committed);
         let (same, values) = one_after_the_other(&start, &committed);
         let count = |wanted: fn(&Transaction) -> bool| committed.iter().filter(|(_, transaction)| wanted(transaction)).count();
-        if count(|transaction| !transaction.covers_its_reads()) == 0 {
+        let uncovered = count(|transaction| !transaction.covers_its_reads());
+        assert!(!covering || uncovered == 0, "seed {}, case {}: who reads by holds alone covers its reads", SEED, case);
+        if uncovered == 0 {
             assert!(same, "seed {}, case {}", SEED, case);
             covered += 1;
             held += count(|transaction| !transaction.held.is_empty());
