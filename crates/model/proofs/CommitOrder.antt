@@ -17,7 +17,7 @@ use Rattle.model.specs.History.{Action, Event, run, Item, told, history,
 use Rattle.model.specs.Isolation.{All, Any, at, Commits, snapshotOf, commitOf, CommitsTo, Last, lastCommit, noCommit, Isolated, Ran}
 use Rattle.model.specs.Step.{Outcome, outcome, setUpEffect, setUpAnswer, setUp}
 use Rattle.model.specs.Told.{Told, began, got, put, held, sealed, moved, ended, holds, ReadOf, readUnless}
-use Rattle.model.proofs.Commits.{last-value}
+use Rattle.model.proofs.Commits.{all-both, last-value}
 use Rattle.model.proofs.Demand3.{set-up-fresh, ran-is}
 use Rattle.model.proofs.Effects.{not-pending}
 use Rattle.model.proofs.Invariant.{latest, before-latest, all-map}
@@ -32,10 +32,6 @@ all-any : (P : Name → Type 0) (x : Name) (ys : List Name) → All P ys → Any
 all-any P x [] a i = absurd i
 all-any P x (y ∷ ys) a (inl e) = subst P e (a .0)
 all-any P x (y ∷ ys) a (inr i) = all-any P x ys (a .1) i
-
-all-two {ℓ} : {A : Type ℓ} {P Q R : A → Type 0} (f : (a : A) → P a → Q a → R a) (l : List A) → All P l → All Q l → All R l
-all-two f [] a b = tt
-all-two f (x ∷ xs) a b = (f x (a .0) (b .0), all-two f xs (a .1) (b .1))
 
 -- ---- a list of transactions against `Last`
 
@@ -60,19 +56,25 @@ module _ (first : List ℕ) (h : List Item) where
       go y l (inl e) = absurd (let m : commitOf first h x ≡ commitOf first h y = ap (commitOf first h) e in omega arith)
       go y l (inr i) = i
 
-  -- with an earlier place, if what counts for the later is before it
-  sooner : (c p q v : ℕ) → p ≤ q → ((y : Name) → CommitsTo first h c q y → commitOf first h y < p) → Last first h c q v → Last first h c p v
-  sooner c p q v l f (noCommit none e) = noCommit (λ y k. none y (record { commits = k .commits; wrote = k .wrote; before = omega (arith, l, k .before) })) e
-  sooner c p q v l f (lastCommit x k newest e) =
-      lastCommit x (record { commits = k .commits; wrote = k .wrote; before = f x k })
-      (λ y j. newest y (record { commits = j .commits; wrote = j .wrote; before = omega (arith, l, j .before) })) e
+  -- two places for which the same commits count
+  counted : (c p q v : ℕ) → ((y : Name) → CommitsTo first h c p y → CommitsTo first h c q y) → ((y : Name) → CommitsTo first h c q y → CommitsTo first h c p y)
+      → Last first h c p v → Last first h c q v
+  counted c p q v f g (noCommit none e) = noCommit (λ y k. none y (g y k)) e
+  counted c p q v f g (lastCommit x k newest e) = lastCommit x (f x k) (λ y j. newest y (g y j)) e
 
-  -- with a later place
-  later : (c p q v : ℕ) → p ≤ q → ((y : Name) → CommitsTo first h c q y → commitOf first h y < p) → Last first h c p v → Last first h c q v
-  later c p q v l f (noCommit none e) = noCommit (λ y k. none y (record { commits = k .commits; wrote = k .wrote; before = f y k })) e
-  later c p q v l f (lastCommit x k newest e) =
-      lastCommit x (record { commits = k .commits; wrote = k .wrote; before = omega (arith, l, k .before) })
-      (λ y j. newest y (record { commits = j .commits; wrote = j .wrote; before = f y j })) e
+  -- as they do where all that counts for the later is before the earlier
+  module _ (c p q v : ℕ) (l : p ≤ q) (f : (y : Name) → CommitsTo first h c q y → commitOf first h y < p) where
+    wider : (y : Name) → CommitsTo first h c p y → CommitsTo first h c q y
+    wider y k = record { commits = k .commits; wrote = k .wrote; before = omega (arith, l, k .before) }
+
+    narrower : (y : Name) → CommitsTo first h c q y → CommitsTo first h c p y
+    narrower y k = record { commits = k .commits; wrote = k .wrote; before = f y k }
+
+    sooner : Last first h c q v → Last first h c p v
+    sooner = counted c q p v narrower wider
+
+    later : Last first h c p v → Last first h c q v
+    later = counted c p q v wider narrower
 
   -- the value after them is that of the last commit
   after-is : (c v q : ℕ) (xs : List Name) → Upto q xs → Last first h c q v → valueAfter first h xs c ≡ v
@@ -105,7 +107,7 @@ module _ (first : List ℕ) (h : List Item) where
         let e : commitOf first h x ≡ snapshotOf first h x = unfold commit in rw (eq-eqb (cellsWritten (length first) (at first h x)) 0 z) in
         rw e (I .reads x d)
     read-last x d (inr ws) =
-        all-two (λ r w l. later (r .cell) (snapshotOf first h x) (commitOf first h x) (r .value) (I .snapshots x d .1) (λ y k. go y k (I .apart y x (r .cell) (λ e. same-place y k e) (k .commits) d (k .wrote) w)) l)
+        all-both (λ r w l. later (r .cell) (snapshotOf first h x) (commitOf first h x) (r .value) (I .snapshots x d .1) (λ y k. go y k (I .apart y x (r .cell) (λ e. same-place y k e) (k .commits) d (k .wrote) w)) l)
         (readsBeforeWriting (at first h x)) ws (I .reads x d)
       where
         same-place : {c : ℕ} (y : Name) → CommitsTo first h c (commitOf first h x) y → y ≡ x → ⊥

@@ -23,9 +23,9 @@ pick p [] i a b = absurd i
 pick p (k ∷ ks) (inl e) a b = (k, e, a .0, b .0)
 pick p (k ∷ ks) (inr i) a b = pick p ks i (a .1) (b .1)
 
-pub all-both : {P Q R : Commit → Type 0} (f : (k : Commit) → P k → Q k → R k) (ks : List Commit) → All P ks → All Q ks → All R ks
+pub all-both {ℓ} : {A : Type ℓ} {P Q R : A → Type 0} (f : (x : A) → P x → Q x → R x) (xs : List A) → All P xs → All Q xs → All R xs
 all-both f [] a b = tt
-all-both f (k ∷ ks) a b = (f k (a .0) (b .0), all-both f ks (a .1) (b .1))
+all-both f (x ∷ xs) a b = (f x (a .0) (b .0), all-both f xs (a .1) (b .1))
 
 module _ (start : List ℕ) where
   lawful-order : (ks : List Commit) → Lawful start ks → All (λ (k : Commit). (0 < k .snap) × (k .snap ≤ k .place)) ks
