@@ -182,7 +182,9 @@ fn one_after_the_other(start: &[u32], committed: &[(usize, &Transaction)]) -> (b
     let mut values = start.to_vec();
     let mut same = true;
     for (_, transaction) in committed {
-        same &= transaction.read.iter().all(|(cell, value)| values[*cell as usize] == *value);
+        let alike = transaction.read.iter().all(|(cell, value)| values[*cell as usize] == *value);
+        assert!(alike || !transaction.covers_its_reads(), "who covers its reads read in order, whatever the others do");
+        same &= alike;
         transaction.wrote().into_iter().for_each(|(cell, value)| values[cell as usize] = value);
     }
     (same, values)

@@ -11,7 +11,7 @@ use lib.ListN.{length, getD}
 use borrow.Author.Tests.{eq-eqb}
 use Rattle.model.specs.declared.Answer.{Answer}
 use Rattle.model.specs.Buffers.{Store, fresh}
-use Rattle.model.specs.CommitOrder.{NewestFirst, ByCommit, valueAfter, ReadsInOrder, CoversReads, ReadsByHolds, NonePublishing, InCommitOrder}
+use Rattle.model.specs.CommitOrder.{NewestFirst, ByCommit, valueAfter, ReadsInOrder, CoversReads, CoveredInOrder, ReadsByHolds, NonePublishing, InCommitOrder}
 use Rattle.model.specs.Effects.{number}
 use Rattle.model.specs.History.{Action, Event, run, Item, told, history, Name, dirtied, heldIn, wrote, valueWritten, cellsWritten, readsBeforeWriting, commit}
 use Rattle.model.specs.Isolation.{All, Any, at, Commits, snapshotOf, commitOf, CommitsTo, Last, lastCommit, noCommit, Isolated, Ran}
@@ -118,14 +118,18 @@ module _ (first : List ℕ) (h : List Item) where
         go y k (inl a) = a
         go y k (inr b) = absurd (omega (arith, b, k .before, I .snapshots y (k .commits) .1))
 
-    reads-in-order : ((x : Name) → Commits first h x → CoversReads first h x) → (q : ℕ) (xs : List Name) → Upto q xs → ReadsInOrder first h xs
-    reads-in-order f q [] u = tt
-    reads-in-order f q (x ∷ xs) u =
+    covered-in-order : (q : ℕ) (xs : List Name) → Upto q xs → CoveredInOrder first h xs
+    covered-in-order q [] u = tt
+    covered-in-order q (x ∷ xs) u =
         let o = older q x xs u in
         let d = u .committed .0 in (
-          all-map (λ r l. sym (after-is (r .cell) (r .value) (commitOf first h x) xs o l)) (readsBeforeWriting (at first h x)) (read-last x d (f x d)),
-          reads-in-order f (commitOf first h x) xs o,
+          λ k. all-map (λ r l. sym (after-is (r .cell) (r .value) (commitOf first h x) xs o l)) (readsBeforeWriting (at first h x)) (read-last x d k),
+          covered-in-order (commitOf first h x) xs o,
         )
+
+  all-in-order : ((x : Name) → Commits first h x → CoversReads first h x) → (xs : List Name) → All (Commits first h) xs → CoveredInOrder first h xs → ReadsInOrder first h xs
+  all-in-order f [] a k = tt
+  all-in-order f (x ∷ xs) a k = (k .0 (f x (a .0)), all-in-order f xs (a .1) (k .1))
 
 -- ---- holds cover what they read
 
@@ -245,10 +249,12 @@ module _ {φ : Store} {h₀ : List Item} {T₀ : Ledger} (R : Ready φ h₀ T₀
 
   pub in-commit-order-from : InCommitOrder first h (run φ ks)
   in-commit-order-from =
+      let k = covered-in-order first h (isolation R ks) (suc (length ks)) (names commits) all-upto in
       record {
         order = names commits;
         byCommit = by-commit;
-        reads = λ f. reads-in-order first h (isolation R ks) f (suc (length ks)) (names commits) all-upto;
+        covered = k;
+        reads = λ f. all-in-order first h f (names commits) (by-commit .committed) k;
         left = λ n c lc. sym (after-is first h c (getD (run φ ks .lent .values) c 0) (suc (length ks)) (names commits) all-upto (left-last n c lc));
       }
 

@@ -1,5 +1,5 @@
 -- Whole transactions by commit place, beside demand 3 (document 02, Paper 4): where each that wrote or held a cell also wrote or held every cell that it read from
--- the store, they read what one after the other would; and once nobody publishes the store has what one after the other would leave.
+-- the store, they read what one after the other would, and each that did so does by itself; and once nobody publishes the store has what one after the other would leave.
 use Prim.Native.Nat.{ℕ, _<_}
 use mathlib.Core.Path.{_≡_}
 use mathlib.Core.Logic.{_⊎_}
@@ -44,6 +44,12 @@ module _ (first : List ℕ) (h : List Item) where
   CoversReads x =
       (cellsWritten (length first) (at first h x) ≡ 0) ⊎ All (λ (r : ReadOf). wrote (at first h x) (r .cell) ≡ true) (readsBeforeWriting (at first h x))
 
+  -- each that meets it read, before writing, what those before it left, whatever the others are
+  abbrev pub CoveredInOrder : List Name → Type 0
+  CoveredInOrder [] = Unit
+  CoveredInOrder (x ∷ xs) =
+      (CoversReads x → All (λ (r : ReadOf). r .value ≡ valueAfter xs (r .cell)) (readsBeforeWriting (at first h x))) × CoveredInOrder xs
+
   -- one way to meet it, whatever is written: no value was got by a read, of one cell or of many, so that all were by holds (`holds-cover`)
   abbrev pub ReadsByHolds : Name → Type 0
   ReadsByHolds x = All (λ (i : Item). (c v : ℕ) → i .told ≡ got c v → ⊥) (at first h x)
@@ -57,7 +63,9 @@ NonePublishing σ = (s : ℕ) → recordOf σ s .phase ≡ 3 → ⊥
 pub record InCommitOrder (first : List ℕ) (h : List Item) (τ : Store) : Type 0 where
   pub order : List Name
   pub byCommit : ByCommit first h order
-  -- where the condition holds of all, they read what one after the other would
+  -- each of which the condition holds read what one after the other would
+  pub covered : CoveredInOrder first h order
+  -- so where it holds of all, all did
   pub reads : ((x : Name) → Commits first h x → CoversReads first h x) → ReadsInOrder first h order
   -- and the store has what one after the other would leave, whether it holds or not
   pub left : NonePublishing τ → (c : ℕ) → c < length first → getD (τ .lent .values) c 0 ≡ valueAfter first h order c
