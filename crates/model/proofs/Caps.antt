@@ -17,35 +17,29 @@ use Rattle.model.specs.declared.Answer.{Answer}
 use Rattle.model.specs.declared.Answer.the-variants.{Moved, Committed, Refused}
 use Rattle.model.specs.declared.Plan.{Plan}
 use Rattle.model.specs.declared.Plan.the-variants.{Refuse, Start, Tell, Enter, Update, EnterUpdate, Mark, EnterMark, RollBack, Cancel, CommitReads, BeginPromotion, Wait, Acquire, Publish, Release, ShowStore, ShowLog}
-use Rattle.model.specs.Buffers.{Locks, Buffers, Store, idle, running, sessionAt, withSession, withEntry, moveTo, word, cellAt, entryAt, slotIn, entryOf, lookIn, targetIn, currentOf, appended, withDirty, withHeld, updated, marked, lockAt, onLock, join, cap, fits, allFit, lengthsFit, fresh, logIn, onLog, size}
-use Rattle.model.specs.Caps.{capOf, GotWithin, WithinCaps}
-use Rattle.model.specs.History.{Action, oneCall, manyReads, actor, tellsOf, leaves, eventOf, run, events, told, history, add}
+use Rattle.model.specs.Buffers.{Locks, Buffers, Store, idle, running, sessionAt, withSession, withEntry, moveTo, word, cellAt, entryAt, slotIn, entryOf, lookIn, targetIn, currentOf, appended, withDirty, withHeld, updated, marked, lockAt, onLock, join, cap, hasCaps, fits, allFit, lengthsFit, fresh, logIn, onLog, size}
+use Rattle.model.specs.Caps.{capOf, EachGotWithin, InUse, EntryWithin, WithinCaps}
+use Rattle.model.specs.History.{Action, oneCall, manyReads, loadCaps, tellsOf, leaves, eventOf, run}
 use Rattle.model.specs.Isolation.{All}
+use Rattle.model.specs.Load.{allIdle, withCaps}
 use Rattle.model.specs.Readers.{otherReaders}
 use Rattle.model.specs.Search.{some?, find}
 use Rattle.model.specs.Plans.{guard, known, claimed, readSlot, holdSlot, writeSlot, writeCapped, sealTarget, promotePlan, advanceTarget, plan, admit}
 use Rattle.model.specs.Effects.{number, isLeft, handled, change, changeLogs, recordOf, after, releaseAnswer, answer, logOf}
 use Rattle.model.specs.Step.{sessionOf, planOf, step, answerOf, setUpAnswer, setUp}
 use Rattle.model.specs.Told.{Told, began, got, put, held, sealed, moved, ended, ending, foundBy, tells, WhereGot}
-use Rattle.model.proofs.Demand3.{set-up-passed, set-up-fresh}
+use Rattle.model.proofs.Demand3.{Passed, set-up-passed, set-up-fresh}
 use Rattle.model.proofs.Laws.{find-some, getD-sets-other, log-length, log-same, log-other, length-on, grown-word, grown-apart, appended-cell, marked-words}
 use Rattle.model.proofs.Invariant.{all-append}
 use Rattle.model.proofs.ManyReads.{kept-by-reads}
 use Rattle.model.proofs.Passing.{choose, guarded, cell-known, cell-new}
 use Rattle.model.proofs.Quiet.{Quiet, peeks}
-use Rattle.model.proofs.Runs.{first, history-step}
+use Rattle.model.proofs.Loading.{Loaded, load-cases}
+use Rattle.model.proofs.Runs.{first}
 use Rattle.model.proofs.Telling.{tells-any}
 use Rattle.model.proofs.Tools.{same, split, test, which, clash, both-l, both-r, and-false}
 
 -- ---- the invariant
-
--- entry k is in use: of a session that is not idle, below its count
-abbrev pub InUse : Session → ℕ → Type 0
-InUse x k = (x .phase ≡ 0 → ⊥) × (k < x .count)
-
--- the current value of entry k of a part is within the bound of its cell
-abbrev pub EntryWithin : (ℕ → ℕ) → List ℕ → ℕ → Type 0
-EntryWithin bound log k = entryAt log k .current ≤ bound (cellAt log k)
 
 pub record Capped (σ : Store) : Type 0 where
   pub stored : (c : ℕ) → getD (σ .lent .values) c 0 ≤ capOf σ c
@@ -251,12 +245,13 @@ module _ {σ : Store} (I : Capped σ) where
       let k = getD (σ .lent .classes) c 0 in
       let call = Write s c v in
       let m = recordOf σ s .count in
-      on-cell call c (cond (ltb k 16) (writeCapped (logOf σ s) (recordOf σ s) (lockAt (σ .lent .locks) c) c v (cap k)) (Refuse 8))
+      split (CapsKept call) (hasCaps (σ .limits .caps))
+      (λ _. on-cell call c (cond (ltb k 16) (writeCapped (logOf σ s) (recordOf σ s) (lockAt (σ .lent .locks) c) c v (cap (σ .limits .caps) k)) (Refuse 8))
       (λ len lt n.
       split (CapsKept call) (ltb k 16)
-      (λ _. split (CapsKept call) (leb v (cap k))
+      (λ _. split (CapsKept call) (leb v (cap (σ .limits .caps) k))
       (λ h.
-      let le : v ≤ capOf σ c = leb-true v (cap k) h in
+      let le : v ≤ capOf σ c = leb-true v (cap (σ .limits .caps) k) h in
       choose (CapsKept call) (writeSlot (recordOf σ s) (lockAt (σ .lent .locks) c) c v) (slotIn (logOf σ s) m c)
       (λ _. cell-new (CapsKept call) (recordOf σ s) (lockAt (σ .lent .locks) c) (EnterUpdate c v) (keep-refusal call 5) (λ _. keep-rollback call)
       (λ room _.
@@ -264,7 +259,8 @@ module _ {σ : Store} (I : Capped σ) where
       (update-keeps (enter-keeps I s n len lt room c) s m lt (entered-length s (σ .lent .logs) m c u lt len) v (rw (entered-cell s (σ .lent .logs) m c u lt len room) le), (tt, tt))))
       (λ j p. (update-keeps I s j lt len v (rw (find-some (cellAt (logOf σ s)) c m p .1) le), (tt, tt))))
       (λ _. keep-refusal call 4))
-      (λ _. keep-refusal call 8))
+      (λ _. keep-refusal call 8)))
+      (λ _. keep-refusal call 7)
 
   keep-hold : (s c : ℕ) → CapsKept (Hold s c) (planOf (Hold s c) σ)
   unfolding planOf plan holdSlot after answer lookIn slotIn entryOf tells ending
@@ -343,46 +339,53 @@ module _ {σ : Store} (I : Capped σ) where
   unfolding answerOf step
   tells-within k = keep k .1
 
--- ---- classes never change
+-- ---- no call changes a cap
 
-classes-after : (s : ℕ) (p : Plan) (σ : Store) → after s p σ .lent .classes ≡ σ .lent .classes
+caps-after : (s : ℕ) (p : Plan) (σ : Store) → capOf (after s p σ) ≡ capOf σ
 unfolding after
-classes-after s (Refuse k) σ = refl
-classes-after s Start σ = refl
-classes-after s (Tell v) σ = refl
-classes-after s (Enter c) σ = refl
-classes-after s (Update k v) σ = refl
-classes-after s (EnterUpdate c v) σ = refl
-classes-after s (Mark k v) σ = refl
-classes-after s (EnterMark c) σ = refl
-classes-after s RollBack σ = refl
-classes-after s Cancel σ = refl
-classes-after s CommitReads σ = refl
-classes-after s BeginPromotion σ = refl
-classes-after s (Wait c) σ = refl
-classes-after s (Acquire c) σ = refl
-classes-after s (Publish c v) σ = refl
-classes-after s (Release c) σ = refl
-classes-after s (ShowStore c) σ = refl
-classes-after s (ShowLog k) σ = refl
+caps-after s (Refuse k) σ = refl
+caps-after s Start σ = refl
+caps-after s (Tell v) σ = refl
+caps-after s (Enter c) σ = refl
+caps-after s (Update k v) σ = refl
+caps-after s (EnterUpdate c v) σ = refl
+caps-after s (Mark k v) σ = refl
+caps-after s (EnterMark c) σ = refl
+caps-after s RollBack σ = refl
+caps-after s Cancel σ = refl
+caps-after s CommitReads σ = refl
+caps-after s BeginPromotion σ = refl
+caps-after s (Wait c) σ = refl
+caps-after s (Acquire c) σ = refl
+caps-after s (Publish c v) σ = refl
+caps-after s (Release c) σ = refl
+caps-after s (ShowStore c) σ = refl
+caps-after s (ShowLog k) σ = refl
 
-classes-step : (k : Call) (σ : Store) → step k σ .lent .classes ≡ σ .lent .classes
+caps-step : (k : Call) (σ : Store) → capOf (step k σ) ≡ capOf σ
 unfolding step
-classes-step k σ = classes-after (sessionOf k) (planOf k σ) σ
+caps-step k σ = caps-after (sessionOf k) (planOf k σ) σ
 
-classes-leaves : (k : Action) (σ : Store) → leaves k σ .lent .classes ≡ σ .lent .classes
-classes-leaves (oneCall k) σ = classes-step k σ
-classes-leaves (manyReads s cs words) σ =
-    kept-by-reads (λ _ _ τ. τ .lent .classes ≡ σ .lent .classes) s (λ _ _ τ _ e c. classes-step (Read s c) τ ∙ e) cs words σ refl refl refl
+-- ---- what set-up and a load tested
 
-pub classes-run : (σ : Store) (ks : List Action) → run σ ks .lent .classes ≡ σ .lent .classes
-unfolding run
-classes-run σ [] = refl
-classes-run σ (k ∷ ks) = classes-leaves k (run σ ks) ∙ classes-run σ ks
+all-fit : (T vs ks : List ℕ) → allFit T vs ks ≡ true → (c : ℕ) → getD vs c 0 ≤ cap T (getD ks c 0)
+unfolding allFit fits
+all-fit T [] ks h c = omega arith
+all-fit T (v ∷ vs) [] h c = absurd (clash false h refl)
+all-fit T (v ∷ vs) (k ∷ ks) h zero = leb-true v (cap T k) (both-r (ltb k 16) (leb v (cap T k)) (both-l (fits T k v) (allFit T vs ks) h))
+all-fit T (v ∷ vs) (k ∷ ks) h (suc c) = all-fit T vs ks (both-r (fits T k v) (allFit T vs ks) h) c
 
--- stores of the same classes have the same caps
-caps-same : (σ τ : Store) → σ .lent .classes ≡ τ .lent .classes → capOf σ ≡ capOf τ
-caps-same σ τ e = ap {B = ℕ → ℕ} (λ (l : List ℕ) (c : ℕ). cap (getD l c 0)) e
+all-idle : (xs : List Session) → allIdle xs ≡ true → (s : ℕ) → getD xs s idle .phase ≡ 0
+unfolding allIdle
+all-idle [] h s = refl
+all-idle (x ∷ xs) h zero = eqb-true (x .phase) 0 (both-l (eqb (x .phase) 0) (allIdle xs) h)
+all-idle (x ∷ xs) h (suc s) = all-idle xs (both-r (eqb (x .phase) 0) (allIdle xs) h) s
+
+-- no entry is in use, so that the values alone are bound by the new table
+capped-load : (T : List ℕ) (σ : Store) → Loaded T σ → Capped (withCaps T σ)
+unfolding sessionAt
+capped-load T σ l =
+    record { stored = all-fit T (σ .lent .values) (σ .lent .classes) (l .values); logged = λ s k u. absurd (u .0 (all-idle (σ .sessions .records) (l .idle) s)) }
 
 -- ---- the actions
 
@@ -394,13 +397,14 @@ within-call : (ws : List Told) (τ : Store) → Within ws τ → (k : Call) → 
 within-call ws τ w k =
     let us = tells k (answerOf k τ) (foundBy k (step k τ)) in (
       keeps-capped (w .0) k,
-      subst (λ (bound : ℕ → ℕ). TellsWithin bound (us ++ ws)) (caps-same τ (step k τ) (sym (classes-step k τ)))
+      subst (λ (bound : ℕ → ℕ). TellsWithin bound (us ++ ws)) (sym (caps-step k τ))
           (all-append (WhereGot (λ c v. v ≤ capOf τ c)) us ws (tells-within (w .0) k) (w .1)),
     )
 
 within-action : {σ : Store} → Capped σ → (k : Action) → Within (tellsOf (eventOf k σ)) (leaves k σ)
 within-action {σ} I (oneCall k) = subst (λ (ws : List Told). Within ws (step k σ)) (append-nil (tells k (answerOf k σ) (foundBy k (step k σ)))) (within-call [] σ (I, tt) k)
 within-action {σ} I (manyReads s cs words) = kept-by-reads (λ ws _ τ. Within ws τ) s (λ ws _ τ _ w c. within-call ws τ w (Read s c)) cs words σ (I, tt) (I, tt) (I, tt)
+within-action {σ} I (loadCaps T) = (load-cases Capped T σ (capped-load T σ) I, tt)
 
 -- ---- every list of actions
 
@@ -411,37 +415,22 @@ module _ {σ : Store} (I : Capped σ) where
   capped-run [] = I
   capped-run (k ∷ ks) = within-action (capped-run ks) k .0
 
-  got-within : (ks : List Action) → All (GotWithin σ) (history [] σ ks)
-  unfolding run
-  got-within [] = unfold told events in tt
-  got-within (k ∷ ks) =
-      let e = eventOf k (run σ ks) in
-      subst (All (GotWithin σ)) (sym (history-step [] σ k ks))
-      (more (got-within ks) (actor (e .action)) (tellsOf e)
-      (subst (λ (bound : ℕ → ℕ). TellsWithin bound (tellsOf e)) (caps-same (run σ (k ∷ ks)) σ (classes-run σ (k ∷ ks))) (within-action (capped-run ks) k .1)))
-    where
-      more : All (GotWithin σ) (history [] σ ks) → (s : ℕ) (ws : List Told) → TellsWithin (capOf σ) ws
-          → All (GotWithin σ) (add (suc (length ks)) s ws (history [] σ ks))
-      more g s [] a = g
-      more g s (w ∷ ws) a = (a .0, more g s ws (a .1))
+  got-within : (ks : List Action) → EachGotWithin σ ks
+  got-within [] = tt
+  got-within (k ∷ ks) = (got-within ks, unfold run in within-action (capped-run ks) k .1)
 
   pub within-from : (ks : List Action) → WithinCaps σ ks
-  within-from ks =
-      record { stored = λ c. subst (λ (bound : ℕ → ℕ). getD (run σ ks .lent .values) c 0 ≤ bound c) (caps-same (run σ ks) σ (classes-run σ ks)) (capped-run ks .stored c); got = got-within ks }
+  within-from ks = record { stored = capped-run ks .stored; got = got-within ks; logged = capped-run ks .logged }
 
--- what set-up tested
-pub all-fit : (vs ks : List ℕ) → allFit vs ks ≡ true → (c : ℕ) → getD vs c 0 ≤ cap (getD ks c 0)
-unfolding allFit fits
-all-fit [] ks h c = omega arith
-all-fit (v ∷ vs) [] h c = absurd (clash false h refl)
-all-fit (v ∷ vs) (k ∷ ks) h zero = leb-true v (cap k) (both-r (ltb k 16) (leb v (cap k)) (both-l (fits k v) (allFit vs ks) h))
-all-fit (v ∷ vs) (k ∷ ks) h (suc c) = all-fit vs ks (both-r (fits k v) (allFit vs ks) h) c
-
-pub capped-fresh : (B : Buffers) → allFit (B .values) (B .classes) ≡ true → Capped (fresh B)
+pub capped-fresh : (σ : Store) → Passed σ → Capped (fresh (σ .limits) (σ .lent))
 unfolding fresh
-capped-fresh B h = record { stored = all-fit (B .values) (B .classes) h; logged = λ s k u. absurd (u .0 (ap (λ (x : Session). x .phase) (first B s))) }
+capped-fresh σ p =
+    record {
+      stored = all-fit (σ .limits .caps) (σ .lent .values) (σ .lent .classes) (p .values);
+      logged = λ s k u. absurd (u .0 (ap (λ (x : Session). x .phase) (first (σ .limits) (σ .lent) s)));
+    }
 
--- any store that set-up answers 100, and any list of actions from what it leaves
-pub within-caps : (σ : Store) → number (setUpAnswer (σ .lent)) ≡ 100 → (actions : List Action) → WithinCaps (setUp σ) (reverse actions)
+-- any store that set-up answers 100, with whatever table passed, and any list of actions from what it leaves
+pub within-caps : (σ : Store) → number (setUpAnswer σ) ≡ 100 → (actions : List Action) → WithinCaps (setUp σ) (reverse actions)
 within-caps σ h actions =
-    subst (λ (φ : Store). WithinCaps φ (reverse actions)) (sym (set-up-fresh σ h)) (within-from (capped-fresh (σ .lent) (set-up-passed (σ .lent) h .1)) (reverse actions))
+    subst (λ (φ : Store). WithinCaps φ (reverse actions)) (sym (set-up-fresh σ h)) (within-from (capped-fresh σ (set-up-passed σ h)) (reverse actions))

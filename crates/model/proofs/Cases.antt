@@ -1,20 +1,20 @@
 -- Single calls and set-up answer and leave what the tables of specs/Cases.antt and specs/SetUpCases.antt say, by computation over the step definitions.
 use Prim.Native.Nat.{ℕ, suc, _+_, _*_, _-_}
 use mathlib.Core.Path.{_≡_, refl, _∙_}
-use mathlib.Core.Bool.{Bool}
+use mathlib.Core.Bool.{Bool, _&&_}
 use mathlib.Core.List.{List, [], _∷_, map}
-use lib.Dec.{ltb}
+use lib.Dec.{ltb, eqb}
 use lib.ListN.{length, replicate, length-append, length-replicate}
 use Rattle.model.specs.declared.Call.{Call}
 use Rattle.model.specs.declared.Call.the-variants.{Write}
 use Rattle.model.specs.declared.Answer.the-variants.{Done, Refused}
 use Rattle.model.specs.declared.Plan.{Plan}
 use Rattle.model.specs.declared.Plan.the-variants.{Refuse}
-use Rattle.model.specs.Buffers.{Buffers, Store, size, lockAt, allFit, lengthsMatch, lengthsFit}
-use Rattle.model.specs.Plans.{require, plan}
+use Rattle.model.specs.Buffers.{Buffers, Store, size, lockAt, ourCaps, hasCaps, passes, allFit, lengthsMatch, lengthsFit}
+use Rattle.model.specs.Plans.{require, plan, tableFits}
 use Rattle.model.specs.Computing.{computing}
 use Rattle.model.specs.Effects.{Part, number, recordOf, logOf, answer, shown, after}
-use Rattle.model.specs.Step.{sessionOf, planOf, step, answerOf, setUpAnswer}
+use Rattle.model.specs.Step.{sessionOf, planOf, step, answerOf, setUpRefusal, setUpAnswer}
 use Rattle.model.specs.Cases.{State, storeWith, Result, result, Case, actual, expected, steps, refusals, order, Phased, answered, phases, damaged, Peeked, handed, parts}
 use Rattle.model.specs.SetUpCases.{Started, startedBy, startsBy, lendings, Cap, ofClass, judged, caps}
 
@@ -30,9 +30,10 @@ fitBy n B = lengthsMatch (size B) (length (B .classes)) (length (B .locks .reade
 
 unfoldable planBy : ℕ → Call → Store → Plan
 planBy n k σ =
-    require (fitBy n (σ .lent)) (Refuse 7)
+    require (tableFits k (σ .limits)) (Refuse 7)
+    (require (fitBy n (σ .lent)) (Refuse 7)
     (require (ltb (sessionOf k) 16) (Refuse 1)
-    (plan k (size (σ .lent)) (σ .lent .classes) (logOf σ (sessionOf k)) (recordOf σ (sessionOf k)) (lockAt (σ .lent .locks))))
+    (plan k (size (σ .lent)) (σ .lent .classes) (σ .limits) (logOf σ (sessionOf k)) (recordOf σ (sessionOf k)) (lockAt (σ .lent .locks)))))
 
 unfoldable planIn : Call → ℕ → State → Plan
 planIn k s x = planBy (128 * s + (length (x .words) + (2048 - (128 * s + length (x .words))))) k (storeWith s x)
@@ -60,12 +61,13 @@ answered-by rs = λ i. map (λ (r : Phased). numbersBy r (λ p. planned (r .call
 abbrev judgedBy : ℕ → ℕ → ℕ → List ℕ
 judgedBy n k v =
     let B = ofClass k v .lent in
-    number (require (fitBy n B) (Refused 7) (require (allFit (B .values) (B .classes)) (Refused 8) Done))
+    let r : ℕ = require (hasCaps ourCaps && fitBy n B) 7 (require (passes ourCaps) 16 (require (allFit ourCaps (B .values) (B .classes)) 8 0)) in
+    number (require (eqb r 0) (Refused r) Done)
     ∷ number (answer 0 (planBy n (Write 0 0 v) (ofClass k 0)) (ofClass k 0))
     ∷ []
 
 judged-by : (f : Cap → ℕ) (rs : List Cap) → map {B = List ℕ} (λ (r : Cap). judged (r .class) (f r)) rs ≡ map {B = List ℕ} (λ (r : Cap). judgedBy 2048 (r .class) (f r)) rs
-unfolding judged answerOf planOf planBy lengthsFit setUpAnswer
+unfolding judged answerOf planOf planBy lengthsFit setUpAnswer setUpRefusal
 judged-by f rs = λ i. map (λ (r : Cap). judgedBy (length-replicate {A = ℕ} 2048 0 i) (r .class) (f r)) rs
 
 -- ---- the tables

@@ -259,11 +259,11 @@ module _ {φ : Store} {h₀ : List Item} {T₀ : Ledger} (R : Ready φ h₀ T₀
       }
 
 -- any store that set-up answers 100, and any list of actions from what it leaves
-pub in-commit-order : (σ : Store) → number (setUpAnswer (σ .lent)) ≡ 100 → (actions : List Action) → let φ = setUp σ in let ks = reverse actions in
+pub in-commit-order : (σ : Store) → number (setUpAnswer σ) ≡ 100 → (actions : List Action) → let φ = setUp σ in let ks = reverse actions in
     InCommitOrder (φ .lent .values) (history [] φ ks) (run φ ks)
 in-commit-order σ g actions =
     subst (λ (φ : Store). InCommitOrder (φ .lent .values) (history [] φ (reverse actions)) (run φ (reverse actions))) (sym (set-up-fresh σ g))
-    (in-commit-order-from (ready (fresh (σ .lent)) (inv-fresh (σ .lent))) (reverse actions))
+    (in-commit-order-from (ready (fresh (σ .limits) (σ .lent)) (inv-fresh (σ .limits) (σ .lent))) (reverse actions))
 
 -- code: a set-up that kept its contract and answered 100 left σ, and the calls kept theirs
 pub in-commit-order-of-code : (φ σ : Store) (a : Answer) → outcome a σ ≡ setUpEffect φ → number a ≡ 100

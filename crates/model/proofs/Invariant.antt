@@ -10,6 +10,7 @@ use lib.ListN.{length, getD}
 use borrow.Author.Tests.{lt-ltb, le-ltb}
 use Rattle.model.specs.declared.Session.{Session}
 use Rattle.model.specs.Buffers.{Store, Entry, isDirty, publishes, isPublished, currentOf, lockAt}
+use Rattle.model.specs.Load.{withCaps}
 use Rattle.model.specs.Isolation.{All, Holds}
 use Rattle.model.specs.Search.{tally}
 use Rattle.model.specs.Effects.{recordOf}
@@ -233,6 +234,21 @@ calms {σ} {T} I =
       begun = I .begun;
       old = I .old;
       just = just-off σ false (T .commits) refl;
+    }
+
+-- another table of caps in force
+pub recaps : {start : List ℕ} {σ : Store} {T : Ledger} (caps : List ℕ) → Inv start σ T → Inv start (withCaps caps σ) T
+unfolding role look
+recaps {σ} {T} caps I =
+    record {
+      shape = record { values = I .shape .values; records = I .shape .records; long = I .shape .long; logs = I .shape .logs; counts = I .shape .counts };
+      locked = I .locked;
+      valued = I .valued;
+      link = I .link;
+      lawful = I .lawful;
+      begun = I .begun;
+      old = I .old;
+      just = just-map σ (withCaps caps σ) (T .new) (T .commits) (λ s c h. h) (I .just);
     }
 
 -- the next place

@@ -3,6 +3,7 @@ pub mod Laws
 pub mod Carried
 pub mod Passing
 pub mod Telling
+pub mod Loading
 pub mod Quiet
 pub mod Sets
 pub mod Roles

@@ -14,8 +14,8 @@ use Rattle.model.specs.declared.Answer.{Answer}
 use Rattle.model.specs.declared.Answer.the-variants.{Done, Refused}
 use Rattle.model.specs.declared.Plan.{Plan}
 use Rattle.model.specs.declared.Plan.the-variants.{Refuse, Start, Enter, Update, EnterUpdate, Mark, EnterMark, Cancel, Acquire, Publish, Release}
-use Rattle.model.specs.Buffers.{Store, size, idle, moveTo, Entry, cellAt, entryAt, slotIn, isPublished, targetIn, currentOf, lockAt, cap}
-use Rattle.model.specs.History.{Action, oneCall, manyReads, event, withFound, leaves, eventOf}
+use Rattle.model.specs.Buffers.{Store, size, idle, moveTo, Entry, cellAt, entryAt, slotIn, isPublished, targetIn, currentOf, lockAt, cap, hasCaps}
+use Rattle.model.specs.History.{Action, oneCall, manyReads, loadCaps, event, withFound, leaves, eventOf}
 use Rattle.model.specs.Isolation.{All, at}
 use Rattle.model.specs.ManyReads.{readMany}
 use Rattle.model.specs.Readers.{otherReaders}
@@ -26,7 +26,8 @@ use Rattle.model.specs.Effects.{rolledBack, handled, change, recordOf, a
 use Rattle.model.specs.Step.{sessionOf, planOf, step, answerOf}
 use Rattle.model.proofs.Advancing.{target-some, target-none, more-open, holds-more, last-done, holds-last, waits, publishes-more, publishes-last, releases-more, releases-last}
 use Rattle.model.proofs.Effects.{not-pending, slot-none, slot-some, replaced, amended, rolls, started, learns, ε, enter-phase, enter-look, enter-slot, enters, notes, marks}
-use Rattle.model.proofs.Invariant.{Running, Promoting, Finishing, Inv, calms, ticks}
+use Rattle.model.proofs.Invariant.{Running, Promoting, Finishing, Inv, calms, recaps, ticks}
+use Rattle.model.proofs.Loading.{load-cases}
 use Rattle.model.proofs.Laws.{find-some, below-is, tally-flat, tally-more}
 use Rattle.model.proofs.Ledger.{Txn, closed, saw, wroteTo, holdsTo, sealedAt, advanced, Commit, Ledger, tick, calm, asCommit, amend, starts, hears, observe}
 use Rattle.model.proofs.ManyReads.{ByRead, hears-after, kept-by-reads}
@@ -222,11 +223,12 @@ module _ {first : List ℕ} {σ : Store} {T : Ledger} (I : Inv first σ T) where
   unfolding planOf plan observe tells ending after answer writeCapped writeSlot slot
   keep-write s c v =
       let k = getD (σ .lent .classes) c 0 in
-      on-cell (InvKept (Write s c v)) s c (cond (ltb k 16) (writeCapped (logOf σ s) (recordOf σ s) (lockAt (σ .lent .locks) c) c v (cap k)) (Refuse 8)) stays stays stays stays stays
+      split (InvKept (Write s c v)) (hasCaps (σ .limits .caps))
+      (λ _. on-cell (InvKept (Write s c v)) s c (cond (ltb k 16) (writeCapped (logOf σ s) (recordOf σ s) (lockAt (σ .lent .locks) c) c v (cap (σ .limits .caps) k)) (Refuse 8)) stays stays stays stays stays
       (λ lt ph lc.
       let r = runs s ph in
       split (InvKept (Write s c v)) (ltb k 16)
-      (λ _. split (InvKept (Write s c v)) (leb v (cap k))
+      (λ _. split (InvKept (Write s c v)) (leb v (cap (σ .limits .caps) k))
       (λ _. choose (InvKept (Write s c v)) (writeSlot (recordOf σ s) (lockAt (σ .lent .locks) c) c v) (slot σ s c)
       (λ p. cell-new (InvKept (Write s c v)) (recordOf σ s) (lockAt (σ .lent .locks) c) (EnterUpdate c v) stays (λ _. ticks (roll-back s lt (r .live) (λ e. omega (arith, ph, e))))
       (λ room cl.
@@ -234,7 +236,8 @@ module _ {first : List ℕ} {σ : Store} {T : Ledger} (I : Inv first σ T) where
       (notes s lt (enters s lt I c ph p room lc cl) c (recordOf σ s .count) v (enter-phase s lt I c ph p room) (enter-slot s lt I c ph p room) .1)))
       (λ j p. rw (amend-same s (wroteTo c v (foundBy (Write s c v) (after s (Update j v) σ))) T (r .live) (and-not (T .mine s .done))) (notes s lt I c j v ph p .1)))
       (λ _. stays))
-      (λ _. stays))
+      (λ _. stays)))
+      (λ _. stays)
 
   -- a hold of known and of new cells
   keep-hold : (s c : ℕ) → InvKept (Hold s c) (planOf (Hold s c) σ)
@@ -387,3 +390,4 @@ module _ {first : List ℕ} {σ : Store} {T : Ledger} (I : Inv first σ T) where
   unfolding step answerOf observe
   keep (oneCall k) = keep-call I k
   keep (manyReads s cs words) = ticks (kept-with-inv s (λ _ _ _. Unit {0}) (λ _ _ _ _ _ _ _. tt) cs words tt tt tt .0)
+  keep (loadCaps caps) = ticks (load-cases (λ τ. Inv first τ (calm T)) caps σ (λ _. recaps caps (calms I)) (calms I))

@@ -7,7 +7,7 @@ use mathlib.Core.Bool.{false}
 use mathlib.Core.List.{List, [], _∷_}
 use lib.ListN.{length, getD, replicate, length-replicate}
 use Rattle.model.specs.declared.Session.{Session}
-use Rattle.model.specs.Buffers.{Buffers, Store, size, idle, sessionAt, lockAt, fresh}
+use Rattle.model.specs.Buffers.{Buffers, Limits, Store, size, idle, sessionAt, lockAt, fresh}
 use Rattle.model.specs.History.{Action, actor, tellsOf, eventOf, Item, add, run, events, told, history, transaction}
 use Rattle.model.specs.Isolation.{All}
 use Rattle.model.specs.Readers.{odd, member}
@@ -35,19 +35,19 @@ unfolding member odd
 member-zero zero = refl
 member-zero (suc s) = member-zero s
 
-module _ (B : Buffers) where
-  pub first : (s : ℕ) → recordOf (fresh B) s ≡ idle
+module _ (G : Limits) (B : Buffers) where
+  pub first : (s : ℕ) → recordOf (fresh G B) s ≡ idle
   unfolding sessionAt fresh
   first s = always {A = Session} 16 s idle
 
-  bare : (c : ℕ) → lockAt (fresh B .lent .locks) c ≡ record { readers = 0; claimant = 16; exclusive = 0 }
+  bare : (c : ℕ) → lockAt (fresh G B .lent .locks) c ≡ record { readers = 0; claimant = 16; exclusive = 0 }
   unfolding lockAt fresh
   bare c = rw (always {A = ℕ} (size B) c 0, always {A = ℕ} (size B) c 16)
 
-  nobody-in : (c s : ℕ) → role (fresh B) c s ≡ out
-  nobody-in c s = idle-out (fresh B) s c (ap (λ (x : Session). x .phase) (first s))
+  nobody-in : (c s : ℕ) → role (fresh G B) c s ≡ out
+  nobody-in c s = idle-out (fresh G B) s c (ap (λ (x : Session). x .phase) (first s))
 
-  pub inv-fresh : Inv (fresh B .lent .values) (fresh B) blank
+  pub inv-fresh : Inv (fresh G B .lent .values) (fresh G B) blank
   unfolding size fresh
   inv-fresh =
       record {
@@ -61,8 +61,8 @@ module _ (B : Buffers) where
         locked = λ c lc. rw (bare c)
             (record {
               readers = λ s. member-zero s ∙ sym (ap holds (nobody-in c s));
-              owner = λ s h. absurd (clash (owns (role (fresh B) c s)) h (ap owns (nobody-in c s)));
-              alone = λ s t h. absurd (clash (owns (role (fresh B) c s)) h (ap owns (nobody-in c s)));
+              owner = λ s h. absurd (clash (owns (role (fresh G B) c s)) h (ap owns (nobody-in c s)));
+              alone = λ s t h. absurd (clash (owns (role (fresh G B) c s)) h (ap owns (nobody-in c s)));
               early = λ s e m. absurd (let z : _≡_ {A = ℕ} 0 1 = m in omega arith);
               claimer = inl refl;
             });

@@ -13,8 +13,8 @@ use Rattle.model.specs.declared.Call.the-variants.{Begin, Read, Write, S
 use Rattle.model.specs.declared.Answer.{Answer}
 use Rattle.model.specs.declared.Plan.{Plan}
 use Rattle.model.specs.declared.Plan.the-variants.{Refuse, Start}
-use Rattle.model.specs.Buffers.{Store, size}
-use Rattle.model.specs.History.{Action, oneCall, manyReads, actor, Event, tellsOf, eventOf, Item, add, Name, name, transaction, isOpen}
+use Rattle.model.specs.Buffers.{Store, size, hasCaps}
+use Rattle.model.specs.History.{Action, oneCall, manyReads, loadCaps, actor, Event, tellsOf, eventOf, Item, add, Name, name, transaction, isOpen}
 use Rattle.model.specs.Isolation.{All}
 use Rattle.model.specs.Plans.{guard, plan, admit}
 use Rattle.model.specs.Effects.{number, valueOf, recordOf, answer, after, logOf}
@@ -157,7 +157,10 @@ module _ {first : List ℕ} {σ : Store} {T : Ledger} (I : Inv first σ T) {n : 
 
     heard-write : (c v : ℕ) → Fine (Write s c v) (planOf (Write s c v) σ)
     unfolding planOf plan
-    heard-write c v = running (Write s c v) _ (unfold tells ending answer in z) (unfold tells ending answer in z) (unfold tells ending answer in z) (unfold tells ending answer in z) (says-write s c v _ _)
+    heard-write c v =
+        split (Fine (Write s c v)) (hasCaps (σ .limits .caps))
+        (λ _. running (Write s c v) _ (unfold tells ending answer in z) (unfold tells ending answer in z) (unfold tells ending answer in z) (unfold tells ending answer in z) (says-write s c v _ _))
+        (λ _. unfold tells ending answer in z)
 
     heard-hold : (c : ℕ) → Fine (Hold s c) (planOf (Hold s c) σ)
     unfolding planOf plan
@@ -203,6 +206,7 @@ module _ {first : List ℕ} {σ : Store} {T : Ledger} (I : Inv first σ T) {h : 
       (subst (λ (q : ℕ). Matches n (add q s us g) (hears n s us (calm (hears n s ws (calm T))))) e
       (heard-read J N (subst (λ (q : ℕ). Before q g) (sym e) (before-reads (T .place) s ws h a before)) s c)))
       cs words still still still .1
+  heard-action (loadCaps caps) none = nothing-told I M before 16
 
 -- the ledger goes on to match
 pub heeds : {first : List ℕ} {σ : Store} {T : Ledger} → Inv first σ T → {h : List Item} → Matches (length first) h T → (q : ℕ) → T .place ≡ q

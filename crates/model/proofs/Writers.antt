@@ -8,7 +8,7 @@ use lib.Dec.{ltb, eqb}
 use lib.ListN.{length, List·getD-eq-default}
 use borrow.Author.Tests.{ltb-true, ltb-false, le-leb, lt-leb}
 use Rattle.model.specs.Buffers.{Locks, Store, lockAt}
-use Rattle.model.specs.History.{Action, oneCall, manyReads, actor, actionTells, Event, tellsOf, eventOf, Item, add, run, history, Name, transaction, isOpen, heldIn, changedIn, wrote, snapshot, commit, committed}
+use Rattle.model.specs.History.{Action, oneCall, manyReads, loadCaps, actor, actionTells, Event, tellsOf, eventOf, Item, add, run, history, Name, transaction, isOpen, heldIn, changedIn, wrote, snapshot, commit, committed}
 use Rattle.model.specs.Isolation.{All, at, Isolated, Holds, firsts, HoldsAtCommit}
 use Rattle.model.specs.Effects.{number, recordOf}
 use Rattle.model.specs.Step.{sessionOf}
@@ -103,6 +103,7 @@ observe-grows n e T = go (e .action)
         tells-any (P s) a (unfold ending in split (P s) (eqb (number a) 6 || eqb (number a) 105) (λ _. alone s ended) (λ _. kept refl)) (λ w _ _. alone s w)
         (λ _. closes (hear-grows n s sealed (calm T)) (amend-keeps s closed (hear n s sealed (calm T)) refl)) k (e .found)
     go (manyReads s cs words) = kept (hears-keeps n s (readsTell cs (e .values) (e .answer)) (calm T) (reads-by-read cs (e .values) (e .answer)) .0)
+    go (loadCaps caps) = kept refl
 
 -- ---- what more told does to a transaction
 

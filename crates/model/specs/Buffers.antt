@@ -26,9 +26,14 @@ pub record Buffers : Type 0 where
   pub locks : Locks
   pub logs : List ℕ
 
--- the lent buffers and the sixteen records: what one call hands to the next
+-- lent beside them, each to those calls alone that read it: the table of caps in force (document 02, Paper 5), the cap of class k at index k
+pub record Limits : Type 0 where
+  pub caps : List ℕ
+
+-- what is lent and the sixteen records: what one call hands to the next
 pub record Store : Type 0 where
   pub lent : Buffers
+  pub limits : Limits
   pub sessions : Sessions
 
 -- the number of cells
@@ -200,21 +205,37 @@ acquire s l = record { readers = l .readers; claimant = s; exclusive = 1 }
 
 -- ---- caps and set-up
 
--- caps by class 0 to 15
-unfoldable pub caps : List ℕ
-caps = 1 ∷ 6 ∷ 8 ∷ 10 ∷ 12 ∷ 15 ∷ 18 ∷ 21 ∷ 24 ∷ 27 ∷ 30 ∷ 36 ∷ 42 ∷ 48 ∷ 60 ∷ 4294967295 ∷ []
+-- our caps by class 0 to 15: a call that is handed no table goes by these
+unfoldable pub ourCaps : List ℕ
+ourCaps = 1 ∷ 6 ∷ 8 ∷ 10 ∷ 12 ∷ 15 ∷ 18 ∷ 21 ∷ 24 ∷ 27 ∷ 30 ∷ 36 ∷ 42 ∷ 48 ∷ 60 ∷ 4294967295 ∷ []
 
-unfoldable pub cap : ℕ → ℕ
-cap k = getD caps k 0
+abbrev pub ours : Limits
+ours = record { caps = ourCaps }
+
+-- the cap of a class, in a table T
+unfoldable pub cap : List ℕ → ℕ → ℕ
+cap T k = getD T k 0
+
+-- a table has 16 caps
+unfoldable pub hasCaps : List ℕ → Bool
+hasCaps T = eqb (length T) 16
+
+-- it passes where the first cap is 1 or more and each is above the one before it (document 02, Paper 5)
+unfoldable pub riseFrom : ℕ → List ℕ → Bool
+riseFrom m [] = true
+riseFrom m (c ∷ cs) = ltb m c && riseFrom c cs
+
+unfoldable pub passes : List ℕ → Bool
+passes T = riseFrom 0 T
 
 -- a class byte above 15 and a value above its cap do not fit
-unfoldable pub fits : ℕ → ℕ → Bool
-fits k v = ltb k 16 && leb v (cap k)
+unfoldable pub fits : List ℕ → ℕ → ℕ → Bool
+fits T k v = ltb k 16 && leb v (cap T k)
 
-unfoldable pub allFit : List ℕ → List ℕ → Bool
-allFit [] ks = true
-allFit (v ∷ vs) [] = false
-allFit (v ∷ vs) (k ∷ ks) = fits k v && allFit vs ks
+unfoldable pub allFit : List ℕ → List ℕ → List ℕ → Bool
+allFit T [] ks = true
+allFit T (v ∷ vs) [] = false
+allFit T (v ∷ vs) (k ∷ ks) = fits T k v && allFit T vs ks
 
 -- n from 1 to 1,024 values; classes, reader sets, claimants and marks n long; 2,048 words of logs
 unfoldable pub lengthsMatch : ℕ → ℕ → ℕ → ℕ → ℕ → ℕ → Bool
@@ -226,9 +247,9 @@ unfolding lengthsMatch
 lengthsFit B =
     lengthsMatch (size B) (length (B .classes)) (length (B .locks .readers)) (length (B .locks .claimants)) (length (B .locks .exclusives)) (length (B .logs))
 
--- all sessions idle, all locks empty, all log words 0; values and classes are not changed
-unfoldable pub fresh : Buffers → Store
-fresh B =
+-- all sessions idle, all locks empty, all log words 0; values, classes and limits are not changed
+unfoldable pub fresh : Limits → Buffers → Store
+fresh G B =
     let n = size B in
     record {
       lent = record {
@@ -237,5 +258,6 @@ fresh B =
         locks = record { readers = replicate n 0; claimants = replicate n 16; exclusives = replicate n 0 };
         logs = replicate 2048 0;
       };
+      limits = G;
       sessions = record { records = replicate 16 idle };
     }

@@ -8,7 +8,7 @@ use Rattle.model.specs.declared.Session.{Session}
 use Rattle.model.specs.declared.Call.{Call}
 use Rattle.model.specs.declared.Call.the-variants.{Begin, Read, Write, Seal, Advance, Abandon, Peek, Hold}
 use Rattle.model.specs.declared.Answer.{Answer}
-use Rattle.model.specs.Buffers.{Store}
+use Rattle.model.specs.Buffers.{Store, ours}
 use Rattle.model.specs.Effects.{number, valueOf, Part, storeWord, logWord, noWord, shown}
 use Rattle.model.specs.Step.{sessionOf, planOf, step, answerOf}
 
@@ -39,6 +39,7 @@ storeWith s x =
         locks = record { readers = x .readers; claimants = x .claimants; exclusives = x .exclusives };
         logs = replicate (128 * s) 9 ++ (x .words ++ replicate (2048 - (128 * s + length (x .words))) 9);
       };
+      limits = ours;
       sessions = record { records = set (replicate 16 (session 3 9 1)) s (x .mine) };
     }
 

@@ -62,15 +62,15 @@ releaseAnswer log c x = cond (isLeft log c x) Moved Committed
 -- the store with these locks, values, logs and record of session s; with these locks; with these logs (the forms that the laws in proofs/ go by)
 abbrev pub change : Store → ℕ → Locks → List ℕ → List ℕ → Session → Store
 change σ s L vs W x =
-    record { lent = record { values = vs; classes = σ .lent .classes; locks = L; logs = W }; sessions = withSession (σ .sessions) s x }
+    record { lent = record { values = vs; classes = σ .lent .classes; locks = L; logs = W }; limits = σ .limits; sessions = withSession (σ .sessions) s x }
 
 abbrev pub changeLocks : Store → Locks → Store
 changeLocks σ L =
-    record { lent = record { values = σ .lent .values; classes = σ .lent .classes; locks = L; logs = σ .lent .logs }; sessions = σ .sessions }
+    record { lent = record { values = σ .lent .values; classes = σ .lent .classes; locks = L; logs = σ .lent .logs }; limits = σ .limits; sessions = σ .sessions }
 
 abbrev pub changeLogs : Store → List ℕ → Store
 changeLogs σ W =
-    record { lent = record { values = σ .lent .values; classes = σ .lent .classes; locks = σ .lent .locks; logs = W }; sessions = σ .sessions }
+    record { lent = record { values = σ .lent .values; classes = σ .lent .classes; locks = σ .lent .locks; logs = W }; limits = σ .limits; sessions = σ .sessions }
 
 -- one of these changed: the locks, the values, the log of session s, the record of session s
 abbrev pub onLocks : (Locks → Locks) → Store → Store
@@ -78,7 +78,7 @@ onLocks f σ = changeLocks σ (f (σ .lent .locks))
 
 abbrev pub onValues : (List ℕ → List ℕ) → Store → Store
 onValues f σ =
-    record { lent = record { values = f (σ .lent .values); classes = σ .lent .classes; locks = σ .lent .locks; logs = σ .lent .logs }; sessions = σ .sessions }
+    record { lent = record { values = f (σ .lent .values); classes = σ .lent .classes; locks = σ .lent .locks; logs = σ .lent .logs }; limits = σ .limits; sessions = σ .sessions }
 
 abbrev pub onLogOf : ℕ → (List ℕ → List ℕ) → Store → Store
 onLogOf s f σ = changeLogs σ (onLog s f (σ .lent .logs))

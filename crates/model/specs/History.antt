@@ -10,25 +10,29 @@ use Rattle.model.specs.declared.Call.{Call}
 use Rattle.model.specs.declared.Answer.{Answer}
 use Rattle.model.specs.Buffers.{Store}
 use Rattle.model.specs.Search.{tally}
+use Rattle.model.specs.Load.{load, loadAnswer}
 use Rattle.model.specs.ManyReads.{readMany}
 use Rattle.model.specs.Step.{sessionOf, step, answerOf}
 use Rattle.model.specs.Told.{Told, foundBy, tells, readsTell, begins, writes, differs, holds, seals, moves, ends, valuePut, ReadOf, readUnless, andFound}
 
 -- ---- actions, answers, and what they tell
 
--- a call; or many reads, by a session, of cells, into a target of so many words: one action with one place (document 02, Paper 1)
+-- a call; or many reads, by a session, of cells, into a target of so many words: one action with one place (document 02, Paper 1); or a load of a table of caps,
+-- which is no session's (Paper 5)
 pub data Action : Type 0 where
   oneCall : Call → Action
   manyReads : ℕ → List ℕ → ℕ → Action
+  loadCaps : List ℕ → Action
 
 -- calls, each an action of its own
 abbrev pub asActions : List Call → List Action
 asActions ks = map {B = Action} oneCall ks
 
--- the session that acts
+-- the session that acts; 16 is none
 abbrev pub actor : Action → ℕ
 actor (oneCall k) = sessionOf k
 actor (manyReads s cs words) = s
+actor (loadCaps T) = 16
 
 -- an action and its answer; of many reads, whose answer is their last, the values that they obtained; of a write or a hold the value found in its cell, which no answer need show
 pub record Event : Type 0 where
@@ -47,10 +51,14 @@ withFound f e = record { action = e .action; answer = e .answer; values = e .val
 abbrev pub readsEvent : ℕ → List ℕ → ℕ → List ℕ → Answer → Event
 readsEvent s cs words vs a = record { action = manyReads s cs words; answer = a; values = vs; found = 0 }
 
--- what it tells
+abbrev pub loadEvent : List ℕ → Answer → Event
+loadEvent T a = record { action = loadCaps T; answer = a; values = []; found = 0 }
+
+-- what it tells; a load tells nothing of any transaction
 abbrev pub actionTells : Action → Answer → List ℕ → ℕ → List Told
 actionTells (oneCall k) a vs f = tells k a f
 actionTells (manyReads s cs words) a vs f = readsTell cs vs a
+actionTells (loadCaps T) a vs f = []
 
 abbrev pub tellsOf : Event → List Told
 tellsOf e = actionTells (e .action) (e .answer) (e .values) (e .found)
@@ -59,10 +67,12 @@ tellsOf e = actionTells (e .action) (e .answer) (e .values) (e .found)
 abbrev pub leaves : Action → Store → Store
 leaves (oneCall k) σ = step k σ
 leaves (manyReads s cs words) σ = readMany s cs words σ .store
+leaves (loadCaps T) σ = load T σ
 
 abbrev pub eventOf : Action → Store → Event
 eventOf (oneCall k) σ = withFound (foundBy k (step k σ)) (event k (answerOf k σ))
 eventOf (manyReads s cs words) σ = readsEvent s cs words (readMany s cs words σ .values) (readMany s cs words σ .last)
+eventOf (loadCaps T) σ = loadEvent T (loadAnswer T σ)
 
 -- the store that a list of actions leaves, and its events: each action gets what the one before left
 unfoldable pub run : Store → List Action → Store

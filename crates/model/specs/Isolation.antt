@@ -10,7 +10,8 @@ use lib.ListN.{length}
 use Rattle.model.specs.declared.Call.{Call}
 use Rattle.model.specs.declared.Answer.{Answer}
 use Rattle.model.specs.Buffers.{Store, lockAt}
-use Rattle.model.specs.History.{Action, oneCall, manyReads, Event, event, withFound, readsEvent, run, events, Item, told, history, Name, transaction, isOpen, wrote, valueWritten, cellsWritten, readsBeforeWriting, valuesFound, snapshot, commit, committed, startingValue}
+use Rattle.model.specs.History.{Action, oneCall, manyReads, loadCaps, Event, event, withFound, readsEvent, loadEvent, run, events, Item, told, history, Name, transaction, isOpen, wrote, valueWritten, cellsWritten, readsBeforeWriting, valuesFound, snapshot, commit, committed, startingValue}
+use Rattle.model.specs.Load.{loadEffect}
 use Rattle.model.specs.ManyReads.{Reads, readMany}
 use Rattle.model.specs.Step.{outcome, effect}
 use Rattle.model.specs.Told.{Told, foundBy, seals, moves, ReadOf}
@@ -109,14 +110,16 @@ pub record Demand3 (start : List Item) (σ : Store) (actions : List Action) : Ty
 
 -- ---- demand 3 of code
 
--- actions taken one after the other by code that keeps its contract, the newest first: each was answered, and left, what `effect`, or `readMany` of many reads, says of
--- what the one before left
+-- actions taken one after the other by code that keeps its contract, the newest first: each was answered, and left, what `effect`, `readMany` of many reads, or
+-- `loadEffect` of a load, says of what the one before left
 pub data Ran (σ : Store) : List Action → List Event → Store → Type 0 where
   none : Ran σ [] [] σ
   then : {ks : List Action} {h : List Event} {x : Store} → Ran σ ks h x → (k : Call) (a : Answer) (y : Store) → outcome a y ≡ effect k x
       → Ran σ (oneCall k ∷ ks) (withFound (foundBy k y) (event k a) ∷ h) y
   thenMany : {ks : List Action} {h : List Event} {x : Store} → Ran σ ks h x → (s : ℕ) (cs : List ℕ) (words : ℕ) (r : Reads) → r ≡ readMany s cs words x
       → Ran σ (manyReads s cs words ∷ ks) (readsEvent s cs words (r .values) (r .last) ∷ h) (r .store)
+  thenLoad : {ks : List Action} {h : List Event} {x : Store} → Ran σ ks h x → (T : List ℕ) (a : Answer) (y : Store) → outcome a y ≡ loadEffect T x
+      → Ran σ (loadCaps T ∷ ks) (loadEvent T a ∷ h) y
 
 -- what code answered, and the store that it left, of a list of actions in their order: those of the model, and demand 3 holds of them; `demand3-of-code` proves
 -- it of what a set-up answered 100 left

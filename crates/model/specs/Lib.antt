@@ -4,6 +4,7 @@ pub mod Buffers
 pub mod Plans
 pub mod Effects
 pub mod Step
+pub mod Load
 pub mod ManyReads
 pub mod Told
 pub mod History

@@ -5,7 +5,7 @@ use mathlib.Core.Bool.{cond, _&&_}
 use mathlib.Core.List.{List, [], _∷_, _++_}
 use lib.Dec.{ltb, leb, eqb}
 use lib.ListN.{length, drop}
-use Rattle.model.specs.Buffers.{Buffers, Store, sessionAt, withSession}
+use Rattle.model.specs.Buffers.{Buffers, Limits, Store, sessionAt, withSession}
 use Rattle.model.specs.declared.Session.{Session}
 use Rattle.model.specs.declared.Sessions.{Sessions}
 use Rattle.model.specs.declared.Call.the-variants.{Read}
@@ -63,9 +63,9 @@ readManyEffect s cs target σ =
     record { number = number (r .last); count = length (r .values); target = r .values ++ drop (length (r .values)) target; store = r .store }
 
 -- a call that is handed the lent buffers B, its session's record x, the cells cs and the target t, replies r, and leaves the buffers C and the target u: of every
--- sixteen records of which x is the session's it answers and leaves what the model says, as `TakesRecord` says it of the other calls
+-- sixteen records of which x is the session's, and whatever the limits are, it answers and leaves what the model says, as `TakesRecord` says it of the other calls
 abbrev pub TakesReads : ℕ → List ℕ → Buffers → Session → List ℕ → ReadManyReply → Buffers → List ℕ → Type 0
 TakesReads s cs B x t r C u =
-    (ss : Sessions) → sessionAt ss (s % 16) ≡ x
-    → record { number = r .number; count = r .count; target = u; store = record { lent = C; sessions = withSession ss (s % 16) (r .session) } }
-    ≡ readManyEffect s cs t (record { lent = B; sessions = ss })
+    (G : Limits) (ss : Sessions) → sessionAt ss (s % 16) ≡ x
+    → record { number = r .number; count = r .count; target = u; store = record { lent = C; limits = G; sessions = withSession ss (s % 16) (r .session) } }
+    ≡ readManyEffect s cs t (record { lent = B; limits = G; sessions = ss })

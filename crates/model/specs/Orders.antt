@@ -7,7 +7,7 @@ use Rattle.model.specs.declared.Call.{Call}
 use Rattle.model.specs.declared.Call.the-variants.{Begin, Read, Write, Seal, Advance, Abandon}
 use Rattle.model.specs.declared.Answer.{Answer}
 use Rattle.model.specs.declared.Answer.the-variants.{Done, Value, Sealed, Moved, Waiting, Committed, Refused}
-use Rattle.model.specs.Buffers.{Store}
+use Rattle.model.specs.Buffers.{Store, ours}
 use Rattle.model.specs.Step.{step, answerOf, setUpAnswer, setUp}
 
 -- a row: the cells at set-up, the calls in order, what each must answer, and the values at the end
@@ -35,6 +35,7 @@ handed values classes =
         locks = record { readers = replicate n 5; claimants = replicate n 2; exclusives = replicate n 1 };
         logs = replicate 2048 7;
       };
+      limits = ours;
       sessions = record { records = replicate 16 (record { phase = 3; count = 9; next = 1 }) };
     }
 
@@ -52,7 +53,7 @@ valuesAfter σ (k ∷ ks) = valuesAfter (step k σ) ks
 unfoldable pub result : Row → Result
 result r =
     let σ = setUp (given r) in
-    record { setUp = setUpAnswer (given r .lent); answers = answersFrom σ (r .calls); ends = valuesAfter σ (r .calls) }
+    record { setUp = setUpAnswer (given r); answers = answersFrom σ (r .calls); ends = valuesAfter σ (r .calls) }
 
 unfoldable pub expected : Row → Result
 expected r = record { setUp = Done; answers = r .answers; ends = r .ends }

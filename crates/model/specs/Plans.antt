@@ -1,15 +1,15 @@
 -- What a call decides (document 01, "The steps" and "When a call is turned down"): a plan, which holds every test that turns a call down or chooses what it does.
--- Refusals in their order: 7 and 1 in `admit`, 9 and 2 in `guard`, 3 in `known`, 8 in `writePlan`, 4 in `writeCapped`, 14 in `peekSlot`, 5 and 6 in `newCell`;
+-- Refusals in their order: 7 in `tableFits`, 7 and 1 in `admit`, 9 and 2 in `guard`, 3 in `known`, 8 in `writePlan`, 4 in `writeCapped`, 14 in `peekSlot`, 5 and 6 in `newCell`;
 -- 10 to 13 are the fields'; 15, and 13 of a list, are of many reads (ManyReads.antt).
 use Prim.Native.Nat.{ℕ}
-use mathlib.Core.Bool.{Bool, cond, not, _&&_, _||_}
+use mathlib.Core.Bool.{Bool, true, cond, not, _&&_, _||_}
 use mathlib.Core.Option.{Option, none, some}
 use mathlib.Core.List.{List}
 use lib.Dec.{leb, ltb, eqb}
 use lib.ListN.{getD}
 use Rattle.model.specs.Search.{some?, below}
 use Rattle.model.specs.Readers.{otherReaders}
-use Rattle.model.specs.Buffers.{Buffers, cellAt, entryAt, slotIn, lookIn, targetIn, currentOf, cap, lengthsFit}
+use Rattle.model.specs.Buffers.{Buffers, cellAt, entryAt, slotIn, lookIn, targetIn, currentOf, Limits, cap, hasCaps, lengthsFit}
 use Rattle.model.specs.declared.Session.{Session}
 use Rattle.model.specs.declared.Lock.{Lock}
 use Rattle.model.specs.declared.Call.{Call}
@@ -65,7 +65,7 @@ holdSlot log x l c (some k) = Mark k (entryAt log k .current)
 unfoldable pub holdPlan : ℕ → List ℕ → Session → Lock → ℕ → Plan
 holdPlan n log x l c = guard n log x (eqb (x .phase) 1) (known n c (holdSlot log x l c (slotIn log (x .count) c)))
 
--- write: a class above 15 is 8, a value above the cap m is 4 (below); then a new cell is entered as by read, and the entry is updated
+-- write, by the table T, which need not pass: a class above 15 is 8, a value above the cap m is 4 (below); then a new cell is entered as by read, and the entry is updated
 unfoldable pub writeSlot : Session → Lock → ℕ → ℕ → Option ℕ → Plan
 writeSlot x l c v none = newCell x l (EnterUpdate c v)
 writeSlot x l c v (some k) = Update k v
@@ -73,9 +73,9 @@ writeSlot x l c v (some k) = Update k v
 unfoldable pub writeCapped : List ℕ → Session → Lock → ℕ → ℕ → ℕ → Plan
 writeCapped log x l c v m = require (leb v m) (Refuse 4) (writeSlot x l c v (slotIn log (x .count) c))
 
-unfoldable pub writePlan : List ℕ → ℕ → List ℕ → Session → Lock → ℕ → ℕ → Plan
-writePlan ks n log x l c v =
-    guard n log x (eqb (x .phase) 1) (known n c (require (ltb (getD ks c 0) 16) (Refuse 8) (writeCapped log x l c v (cap (getD ks c 0)))))
+unfoldable pub writePlan : List ℕ → List ℕ → ℕ → List ℕ → Session → Lock → ℕ → ℕ → Plan
+writePlan T ks n log x l c v =
+    guard n log x (eqb (x .phase) 1) (known n c (require (ltb (getD ks c 0) 16) (Refuse 8) (writeCapped log x l c v (cap T (getD ks c 0)))))
 
 -- seal: where nothing publishes it commits, else promotion begins
 unfoldable pub sealTarget : Option ℕ → Plan
@@ -108,14 +108,25 @@ peekSlot log c (some k) = cond (entryAt log k .dirty) (ShowLog k) (ShowStore c)
 unfoldable pub peekPlan : ℕ → List ℕ → Session → ℕ → Plan
 peekPlan n log x c = guard n log x (eqb (x .phase) 1) (known n c (peekSlot log c (slotIn log (x .count) c)))
 
--- any call past 7 and 1, by the number of cells, the classes, its session's log and record, and the lock of each cell
-unfoldable pub plan : Call → ℕ → List ℕ → List ℕ → Session → (ℕ → Lock) → Plan
+-- any call past 7 and 1, by the number of cells, the classes, the limits in force, its session's log and record, and the lock of each cell
+unfoldable pub plan : Call → ℕ → List ℕ → Limits → List ℕ → Session → (ℕ → Lock) → Plan
 unfolding readPlan holdPlan writePlan sealPlan advancePlan peekPlan
-plan (Begin s) n ks log x lock = guard n log x (eqb (x .phase) 0) Start
-plan (Read s c) n ks log x lock = readPlan n log x (lock c) c
-plan (Write s c v) n ks log x lock = writePlan ks n log x (lock c) c v
-plan (Seal s) n ks log x lock = sealPlan n log x
-plan (Advance s) n ks log x lock = advancePlan s n log x lock
-plan (Abandon s) n ks log x lock = guard n log x (eqb (x .phase) 1 || eqb (x .phase) 2) Cancel
-plan (Peek s c) n ks log x lock = peekPlan n log x c
-plan (Hold s c) n ks log x lock = holdPlan n log x (lock c) c
+plan (Begin s) n ks G log x lock = guard n log x (eqb (x .phase) 0) Start
+plan (Read s c) n ks G log x lock = readPlan n log x (lock c) c
+plan (Write s c v) n ks G log x lock = writePlan (G .caps) ks n log x (lock c) c v
+plan (Seal s) n ks G log x lock = sealPlan n log x
+plan (Advance s) n ks G log x lock = advancePlan s n log x lock
+plan (Abandon s) n ks G log x lock = guard n log x (eqb (x .phase) 1 || eqb (x .phase) 2) Cancel
+plan (Peek s c) n ks G log x lock = peekPlan n log x c
+plan (Hold s c) n ks G log x lock = holdPlan n log x (lock c) c
+
+-- the table in force is handed to a write alone, which is 7 where it has not 16 caps
+abbrev pub tableFits : Call → Limits → Bool
+tableFits (Begin s) G = true
+tableFits (Read s c) G = true
+tableFits (Write s c v) G = hasCaps (G .caps)
+tableFits (Seal s) G = true
+tableFits (Advance s) G = true
+tableFits (Abandon s) G = true
+tableFits (Peek s c) G = true
+tableFits (Hold s c) G = true

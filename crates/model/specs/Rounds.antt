@@ -43,7 +43,7 @@ unfoldable pub foundOf : Round → Found
 foundOf r =
     let o = readManyEffect (r .reader) (r .cells) (r .target) (readFrom r) in
     record {
-      setUp = number (setUpAnswer (handed (r .values) (r .classes) .lent));
+      setUp = number (setUpAnswer (handed (r .values) (r .classes)));
       number = o .number;
       count = o .count;
       target = o .target;
@@ -79,7 +79,7 @@ unclaimed k m target phase count log rs = found k m target phase count log rs (1
 -- session 0 runs with one entry, and its record is made to say 33: nothing is obtained, and all is as before
 abbrev pub wrongCount : List ℕ → List ℕ → ℕ → Round
 wrongCount cells target k =
-    fourDamaged (Begin 0 ∷ Read 0 3 ∷ []) (λ σ. record { lent = σ .lent; sessions = withSession (σ .sessions) 0 (withEntries 33 (recordOf σ 0)) }) 0 cells target
+    fourDamaged (Begin 0 ∷ Read 0 3 ∷ []) (λ σ. record { lent = σ .lent; limits = σ .limits; sessions = withSession (σ .sessions) 0 (withEntries 33 (recordOf σ 0)) }) 0 cells target
     (unclaimed k 0 target 1 33 (3 ∷ 9 ∷ 9 ∷ 0 ∷ 0 ∷ 0 ∷ []) (0 ∷ 0 ∷ 0 ∷ 1 ∷ []))
 
 -- classes for three of four cells: set-up is refused by 7, and the store is as it was handed over

@@ -7,7 +7,7 @@ use lib.Dec.{eqb}
 use lib.ListN.{replicate}
 use Rattle.model.specs.declared.Session.{Session}
 use Rattle.model.specs.declared.Call.the-variants.{Begin, Write}
-use Rattle.model.specs.Buffers.{Store}
+use Rattle.model.specs.Buffers.{Store, ours}
 use Rattle.model.specs.Effects.{number}
 use Rattle.model.specs.Step.{answerOf, setUpAnswer, setUp}
 use Rattle.model.specs.Cases.{session, Result, result}
@@ -37,6 +37,7 @@ filled r set claimant mark word x =
         locks = record { readers = replicate (r .readers) set; claimants = replicate (r .claimants) claimant; exclusives = replicate (r .exclusives) mark };
         logs = replicate (r .words) word;
       };
+      limits = ours;
       sessions = record { records = replicate 16 x };
     }
 
@@ -49,7 +50,7 @@ pub record Started : Type 0 where
   pub begin : ℕ
 
 unfoldable pub startedBy : Lending → Started
-startedBy r = record { setUp = result (setUpAnswer (used r .lent)) (setUp (used r)); begin = number (answerOf (Begin 16) (used r)) }
+startedBy r = record { setUp = result (setUpAnswer (used r)) (setUp (used r)); begin = number (answerOf (Begin 16) (used r)) }
 
 -- 100: sessions idle, locks empty, log words 0, values and classes as before; else all as before. The begin is 7 where lengths are wrong, else 1
 unfoldable pub startsBy : Lending → Started
@@ -87,7 +88,7 @@ ofClass k v = filled (lending (v ∷ []) (k ∷ []) 1 1 1 2048 0) 0 16 0 0 (sess
 
 -- what set-up answers to a value, and a write to it
 unfoldable pub judged : ℕ → ℕ → List ℕ
-judged k v = number (setUpAnswer (ofClass k v .lent)) ∷ number (answerOf (Write 0 0 v) (ofClass k 0)) ∷ []
+judged k v = number (setUpAnswer (ofClass k v)) ∷ number (answerOf (Write 0 0 v) (ofClass k 0)) ∷ []
 
 abbrev cap : ℕ → ℕ → Cap
 cap k m = record { class = k; most = m }

@@ -8,7 +8,7 @@ use Rattle.model.specs.declared.Call.{Call}
 use Rattle.model.specs.declared.Call.the-variants.{Begin, Read, Write, Seal, Advance, Abandon, Peek, Hold}
 use Rattle.model.specs.declared.Answer.{Answer}
 use Rattle.model.specs.declared.Answer.the-variants.{Done, Value, Sealed, Moved, Waiting, Committed, Refused}
-use Rattle.model.specs.Buffers.{Store, idle}
+use Rattle.model.specs.Buffers.{Store, idle, ours}
 use Rattle.model.specs.History.{Event, event, withFound, readsEvent, Item, item, told, Name, name, transaction, isOpen, wrote, valueWritten, readsBeforeWriting, valuesFound, snapshot, commit, committed}
 use Rattle.model.specs.Serial.{Serial, serial}
 use Rattle.model.specs.Told.{Told, began, got, put, held, sealed, moved, ended, ReadOf}
@@ -270,6 +270,7 @@ midway phase value claimant mark =
         locks = record { readers = 2 ∷ 0 ∷ []; claimants = claimant ∷ 16 ∷ []; exclusives = mark ∷ 0 ∷ [] };
         logs = replicate 128 0 ++ (0 ∷ 3 ∷ value ∷ 1 ∷ replicate 1916 0);
       };
+      limits = ours;
       sessions = record { records = idle ∷ record { phase = phase; count = 1; next = 0 } ∷ replicate 14 idle };
     }
 

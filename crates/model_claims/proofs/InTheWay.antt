@@ -78,7 +78,7 @@ in-the-way-by {first} {σ} {T} I =
 pub in-the-way-from : {σ : Store} {start : List Item} {T : Ledger} → Ready σ start T → (actions : List Action) → InTheWay (run σ (reverse actions))
 in-the-way-from R actions = in-the-way-by (inv-run R (reverse actions))
 
-pub in-the-way : (σ : Store) → number (setUpAnswer (σ .lent)) ≡ 100 → (actions : List Action) → InTheWay (run (setUp σ) (reverse actions))
+pub in-the-way : (σ : Store) → number (setUpAnswer σ) ≡ 100 → (actions : List Action) → InTheWay (run (setUp σ) (reverse actions))
 in-the-way σ h actions =
     subst (λ (φ : Store). InTheWay (run φ (reverse actions))) (sym (set-up-fresh σ h)) (in-the-way-from (ready (fresh (σ .lent)) (inv-fresh (σ .lent))) actions)
 
@@ -111,6 +111,6 @@ seal-lets-go-by {σ = σ} s I w a c l u = flip (isReader (step (Seal s) σ) s c)
 pub seal-lets-go-from : {σ : Store} {start : List Item} {T : Ledger} → Ready σ start T → (ks : List Action) (s : ℕ) → SealLetsGo (run σ ks) s
 seal-lets-go-from R ks s = seal-lets-go-by s (inv-run R ks) (unfold run in in-the-way-by (inv-run R (oneCall (Seal s) ∷ ks)))
 
-pub seal-lets-go : (σ : Store) → number (setUpAnswer (σ .lent)) ≡ 100 → (actions : List Action) (s : ℕ) → SealLetsGo (run (setUp σ) (reverse actions)) s
+pub seal-lets-go : (σ : Store) → number (setUpAnswer σ) ≡ 100 → (actions : List Action) (s : ℕ) → SealLetsGo (run (setUp σ) (reverse actions)) s
 seal-lets-go σ h actions s =
     subst (λ (φ : Store). SealLetsGo (run φ (reverse actions)) s) (sym (set-up-fresh σ h)) (seal-lets-go-from (ready (fresh (σ .lent)) (inv-fresh (σ .lent))) (reverse actions) s)

@@ -73,7 +73,7 @@ module _ (φ : Store) (I₀ : Inv (φ .lent .values) φ blank) where
       record { reads = reads-run ks o; left = values-run ks o; undisturbed = undisturbed-run ks o }
 
 -- any store that set-up answers 100, and any list of actions from what it leaves in which a transaction begins only when none is open
-pub serially-equal : (σ : Store) → number (setUpAnswer (σ .lent)) ≡ 100 → (actions : List Action)
+pub serially-equal : (σ : Store) → number (setUpAnswer σ) ≡ 100 → (actions : List Action)
     → OneAtATime (events (setUp σ) (reverse actions)) → SeriallyEqual (setUp σ) (reverse actions)
 serially-equal σ h actions =
     subst (λ (φ : Store). OneAtATime (events φ (reverse actions)) → SeriallyEqual φ (reverse actions)) (sym (set-up-fresh σ h))

@@ -81,7 +81,7 @@ answers : List Action → List Answer
 answers actions = reverse (map (λ (e : Event). e .answer) (made actions))
 
 record Computed : Type 0 where
-  set-up : number (setUpAnswer (given .lent)) ≡ 100
+  set-up : number (setUpAnswer given) ≡ 100
   serial-list : oneAtATime (made inTurn) ≡ true
   serial-answers : answers inTurn ≡ Done ∷ Value 3 ∷ Done ∷ Sealed ∷ Moved ∷ Moved ∷ Committed ∷ Done ∷ Value 5 ∷ Committed ∷ []
   serial-values-read : map (λ (e : Event). e .values) (made inTurn) ≡ [] ∷ (4 ∷ 5 ∷ []) ∷ replicate 8 []

@@ -33,7 +33,7 @@ module _ (vs ks readers claimants exclusives logs : List ℕ) (ss : Sessions) (f
   unfolding lengthsFit size given
   same-lengths = simp (f .read, f .claimed, f .marked, f .logged, length-replicate)
 
-  same-answer : setUpAnswer (storeOf vs ks readers claimants exclusives logs ss .lent) ≡ setUpAnswer (given vs ks .lent)
+  same-answer : setUpAnswer (storeOf vs ks readers claimants exclusives logs ss .lent) ≡ setUpAnswer (given vs ks)
   unfolding setUpAnswer given
   same-answer = rw same-lengths
 
@@ -42,7 +42,7 @@ module _ (vs ks readers claimants exclusives logs : List ℕ) (ss : Sessions) (f
   same-fresh = refl
 
   module _ {a : Answer} {φ : Store} (e : outcome a φ ≡ setUpEffect (storeOf vs ks readers claimants exclusives logs ss)) where
-    said : a ≡ setUpAnswer (given vs ks .lent)
+    said : a ≡ setUpAnswer (given vs ks)
     unfolding setUpEffect
     said = ap (λ (r : Outcome). r .answer) e ∙ same-answer
 
@@ -59,14 +59,14 @@ module _ (vs ks readers claimants exclusives logs : List ℕ) (ss : Sessions) (f
     pub refused-text : (n : ℕ) (items : List Item) → n ≡ number a → (n ≡ 100 → ⊥) → setUpLine n ≡ setUpText (given vs ks) items
     unfolding setUpText afterSetUp
     refused-text n items k h =
-        let same : n ≡ number (setUpAnswer (given vs ks .lent)) = k ∙ ap number said in
+        let same : n ≡ number (setUpAnswer (given vs ks)) = k ∙ ap number said in
         rw (← same, ne-eqb n 100 h)
 
     -- an accepted one is followed by the calls
     pub accepted-text : (n : ℕ) (items : List Item) → n ≡ number a → n ≡ 100 → callsText 1 φ items ≡ setUpText (given vs ks) items
     unfolding setUpText afterSetUp
     accepted-text n items k h =
-        let done : number (setUpAnswer (given vs ks .lent)) ≡ 100 = sym (ap number said) ∙ sym k ∙ h in
+        let done : number (setUpAnswer (given vs ks)) ≡ 100 = sym (ap number said) ∙ sym k ∙ h in
         ap (λ (x : Store). callsText 1 x items) (left (sym k ∙ h)) ∙ rw (eq-eqb _ _ done)
 
 -- ---- the whole text

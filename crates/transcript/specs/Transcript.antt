@@ -38,7 +38,7 @@ unfoldable pub afterSetUp : Answer → Store → List Item → List ℕ
 afterSetUp a σ items = cond (eqb (number a) 100) (callsText 1 σ items) (setUpLine (number a))
 
 unfoldable pub setUpText : Store → List Item → List ℕ
-setUpText σ items = afterSetUp (setUpAnswer (σ .lent)) (setUp σ) items
+setUpText σ items = afterSetUp (setUpAnswer σ) (setUp σ) items
 
 unfoldable pub itemsText : List Item → List ℕ
 itemsText items = setUpText (given (values items) (classes items)) (later items)
@@ -59,4 +59,4 @@ callsOf input = calls (later (itemsAt input 0))
 -- an input whose calls are printed: of up to 65,536 bytes, and set up with 100
 pub record Accepted (input : List ℕ) : Type 0 where
   pub short : length input ≤ 65536
-  pub setUp : number (setUpAnswer (givenBy input .lent)) ≡ 100
+  pub setUp : number (setUpAnswer (givenBy input)) ≡ 100

@@ -1,0 +1,47 @@
+-- Loading a table of caps in place of the one in force (document 02, Paper 5), while every session is idle.
+use Prim.Native.Nat.{ℕ}
+use mathlib.Core.Path.{_≡_}
+use mathlib.Core.Bool.{Bool, true, _&&_}
+use mathlib.Core.List.{List, [], _∷_}
+use lib.Dec.{ltb, eqb}
+use Rattle.model.specs.Buffers.{Limits, Store, hasCaps, passes, allFit, lengthsFit}
+use Rattle.model.specs.declared.Session.{Session}
+use Rattle.model.specs.declared.Answer.{Answer}
+use Rattle.model.specs.declared.Answer.the-variants.{Done, Refused}
+use Rattle.model.specs.Plans.{require}
+use Rattle.model.specs.Step.{Outcome, outcome}
+
+-- every session's phase is 0: one above 4 is not idle
+unfoldable pub allIdle : List Session → Bool
+allIdle [] = true
+allIdle (x ∷ xs) = eqb (x .phase) 0 && allIdle xs
+
+-- every class byte is at most 15
+unfoldable pub allClassed : List ℕ → Bool
+allClassed [] = true
+allClassed (k ∷ ks) = ltb k 16 && allClassed ks
+
+-- what refuses to load the table T, in order: wrong lengths, of either table too, 7; a session that is not idle 2; a table that does not pass 16; a class byte above 15
+-- 8; a value above its new cap 17; 0 where nothing does
+unfoldable pub loadRefusal : List ℕ → Store → ℕ
+loadRefusal T σ =
+    require (hasCaps (σ .limits .caps) && hasCaps T && lengthsFit (σ .lent)) 7
+    (require (allIdle (σ .sessions .records)) 2
+    (require (passes T) 16
+    (require (allClassed (σ .lent .classes)) 8
+    (require (allFit T (σ .lent .values) (σ .lent .classes)) 17 0))))
+
+-- with the table T in force, and all else as it was
+abbrev pub withCaps : List ℕ → Store → Store
+withCaps T σ = record { lent = σ .lent; limits = record { caps = T }; sessions = σ .sessions }
+
+-- refused, the old table and all else are as before
+unfoldable pub loadAnswer : List ℕ → Store → Answer
+loadAnswer T σ = let r = loadRefusal T σ in require (eqb r 0) (Refused r) Done
+
+unfoldable pub load : List ℕ → Store → Store
+load T σ = require (eqb (loadRefusal T σ) 0) σ (withCaps T σ)
+
+-- its answer and all that it leaves
+unfoldable pub loadEffect : List ℕ → Store → Outcome
+loadEffect T σ = outcome (loadAnswer T σ) (load T σ)
