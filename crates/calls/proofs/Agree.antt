@@ -1,21 +1,18 @@
--- Past refusals 7 and 1 a call's plan is what its session decides; an advance's is decided at the entry that is due.
+-- An advance is decided at the entry that is due.
 use mathlib.Core.Path.{_≡_, refl, sym}
 use mathlib.Core.Bool.{Bool, true, false, cond}
 use mathlib.Core.Option.{Option, none, some}
 use mathlib.Core.List.{List}
 use Prim.Native.Nat.{ℕ, _<_, _≤_}
 use native.Mathlib.Omega.{arith}
-use borrow.Author.Tests.{lt-ltb, lt-leb, le-leb, leb-true, leb-false}
+use borrow.Author.Tests.{lt-leb, le-leb, leb-true, leb-false}
 use lib.Dec.{leb}
-use lib.ListN.{length}
 use Rattle.model.specs.Search.{some?}
-use Rattle.model.specs.Buffers.{Buffers, Store, size, cellAt, entryOf, lookIn, targetIn, lockAt, lengthsMatch, lengthsFit}
+use Rattle.model.specs.Buffers.{Limits, cellAt, entryOf, lookIn, targetIn}
 use Rattle.model.specs.Plans.{entriesFit, recordFits, guard, advanceTarget, plan}
-use Rattle.model.specs.Effects.{logOf, recordOf, isLeft}
-use Rattle.model.specs.Step.{sessionOf, planOf}
+use Rattle.model.specs.Effects.{isLeft}
 use Rattle.model.specs.declared.Session.{Session}
 use Rattle.model.specs.declared.Lock.{Lock}
-use Rattle.model.specs.declared.Call.{Call}
 use Rattle.model.specs.declared.Call.the-variants.{Advance}
 use Rattle.model.specs.declared.Plan.{Plan}
 use Rattle.model.specs.declared.Plan.the-variants.{Refuse}
@@ -29,20 +26,9 @@ use Rattle.calls.specs.declared.Due.the-variants.{Refused, Slot}
 use Rattle.model.proofs.Passing.{Entries, entries-of}
 use Rattle.calls.proofs.Ways.{target-slot}
 
-pub lengths-agree : (B : Buffers)
-    → lengthsMatch (size B) (length (B .classes)) (length (B .locks .readers)) (length (B .locks .claimants)) (length (B .locks .exclusives)) (length (B .logs)) ≡ lengthsFit B
-unfolding lengthsMatch lengthsFit
-lengths-agree B = refl
-
--- past refusals 7 and 1, any call
-pub admitted : (k : Call) (σ : Store) → lengthsFit (σ .lent) ≡ true → sessionOf k < 16
-    → plan k (size (σ .lent)) (σ .lent .classes) (logOf σ (sessionOf k)) (recordOf σ (sessionOf k)) (lockAt (σ .lent .locks)) ≡ planOf k σ
-unfolding planOf
-admitted k σ h low = rw (h, lt-ltb (sessionOf k) 16 low)
-
 -- ---- advance: the entry that is due, with the lock of its cell
 
-module _ (n s : ℕ) (ks log : List ℕ) (x : Session) (lock : ℕ → Lock) where
+module _ (n s : ℕ) (ks : List ℕ) (G : Limits) (log : List ℕ) (x : Session) (lock : ℕ → Lock) where
   abbrev dueWith : Due → Plan
   dueWith d = duePlan s log x (lock (dueCell log d)) d
 
@@ -53,7 +39,7 @@ module _ (n s : ℕ) (ks log : List ℕ) (x : Session) (lock : ℕ → Lock) whe
   advance-slot none e = refl
   advance-slot (some c) e = let w = target-slot log (x .count) (x .next) e in rw (w .1, w .3)
 
-  pub advance-agree : dueWith (dueOn n log x) ≡ plan (Advance s) n ks log x lock
+  pub advance-agree : dueWith (dueOn n log x) ≡ plan (Advance s) n ks G log x lock
   unfolding plan duePlan dueCell dueOn guard recordFits targetSlot
   advance-agree =
       test (entriesFit n log x)

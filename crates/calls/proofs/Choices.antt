@@ -70,15 +70,15 @@ module _ (n : ℕ) (log : List ℕ) (x : Session) (l : Lock) (c : ℕ) where
       let known : ℕ → Plan = λ k. Mark k (entryAt log k .current) in
       past known (EnterMark c) _ _ (placed known (EnterMark c) (λ m o. holdSlot log x m c o) (λ m. refl) (λ m k. refl))
 
-  pub write-choice : (ks : List ℕ) (v : ℕ) → Choice n log x l c (λ k. Update k v) (EnterUpdate c v) (writePlan ks n log x free c v) (writePlan ks n log x l c v)
+  pub write-choice : (T ks : List ℕ) (v : ℕ) → Choice n log x l c (λ k. Update k v) (EnterUpdate c v) (writePlan T ks n log x free c v) (writePlan T ks n log x l c v)
   unfolding writePlan writeCapped writeSlot
-  write-choice ks v =
+  write-choice T ks v =
       let known : ℕ → Plan = λ k. Update k v in
       past known (EnterUpdate c v) _ _
       (λ e i.
       test (ltb (getD ks c 0) 16)
       (λ a.
-      test (leb v (cap (getD ks c 0)))
+      test (leb v (cap T (getD ks c 0)))
       (λ b. rw (a, b) (placed known (EnterUpdate c v) (λ m o. writeSlot x m c v o) (λ m. refl) (λ m k. refl) e i))
       (λ b. rw (a, b) (refuses 4 refl refl)))
       (λ a. rw a (refuses 8 refl refl)))

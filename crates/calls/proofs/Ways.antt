@@ -242,12 +242,12 @@ module _ (n : ℕ) (log : List ℕ) (x : Session) where
 
       -- ---- write
 
-      module _ (classes : List ℕ) (v : ℕ) where
-        pub write-odd : c < n → 15 < getD classes c 0 → Refuse 8 ≡ writePlan classes n log x l c v
+      module _ (T classes : List ℕ) (v : ℕ) where
+        pub write-odd : c < n → 15 < getD classes c 0 → Refuse 8 ≡ writePlan T classes n log x l c v
         unfolding guard known writePlan
         write-odd h i = simp (whole, runs, lt-ltb c n h, le-ltb (getD classes c 0) 16 i)
 
-        pub write-class : c < n → getD classes c 0 ≤ 15 → (m : ℕ) → m ≡ cap (getD classes c 0) → (p : Plan) → p ≡ writeCapped log x l c v m → p ≡ writePlan classes n log x l c v
+        pub write-class : c < n → getD classes c 0 ≤ 15 → (m : ℕ) → m ≡ cap T (getD classes c 0) → (p : Plan) → p ≡ writeCapped log x l c v m → p ≡ writePlan T classes n log x l c v
         unfolding guard known writePlan
         write-class h i m q p w = simp (whole, runs, lt-ltb c n h, lt-ltb (getD classes c 0) 16 (omega arith), ← q, w)
 

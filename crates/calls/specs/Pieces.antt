@@ -1,11 +1,17 @@
 -- What the functions of the calls answer where the code splits a plan: the tests as numbers, the entry that an advance handles and its plan there, and a handled cell.
 use Prim.Native.Nat.{ℕ, suc, _<_}
+use mathlib.Core.Path.{_≡_}
 use mathlib.Core.Bool.{Bool, cond}
 use mathlib.Core.Option.{Option, none, some}
 use mathlib.Core.List.{List}
 use lib.Dec.{leb, ltb, eqb}
-use Rattle.model.specs.Buffers.{idle, moveTo, cellAt, entryAt}
-use Rattle.model.specs.Plans.{require, entriesFit, promotePlan}
+use lib.ListN.{length}
+use denote.Ref.{now}
+use Rattle.model.specs.Slices.{Slice}
+use Rattle.model.specs.Turns.{TakesTurn}
+use Rattle.model.specs.declared.Turn.{Turn}
+use Rattle.model.specs.Buffers.{idle, free, moveTo, cellAt, entryAt}
+use Rattle.model.specs.Plans.{require, entriesFit, writePlan, promotePlan}
 use Rattle.model.specs.declared.Session.{Session}
 use Rattle.model.specs.declared.Lock.{Lock}
 use Rattle.model.specs.declared.Answer.the-variants.{Moved, Committed}
@@ -23,6 +29,18 @@ admission fit s = require fit 7 (require (ltb s 16) 1 0)
 -- 9, 2, or 0 where both tests pass
 unfoldable pub tested : Bool → Bool → ℕ
 tested whole fit = require whole 9 (require fit 2 0)
+
+-- p is what a write decides, by some table and classes, as if nobody were claimant
+pub record WriteDecided (n : ℕ) (log : List ℕ) (x : Session) (c v : ℕ) (p : Plan) : Type 0 where
+  pub caps : List ℕ
+  pub classes : List ℕ
+  pub is : p ≡ writePlan caps classes n log x free c v
+
+-- and its turn with the lock l is that of the write, by whatever table and classes p was decided
+abbrev pub TurnsWrite : Slice → Slice → Session → Lock → ℕ → ℕ → Plan → Turn → Type 0
+TurnsWrite values log x l c v p r =
+    (T ks : List ℕ) → p ≡ writePlan T ks (length (now (values .entry))) (now (log .entry)) x free c v
+    → TakesTurn (writePlan T ks (length (now (values .entry))) (now (log .entry)) x l c v) values log x r
 
 -- the entry that an advance handles (its `targetSlot`, log/specs/Slots.antt), or 9 or 2; the last cause of 9 is one of phases 2 to 4 alone, so it can come after 2
 unfoldable pub dueAt : List ℕ → ℕ → Option ℕ → Due

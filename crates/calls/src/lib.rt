@@ -5,13 +5,14 @@ ghost use mathlib.Core.Bool.{true, false, not, _&&_, _||_};
 ghost use Prim.Native.Nat.{_+_, _<_, _≤_};
 ghost use lib.Dec.{eqb};
 ghost use lib.ListN.{length};
-ghost use Rattle.model.specs.Buffers.{free, idle, withEntry, cap, allFit, lengthsMatch};
+ghost use Rattle.model.specs.Buffers.{free, idle, withEntry, ourCaps, cap, passes, allFit, lengthsMatch};
+ghost use Rattle.model.specs.Load.{allClassed};
 ghost use Rattle.model.specs.Plans.{claimed, newCell, entriesFit, recordFits, guard, readPlan, holdPlan, writeCapped, writePlan, sealPlan, peekPlan};
 ghost use Rattle.model.specs.Turns.{TakesTurn, TurnsLog};
 ghost use Rattle.model.specs.declared.Answer.the-variants.{Refused};
 ghost use Rattle.model.specs.declared.Plan.the-variants.{Start, Cancel};
 ghost use Rattle.model.specs.declared.Change.the-variants.{Keep, Join, Withdraw};
-ghost use Rattle.calls.specs.Pieces.{admission, tested, dueOn, dueCell, DueFits, advanceOn, duePlan, handledBy};
+ghost use Rattle.calls.specs.Pieces.{admission, tested, WriteDecided, TurnsWrite, dueOn, dueCell, DueFits, advanceOn, duePlan, handledBy};
 ghost use Rattle.calls.specs.declared.Due.the-variants.{Slot};
 use model::Answer;
 use model::Change;
@@ -41,10 +42,10 @@ const CAPS: [u32; 16] = [
     4294967295,
 ];
 
-// The cap of a class.
+// The cap of a class, of ours.
 pub fn cap(class: u8) -> u32
     requires { ⌜ class < 16 ⌝ }
-    ensures { λ r. ⌜ r ≡ cap class ⌝ }
+    ensures { λ r. ⌜ r ≡ cap ourCaps class ⌝ }
 {
     CAPS[class as usize]
 }
@@ -52,7 +53,7 @@ pub fn cap(class: u8) -> u32
 // Each class byte at most 15, and each value within the cap of its class. The table is put on the stack once, before the loop.
 pub fn all_fit(values: &[u32], classes: &[u8]) -> bool
     requires { ⌜ length (now classes) ≡ length (now values) ⌝ }
-    ensures { λ r. ⌜ r ≡ allFit (now (values .entry)) (now (classes .entry)) ⌝ }
+    ensures { λ r. ⌜ r ≡ allFit ourCaps (now (values .entry)) (now (classes .entry)) ⌝ }
 {
     let caps = CAPS;
     let mut i = 0;
@@ -67,6 +68,70 @@ pub fn all_fit(values: &[u32], classes: &[u8]) -> bool
         i += 1;
     }
     true
+}
+
+// ---- a table of the caller's own
+
+// The first cap 1 or more, and each above the one before it.
+pub fn caps_pass(caps: &[u32]) -> bool
+    ensures { λ r. ⌜ r ≡ passes (now (caps .entry)) ⌝ }
+{
+    let mut below = 0u32;
+    let mut i = 0;
+    while i < caps.len() {
+        let c = caps[i];
+        if c <= below {
+            return false;
+        }
+        below = c;
+        i += 1;
+    }
+    true
+}
+
+// Each class byte at most 15.
+pub fn all_classed(classes: &[u8]) -> bool
+    ensures { λ r. ⌜ r ≡ allClassed (now (classes .entry)) ⌝ }
+{
+    let mut i = 0;
+    while i < classes.len() {
+        if 15 < classes[i] {
+            return false;
+        }
+        i += 1;
+    }
+    true
+}
+
+// Each class byte at most 15, and each value within the cap of its class in a table.
+pub fn all_fit_by(caps: &[u32], values: &[u32], classes: &[u8]) -> bool
+    requires { ⌜ (length (now caps) ≡ 16) × (length (now classes) ≡ length (now values)) ⌝ }
+    ensures { λ r. ⌜ r ≡ allFit (now (caps .entry)) (now (values .entry)) (now (classes .entry)) ⌝ }
+{
+    let mut i = 0;
+    while i < values.len() {
+        let class = classes[i];
+        if 15 < class {
+            return false;
+        }
+        if caps[class as usize] < values[i] {
+            return false;
+        }
+        i += 1;
+    }
+    true
+}
+
+// A table put in the place of another.
+pub fn put_caps(caps: &mut [u32], table: &[u32])
+    requires { ⌜ length (now caps) ≡ length (now table) ⌝ }
+    ensures { λ _. ⌜ now (caps .exit) ≡ now (table .entry) ⌝ }
+{
+    let mut i = 0;
+    while i < table.len() {
+        caps[i] = table[i];
+        i += 1;
+    }
 }
 
 // ---- refusals 7, 1, 9 and 2
@@ -412,10 +477,10 @@ fn write_capped(log: &[u32], x: Session, cell: u32, value: u32, most: u32) -> Pl
     new_cell(x, Plan::EnterUpdate(cell, value))
 }
 
-// Write: the cap is that of the cell's class.
+// Write: the cap is that of the cell's class, of ours.
 pub fn write_plan(log: &[u32], classes: &[u8], x: Session, cell: u32, value: u32) -> Plan
     requires { ⌜ (length (now log) ≡ 128) × (length (now classes) ≤ 1024) ⌝ }
-    ensures { λ r. ⌜ r ≡ writePlan (now (classes .entry)) (length (now (classes .entry))) (now (log .entry)) x free cell value ⌝ }
+    ensures { λ r. ⌜ r ≡ writePlan ourCaps (now (classes .entry)) (length (now (classes .entry))) (now (log .entry)) x free cell value ⌝ }
 {
     let n = classes.len();
     if !runs(log, n, x) {
@@ -432,10 +497,36 @@ pub fn write_plan(log: &[u32], classes: &[u8], x: Session, cell: u32, value: u32
     write_capped(log, x, cell, value, cap(class))
 }
 
-// Write: running only. A new cell is entered as by read; then the entry is updated. 100.
+// The same by a table, which need not pass.
+pub fn write_plan_by(
+    caps: &[u32],
+    log: &[u32],
+    classes: &[u8],
+    x: Session,
+    cell: u32,
+    value: u32,
+) -> Plan
+    requires { ⌜ (length (now caps) ≡ 16) × (length (now log) ≡ 128) × (length (now classes) ≤ 1024) ⌝ }
+    ensures { λ r. ⌜ r ≡ writePlan (now (caps .entry)) (now (classes .entry)) (length (now (classes .entry))) (now (log .entry)) x free cell value ⌝ }
+{
+    let n = classes.len();
+    if !runs(log, n, x) {
+        return Plan::Refuse(running_refusal(log, n, x));
+    }
+    let c = cell as usize;
+    if n <= c {
+        return Plan::Refuse(3);
+    }
+    let class = classes[c];
+    if 15 < class {
+        return Plan::Refuse(8);
+    }
+    write_capped(log, x, cell, value, caps[class as usize])
+}
+
+// Write, by whatever table and classes it was decided: running only. A new cell is entered as by read; then the entry is updated. 100.
 pub fn take_write(
     values: &[u32],
-    classes: &[u8],
     log: &mut [u32],
     x: Session,
     l: Lock,
@@ -443,8 +534,8 @@ pub fn take_write(
     written: u32,
     p: Plan,
 ) -> Turn
-    requires { ⌜ (length (now log) ≡ 128) × (length (now classes) ≡ length (now values)) × (p ≡ writePlan (now classes) (length (now values)) (now log) x free cell written) ⌝ }
-    ensures { λ r. ⌜ TakesTurn (writePlan (now (classes .entry)) (length (now (values .entry))) (now (log .entry)) x l cell written) values log x r ⌝ }
+    requires { ⌜ (length (now log) ≡ 128) × (WriteDecided (length (now values)) (now log) x cell written p) ⌝ }
+    ensures { λ r. ⌜ TurnsWrite values log x l cell written p r ⌝ }
 {
     if let Plan::Update(k, value) = p {
         log::update(log, k as usize, value);

@@ -4,7 +4,7 @@ use mathlib.Core.Path.{_≡_}
 use mathlib.Core.Bool.{true, _&&_}
 use mathlib.Core.List.{List}
 use Rattle.model.specs.Buffers.{Store, hasCaps, passes, allFit, lengthsFit}
-use Rattle.model.specs.Load.{allIdle, allClassed, loadRefusal, withCaps, load}
+use Rattle.model.specs.Load.{allIdle, allClassed, tableRefusal, loadRefusal, withCaps, load}
 use Rattle.model.proofs.Tools.{split, test}
 
 -- what a load answered 100 has tested
@@ -16,7 +16,7 @@ pub record Loaded (T : List ℕ) (σ : Store) : Type 0 where
   pub values : allFit T (σ .lent .values) (σ .lent .classes) ≡ true
 
 pub load-cases {ℓ} : (P : Store → Type ℓ) (T : List ℕ) (σ : Store) → (Loaded T σ → P (withCaps T σ)) → P σ → P (load T σ)
-unfolding load loadRefusal
+unfolding load loadRefusal tableRefusal
 load-cases P T σ f p =
     test (hasCaps (σ .limits .caps) && hasCaps T && lengthsFit (σ .lent))
     (λ a. test (allIdle (σ .sessions .records))

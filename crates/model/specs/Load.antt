@@ -1,11 +1,11 @@
 -- Loading a table of caps in place of the one in force (document 02, Paper 5), while every session is idle.
 use Prim.Native.Nat.{ℕ}
-use mathlib.Core.Path.{_≡_}
 use mathlib.Core.Bool.{Bool, true, _&&_}
 use mathlib.Core.List.{List, [], _∷_}
 use lib.Dec.{ltb, eqb}
 use Rattle.model.specs.Buffers.{Limits, Store, hasCaps, passes, allFit, lengthsFit}
 use Rattle.model.specs.declared.Session.{Session}
+use Rattle.model.specs.declared.Sessions.{Sessions}
 use Rattle.model.specs.declared.Answer.{Answer}
 use Rattle.model.specs.declared.Answer.the-variants.{Done, Refused}
 use Rattle.model.specs.Plans.{require}
@@ -21,15 +21,15 @@ unfoldable pub allClassed : List ℕ → Bool
 allClassed [] = true
 allClassed (k ∷ ks) = ltb k 16 && allClassed ks
 
--- what refuses to load the table T, in order: wrong lengths, of either table too, 7; a session that is not idle 2; a table that does not pass 16; a class byte above 15
--- 8; a value above its new cap 17; 0 where nothing does
+-- what refuses to load the table T, in order: wrong lengths, of either table too, 7; then a session that is not idle 2, a table that does not pass 16, a class byte
+-- above 15 8, and a value above its new cap 17; 0 where nothing does
+unfoldable pub tableRefusal : List ℕ → Sessions → List ℕ → List ℕ → ℕ
+tableRefusal T ss vs ks =
+    require (allIdle (ss .records)) 2 (require (passes T) 16 (require (allClassed ks) 8 (require (allFit T vs ks) 17 0)))
+
 unfoldable pub loadRefusal : List ℕ → Store → ℕ
 loadRefusal T σ =
-    require (hasCaps (σ .limits .caps) && hasCaps T && lengthsFit (σ .lent)) 7
-    (require (allIdle (σ .sessions .records)) 2
-    (require (passes T) 16
-    (require (allClassed (σ .lent .classes)) 8
-    (require (allFit T (σ .lent .values) (σ .lent .classes)) 17 0))))
+    require (hasCaps (σ .limits .caps) && hasCaps T && lengthsFit (σ .lent)) 7 (tableRefusal T (σ .sessions) (σ .lent .values) (σ .lent .classes))
 
 -- with the table T in force, and all else as it was
 abbrev pub withCaps : List ℕ → Store → Store

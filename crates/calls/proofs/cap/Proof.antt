@@ -1,12 +1,12 @@
 -- The table is the model's list of caps.
 use mathlib.Core.Path.{refl}
 use borrow.Author.Needs.{needs}
-use Rattle.model.specs.Buffers.{caps, cap}
+use Rattle.model.specs.Buffers.{ourCaps, cap}
 use Rattle.calls.proofs.cap.Statement.{statement}
 use Rattle.calls.proofs.cap.Tie as tie
 
 returns : tie.Need-returns
-unfolding cap caps
+unfolding cap ourCaps
 returns c = refl
 
 pub cap-spec : {M : Type 1} → statement M

@@ -22,13 +22,13 @@ shared-slice-read-class : tie.Need-shared-slice-read-class
 shared-slice-read-class c = c .before .if2 .left
 
 returns-3 : tie.Need-returns-3
-returns-3 c = write-odd _ _ _ _ (c .before .before .before .before .runs .ensures) (not-false _ (c .before .before .before .if1 .left)) _ _ _ _ (c .before .before .if2 .left) (c .if3 .taken)
+returns-3 c = write-odd _ _ _ _ (c .before .before .before .before .runs .ensures) (not-false _ (c .before .before .before .if1 .left)) _ _ _ _ _ (c .before .before .if2 .left) (c .if3 .taken)
 
 write-capped-requires : tie.Need-write-capped-requires
 write-capped-requires c κs = (c .before .before .before .before .before .before .before .before .pre .0, few _ _ _ _ (c .before .before .before .before .before .runs .ensures) (not-false _ (c .before .before .before .before .if1 .left)))
 
 returns-4 : tie.Need-returns-4
-returns-4 c = write-class _ _ _ _ (c .before .before .before .before .before .before .runs .ensures) (not-false _ (c .before .before .before .before .before .if1 .left)) _ _ _ _ (c .before .before .before .before .if2 .left) (c .before .before .if3 .left) _ (c .before .cap .ensures) _ (c .write-capped .ensures)
+returns-4 c = write-class _ _ _ _ (c .before .before .before .before .before .before .runs .ensures) (not-false _ (c .before .before .before .before .before .if1 .left)) _ _ _ _ _ (c .before .before .before .before .if2 .left) (c .before .before .if3 .left) _ (c .before .cap .ensures) _ (c .write-capped .ensures)
 
 pub write-plan-spec : {M : Type 1} → statement M
 write-plan-spec =
