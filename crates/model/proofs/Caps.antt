@@ -7,10 +7,11 @@ use mathlib.Core.Path.{_≡_, refl, sym, _∙_, ap, subst}
 use mathlib.Core.Bool.{Bool, true, false, cond, not, _&&_, _||_}
 use mathlib.Core.List.{List, [], _∷_, _++_, append-nil, reverse}
 use lib.Dec.{leb, ltb, eqb}
-use lib.ListN.{length, getD, set}
+use lib.ListN.{length, getD, set, length-set, length-replicate, List·getD-eq-default}
 use lib.Seq.{sets, length-sets}
-use borrow.Author.Tests.{eqb-true, leb-true}
+use borrow.Author.Tests.{eqb-true, leb-true, ltb-true, ltb-false}
 use Rattle.model.specs.declared.Session.{Session}
+use Rattle.model.specs.declared.Sessions.{Sessions}
 use Rattle.model.specs.declared.Call.{Call}
 use Rattle.model.specs.declared.Call.the-variants.{Begin, Read, Write, Seal, Advance, Abandon, Peek, Hold}
 use Rattle.model.specs.declared.Answer.{Answer}
@@ -21,7 +22,7 @@ use Rattle.model.specs.Buffers.{Locks, Buffers, Store, idle, running, se
 use Rattle.model.specs.Caps.{capOf, EachGotWithin, InUse, EntryWithin, WithinCaps}
 use Rattle.model.specs.History.{Action, oneCall, manyReads, loadCaps, tellsOf, leaves, eventOf, run}
 use Rattle.model.specs.Isolation.{All}
-use Rattle.model.specs.Load.{allIdle, withCaps}
+use Rattle.model.specs.Load.{idleBelow, allIdle, withCaps}
 use Rattle.model.specs.Readers.{otherReaders}
 use Rattle.model.specs.Search.{some?, find}
 use Rattle.model.specs.Plans.{guard, known, claimed, readSlot, holdSlot, writeSlot, writeCapped, sealTarget, promotePlan, advanceTarget, plan, admit}
@@ -42,6 +43,7 @@ use Rattle.model.proofs.Tools.{same, split, test, which, clash, both-l,
 -- ---- the invariant
 
 pub record Capped (σ : Store) : Type 0 where
+  pub records : length (σ .sessions .records) ≡ 16
   pub stored : (c : ℕ) → getD (σ .lent .values) c 0 ≤ capOf σ c
   pub logged : (s k : ℕ) → InUse (recordOf σ s) k → EntryWithin (capOf σ) (logOf σ s) k
 
@@ -101,12 +103,13 @@ module _ (s : ℕ) (logs : List ℕ) (k c v : ℕ) (lt : s < 16) (len : length l
 -- ---- what a plan leaves
 
 -- session s acts: the values, the entries in use before, and those of its new record are within the caps
-change-keeps : (σ : Store) (s : ℕ) (L : Locks) (vs W : List ℕ) (x : Session) → ((c : ℕ) → getD vs c 0 ≤ capOf σ c)
+change-keeps : (σ : Store) (s : ℕ) (L : Locks) (vs W : List ℕ) (x : Session) → length (σ .sessions .records) ≡ 16 → ((c : ℕ) → getD vs c 0 ≤ capOf σ c)
     → ((t k : ℕ) → InUse (recordOf σ t) k → EntryWithin (capOf σ) (logIn W t) k) → ((k : ℕ) → InUse x k → EntryWithin (capOf σ) (logIn W s) k)
     → Capped (change σ s L vs W x)
 unfolding sessionAt withSession
-change-keeps σ s L vs W x h old new =
+change-keeps σ s L vs W x n h old new =
     record {
+      records = length-set (σ .sessions .records) s x ∙ n;
       stored = h;
       logged = λ t k. set-either (λ (y : Session). InUse y k → EntryWithin (capOf σ) (logIn W t) k) (σ .sessions .records) s t x idle (λ e. rw e (new k)) (old t k);
     }
@@ -117,6 +120,7 @@ module _ {σ : Store} (I : Capped σ) (s k : ℕ) (lt : s < 16) (len : length (�
       → Capped (changeLogs σ (onLog s g (σ .lent .logs)))
   set-keeps v w g is h =
       record {
+        records = I .records;
         stored = I .stored;
         logged = λ t j u. on-within (capOf σ) s (σ .lent .logs) lt len g (ap length is ∙ length-sets (logOf σ s) (4 * k + 2) (v ∷ w ∷ []) ∙ log-length (σ .lent .logs) s lt len) t j
             (λ e. rw is (set-within (capOf σ) (logOf σ s) k v w h j (subst (λ (i : ℕ). EntryWithin (capOf σ) (logOf σ i) j) e (I .logged t j u)))) (λ _. I .logged t j u);
@@ -138,7 +142,7 @@ handled-in-use log c x n k =
 module _ {σ : Store} (I : Capped σ) (s : ℕ) where
   -- values and logs stay, and no more entries are in use
   shrink-keeps : (L : Locks) (x : Session) → ((k : ℕ) → InUse x k → InUse (recordOf σ s) k) → Capped (change σ s L (σ .lent .values) (σ .lent .logs) x)
-  shrink-keeps L x f = change-keeps σ s L (σ .lent .values) (σ .lent .logs) x (I .stored) (I .logged) (λ k u. I .logged s k (f k u))
+  shrink-keeps L x f = change-keeps σ s L (σ .lent .values) (σ .lent .logs) x (I .records) (I .stored) (I .logged) (λ k u. I .logged s k (f k u))
 
   idle-keeps : (L : Locks) → Capped (change σ s L (σ .lent .values) (σ .lent .logs) idle)
   idle-keeps L = shrink-keeps L idle (λ k u. absurd (u .0 refl))
@@ -158,14 +162,14 @@ module _ {σ : Store} (I : Capped σ) (s : ℕ) where
         let m = recordOf σ s .count in
         let w = appended-within (capOf σ) (logOf σ s) m c v room (log-length (σ .lent .logs) s lt len) (I .stored c) in
         let g = on-within (capOf σ) s (σ .lent .logs) lt len (λ log. appended log m c v) (grown-whole s (σ .lent .logs) m c v lt len) in
-        change-keeps σ s (onLock c (join s) (σ .lent .locks)) (σ .lent .values) (onLog s (λ log. appended log m c v) (σ .lent .logs)) (withEntry (recordOf σ s)) (I .stored)
+        change-keeps σ s (onLock c (join s) (σ .lent .locks)) (σ .lent .values) (onLog s (λ log. appended log m c v) (σ .lent .logs)) (withEntry (recordOf σ s)) (I .records) (I .stored)
         (λ t j u. g t j (λ e. w j (λ _. subst (λ (i : ℕ). EntryWithin (capOf σ) (logOf σ i) j) e (I .logged t j u))) (λ _. I .logged t j u))
         (λ j u. g s j (λ _. w j (λ ne. I .logged s j (n, omega (arith, u .1)))) (λ ne. absurd (ne refl)))
 
     publish-keeps : (c v : ℕ) → v ≤ capOf σ c → Capped (after s (Publish c v) σ)
     unfolding after
     publish-keeps c v h =
-        change-keeps σ s (σ .lent .locks) (set (σ .lent .values) c v) (σ .lent .logs) (handled (logOf σ s) c (recordOf σ s))
+        change-keeps σ s (σ .lent .locks) (set (σ .lent .values) c v) (σ .lent .logs) (handled (logOf σ s) c (recordOf σ s)) (I .records)
         (λ d. set-either (λ x. x ≤ capOf σ d) (σ .lent .values) c d v 0 (λ e. rw e h) (I .stored d)) (I .logged)
         (λ k u. I .logged s k (handled-in-use (logOf σ s) c (recordOf σ s) n k u))
 
@@ -316,7 +320,7 @@ module _ {σ : Store} (I : Capped σ) where
       let l = lockAt (σ .lent .locks) c in
       split (CapsKept call) (claimed l && not (eqb (l .claimant) s)) (λ _. keep-rollback call)
       (λ _. split (CapsKept call) (eqb (otherReaders s (l .readers)) 0) {x = Acquire c} {y = Wait c} (λ _. (handle-keeps _, (tt, tt)))
-      (λ _. (record { stored = I .stored; logged = I .logged }, tt))))
+      (λ _. (record { records = I .records; stored = I .stored; logged = I .logged }, tt))))
       (λ _. split (CapsKept call) (eqb (x .phase) 3) {x = Publish c (currentOf (lookIn (logOf σ s) (x .count) c))} {y = Release c} (λ _. (publish-keeps I s n c _ (current-within I s n c), (tt, tt)))
       (λ _. (handle-keeps _, split (λ (a : Answer). TellsWithin (capOf σ) (tells (Advance s) a 0)) (isLeft (logOf σ s) c x) {x = Moved} {y = Committed} (λ _. (tt, tt)) (λ _. (tt, tt)))))))
 
@@ -375,17 +379,25 @@ all-fit T (v ∷ vs) [] h c = absurd (clash false h refl)
 all-fit T (v ∷ vs) (k ∷ ks) h zero = leb-true v (cap T k) (both-r (ltb k 16) (leb v (cap T k)) (both-l (fits T k v) (allFit T vs ks) h))
 all-fit T (v ∷ vs) (k ∷ ks) h (suc c) = all-fit T vs ks (both-r (fits T k v) (allFit T vs ks) h) c
 
-all-idle : (xs : List Session) → allIdle xs ≡ true → (s : ℕ) → getD xs s idle .phase ≡ 0
-unfolding allIdle
-all-idle [] h s = refl
-all-idle (x ∷ xs) h zero = eqb-true (x .phase) 0 (both-l (eqb (x .phase) 0) (allIdle xs) h)
-all-idle (x ∷ xs) h (suc s) = all-idle xs (both-r (eqb (x .phase) 0) (allIdle xs) h) s
+idle-below : (m : ℕ) (ss : Sessions) → idleBelow m ss ≡ true → (s : ℕ) → s < m → sessionAt ss s .phase ≡ 0
+unfolding idleBelow
+idle-below zero ss h s l = absurd (omega arith)
+idle-below (suc m) ss h s l =
+    same s m (λ e. rw e (eqb-true (sessionAt ss m .phase) 0 (both-r (idleBelow m ss) _ h))) (λ n. idle-below m ss (both-l (idleBelow m ss) _ h) s (omega arith))
+
+all-idle : (ss : Sessions) → length (ss .records) ≡ 16 → allIdle ss ≡ true → (s : ℕ) → sessionAt ss s .phase ≡ 0
+unfolding allIdle sessionAt
+all-idle ss k h s =
+    test (ltb s 16) (λ l. idle-below 16 ss h s (ltb-true s 16 l)) (λ l. rw (List·getD-eq-default (ss .records) idle (let n = ltb-false s 16 l in let m : length (ss .records) ≤ s = omega arith in m)))
 
 -- no entry is in use, so that the values alone are bound by the new table
-capped-load : (T : List ℕ) (σ : Store) → Loaded T σ → Capped (withCaps T σ)
-unfolding sessionAt
-capped-load T σ l =
-    record { stored = all-fit T (σ .lent .values) (σ .lent .classes) (l .values); logged = λ s k u. absurd (u .0 (all-idle (σ .sessions .records) (l .idle) s)) }
+capped-load : (T : List ℕ) (σ : Store) → Capped σ → Loaded T σ → Capped (withCaps T σ)
+capped-load T σ I l =
+    record {
+      records = I .records;
+      stored = all-fit T (σ .lent .values) (σ .lent .classes) (l .values);
+      logged = λ s k u. absurd (u .0 (all-idle (σ .sessions) (I .records) (l .idle) s));
+    }
 
 -- ---- the actions
 
@@ -404,7 +416,7 @@ within-call ws τ w k =
 within-action : {σ : Store} → Capped σ → (k : Action) → Within (tellsOf (eventOf k σ)) (leaves k σ)
 within-action {σ} I (oneCall k) = subst (λ (ws : List Told). Within ws (step k σ)) (append-nil (tells k (answerOf k σ) (foundBy k (step k σ)))) (within-call [] σ (I, tt) k)
 within-action {σ} I (manyReads s cs words) = kept-by-reads (λ ws _ τ. Within ws τ) s (λ ws _ τ _ w c. within-call ws τ w (Read s c)) cs words σ (I, tt) (I, tt) (I, tt)
-within-action {σ} I (loadCaps T) = (load-cases Capped T σ (capped-load T σ) I, tt)
+within-action {σ} I (loadCaps T) = (load-cases Capped T σ (capped-load T σ I) I, tt)
 
 -- ---- every list of actions
 
@@ -426,6 +438,7 @@ pub capped-fresh : (σ : Store) → Passed σ → Capped (fresh (σ .limits) (σ
 unfolding fresh
 capped-fresh σ p =
     record {
+      records = length-replicate {A = Session} 16 idle;
       stored = all-fit (σ .limits .caps) (σ .lent .values) (σ .lent .classes) (p .values);
       logged = λ s k u. absurd (u .0 (ap (λ (x : Session). x .phase) (first (σ .limits) (σ .lent) s)));
     }

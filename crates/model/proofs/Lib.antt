@@ -4,6 +4,7 @@ pub mod Carried
 pub mod Passing
 pub mod Telling
 pub mod Loading
+pub mod Tables
 pub mod Quiet
 pub mod Sets
 pub mod Roles

@@ -10,7 +10,7 @@ use Rattle.model.proofs.Tools.{split, test}
 -- what a load answered 100 has tested
 pub record Loaded (T : List ℕ) (σ : Store) : Type 0 where
   pub lengths : (hasCaps (σ .limits .caps) && hasCaps T && lengthsFit (σ .lent)) ≡ true
-  pub idle : allIdle (σ .sessions .records) ≡ true
+  pub idle : allIdle (σ .sessions) ≡ true
   pub table : passes T ≡ true
   pub classes : allClassed (σ .lent .classes) ≡ true
   pub values : allFit T (σ .lent .values) (σ .lent .classes) ≡ true
@@ -19,7 +19,7 @@ pub load-cases {ℓ} : (P : Store → Type ℓ) (T : List ℕ) (σ : Store) → 
 unfolding load loadRefusal tableRefusal
 load-cases P T σ f p =
     test (hasCaps (σ .limits .caps) && hasCaps T && lengthsFit (σ .lent))
-    (λ a. test (allIdle (σ .sessions .records))
+    (λ a. test (allIdle (σ .sessions))
     (λ b. test (passes T)
     (λ c. test (allClassed (σ .lent .classes))
     (λ d. test (allFit T (σ .lent .values) (σ .lent .classes))

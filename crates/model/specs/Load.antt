@@ -1,20 +1,22 @@
 -- Loading a table of caps in place of the one in force (document 02, Paper 5), while every session is idle.
-use Prim.Native.Nat.{ℕ}
+use Prim.Native.Nat.{ℕ, zero, suc}
 use mathlib.Core.Bool.{Bool, true, _&&_}
 use mathlib.Core.List.{List, [], _∷_}
 use lib.Dec.{ltb, eqb}
-use Rattle.model.specs.Buffers.{Limits, Store, hasCaps, passes, allFit, lengthsFit}
-use Rattle.model.specs.declared.Session.{Session}
+use Rattle.model.specs.Buffers.{Limits, Store, sessionAt, hasCaps, passes, allFit, lengthsFit}
 use Rattle.model.specs.declared.Sessions.{Sessions}
 use Rattle.model.specs.declared.Answer.{Answer}
 use Rattle.model.specs.declared.Answer.the-variants.{Done, Refused}
 use Rattle.model.specs.Plans.{require}
 use Rattle.model.specs.Step.{Outcome, outcome}
 
--- every session's phase is 0: one above 4 is not idle
-unfoldable pub allIdle : List Session → Bool
-allIdle [] = true
-allIdle (x ∷ xs) = eqb (x .phase) 0 && allIdle xs
+-- the phase of each of the first m sessions is 0; of all: one above 4 is not idle
+unfoldable pub idleBelow : ℕ → Sessions → Bool
+idleBelow zero ss = true
+idleBelow (suc s) ss = idleBelow s ss && eqb (sessionAt ss s .phase) 0
+
+unfoldable pub allIdle : Sessions → Bool
+allIdle ss = idleBelow 16 ss
 
 -- every class byte is at most 15
 unfoldable pub allClassed : List ℕ → Bool
@@ -25,7 +27,7 @@ allClassed (k ∷ ks) = ltb k 16 && allClassed ks
 -- above 15 8, and a value above its new cap 17; 0 where nothing does
 unfoldable pub tableRefusal : List ℕ → Sessions → List ℕ → List ℕ → ℕ
 tableRefusal T ss vs ks =
-    require (allIdle (ss .records)) 2 (require (passes T) 16 (require (allClassed ks) 8 (require (allFit T vs ks) 17 0)))
+    require (allIdle ss) 2 (require (passes T) 16 (require (allClassed ks) 8 (require (allFit T vs ks) 17 0)))
 
 unfoldable pub loadRefusal : List ℕ → Store → ℕ
 loadRefusal T σ =

@@ -8,7 +8,7 @@ use native.Mathlib.Omega.{arith}
 use borrow.Author.Tests.{eqb-true}
 use lib.Dec.{eqb, ltb}
 use lib.ListN.{length}
-use Rattle.model.specs.Buffers.{entryAt, slotIn, targetIn}
+use Rattle.model.specs.Buffers.{Limits, entryAt, slotIn, targetIn}
 use Rattle.model.specs.Readers.{otherReaders}
 use Rattle.model.specs.Plans.{claimed, promotePlan, recordFits, guard, known, sealTarget, sealPlan, peekSlot, peekPlan, plan}
 use Rattle.model.specs.Turns.{turnOf}
@@ -92,25 +92,25 @@ module _ (n : ℕ) (log : List ℕ) (x : Session) where
   peeked c none = split (PlanFits n log x) (ltb c n) (λ t. tt) (λ t. tt)
   peeked c (some k) = split (PlanFits n log x) (ltb c n) (λ t. split (PlanFits n log x) (entryAt log k .dirty) (λ u. tt) (λ u. tt)) (λ t. tt)
 
-  plan-fits : (ks : List ℕ) (lock : ℕ → Lock) (k : Call) → PlanFits n log x (plan k n ks log x lock)
-  plan-fits ks lock (call.Begin s) = unfold plan in tested (eqb (x .phase) 0) Start (λ t u. unfold PlanFits in tt)
-  plan-fits ks lock (call.Read s c) =
+  plan-fits : (ks : List ℕ) (G : Limits) (lock : ℕ → Lock) (k : Call) → PlanFits n log x (plan k n ks G log x lock)
+  plan-fits ks G lock (call.Begin s) = unfold plan in tested (eqb (x .phase) 0) Start (λ t u. unfold PlanFits in tt)
+  plan-fits ks G lock (call.Read s c) =
       unfold plan PlanFits in
       choice-fits (lock c) c (λ k. Tell (entryAt log k .current)) (Enter c) _ _ (λ k. tt) (λ i. i) (read-choice n log x (lock c) c)
-  plan-fits ks lock (call.Write s c v) =
+  plan-fits ks G lock (call.Write s c v) =
       unfold plan PlanFits in
-      choice-fits (lock c) c (λ k. Update k v) (EnterUpdate c v) _ _ (λ k. tt) (λ i. i) (write-choice n log x (lock c) c ks v)
-  plan-fits ks lock (call.Seal s) =
+      choice-fits (lock c) c (λ k. Update k v) (EnterUpdate c v) _ _ (λ k. tt) (λ i. i) (write-choice n log x (lock c) c (G .caps) ks v)
+  plan-fits ks G lock (call.Seal s) =
       unfold plan sealPlan in
       tested (eqb (x .phase) 1) (sealTarget (targetIn log (x .count) 0)) (λ t u. sealed (targetIn log (x .count) 0) (entered t 1 u (omega arith)))
-  plan-fits ks lock (call.Advance s) =
-      rw (← advance-agree n s ks log x lock) (due-plan-fits (lock (dueCell log (dueOn n log x))) s (dueOn n log x) refl)
-  plan-fits ks lock (call.Abandon s) =
+  plan-fits ks G lock (call.Advance s) =
+      rw (← advance-agree n s ks G log x lock) (due-plan-fits (lock (dueCell log (dueOn n log x))) s (dueOn n log x) refl)
+  plan-fits ks G lock (call.Abandon s) =
       unfold plan in
       tested (eqb (x .phase) 1 || eqb (x .phase) 2) Cancel
       (λ t u. unfold PlanFits in test (eqb (x .phase) 1) (λ i. entered t 1 i (omega arith)) (λ i. entered t 2 (rw i at u) (omega arith)))
-  plan-fits ks lock (call.Peek s c) = unfold plan peekPlan in tested (eqb (x .phase) 1) _ (λ t u. peeked c (slotIn log (x .count) c))
-  plan-fits ks lock (call.Hold s c) =
+  plan-fits ks G lock (call.Peek s c) = unfold plan peekPlan in tested (eqb (x .phase) 1) _ (λ t u. peeked c (slotIn log (x .count) c))
+  plan-fits ks G lock (call.Hold s c) =
       unfold plan PlanFits in
       choice-fits (lock c) c (λ k. Mark k (entryAt log k .current)) (EnterMark c) _ _ (λ k. tt) (λ i. i) (hold-choice n log x (lock c) c)
 
@@ -142,6 +142,6 @@ module _ (n : ℕ) (log : List ℕ) (x : Session) where
     change-fits (ShowLog k) f = tt
 
     -- of any call, by its plan
-    pub call-fits : (ks : List ℕ) (lock : ℕ → Lock) (k : Call) (p : Plan) → p ≡ plan k n ks log x lock
+    pub call-fits : (ks : List ℕ) (G : Limits) (lock : ℕ → Lock) (k : Call) (p : Plan) → p ≡ plan k n ks G log x lock
         → ChangeFits (turnOf p vs log x .change) s (turnOf p vs log x .log) (x .count) n
-    call-fits ks lock k p e = change-fits p (rw e (plan-fits ks lock k))
+    call-fits ks G lock k p e = change-fits p (rw e (plan-fits ks G lock k))

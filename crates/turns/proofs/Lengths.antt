@@ -6,15 +6,17 @@ use native.Mathlib.Omega.{arith}
 use borrow.Author.Tests.{ltb-true, eqb-true, eqb-false, leb-true}
 use lib.ListN.{length}
 use lib.Dec.{leb, ltb, eqb}
-use Rattle.model.specs.Buffers.{Buffers, Store, size, lengthsFit, lengthsMatch}
+use Rattle.model.specs.Buffers.{Buffers, Limits, Store, size, lengthsFit, lengthsMatch}
 use Rattle.model.specs.Effects.{answer, after}
-use Rattle.model.specs.Step.{outcome, answerOf, step, effect, planOf, sessionOf, TakesRecord}
+use Rattle.model.specs.Step.{outcome, answerOf, step, effect, planOf, sessionOf, TakesUnder, TakesRecord}
+use Rattle.model.specs.Plans.{tableFits}
 use Rattle.model.specs.declared.Session.{Session}
 use Rattle.model.specs.declared.Call.{Call}
 use Rattle.model.specs.declared.Answer.the-variants.{Refused}
 use Rattle.model.specs.declared.Plan.the-variants.{Refuse}
 use Rattle.model.proofs.Tools.{test, clash, and-false}
 use Rattle.model.proofs.Carried.{same-record}
+use Rattle.model.proofs.Tables.{goes-fits}
 use Rattle.calls.specs.Pieces.{admission}
 
 -- what fitting lengths say, one by one
@@ -62,6 +64,11 @@ pub refuses : (k : Call) (σ : Store) (r : ℕ) → Refuse r ≡ planOf k σ →
 unfolding effect answerOf step answer after
 refuses k σ r e = rw (← e)
 
+-- a table that is not of 16 caps is 7
+pub table-refused : (G : Limits) (k : Call) (B : Buffers) (x : Session) → tableFits k G ≡ false → TakesUnder G k B x (Refused 7) B x
+table-refused G k B x t ss o =
+    rw (← o, same-record ss (sessionOf k % 16)) (refuses k (record { lent = B; limits = G; sessions = ss }) 7 (unfold planOf in rw t))
+
 -- r is the number that the code's test answered
 module _ (B : Buffers) (s r : ℕ)
     (e : r ≡ admission (lengthsMatch (length (B .values)) (length (B .classes)) (length (B .locks .readers)) (length (B .locks .claimants)) (length (B .locks .exclusives)) (length (B .logs))) s) where
@@ -76,20 +83,24 @@ module _ (B : Buffers) (s r : ℕ)
       let w = passed-both (lengthsFit B) (ltb s 16) refl refl z in
       record { fit = w .0; lengths = lengths-of B (w .0); low = ltb-true s 16 (w .1) }
 
-  -- any other number is the plan's refusal
-  pub plan-refused : (k : Call) → s ≡ sessionOf k → (r ≡ 0 → ⊥) → (σ : Store) → σ .lent ≡ B → Refuse r ≡ planOf k σ
+  -- any other number is the plan's refusal, where the table fits
+  pub plan-refused : (k : Call) → s ≡ sessionOf k → (r ≡ 0 → ⊥) → (σ : Store) → tableFits k (σ .limits) ≡ true → σ .lent ≡ B → Refuse r ≡ planOf k σ
   unfolding planOf admission
-  plan-refused k i n σ b =
+  plan-refused k i n σ t b =
       test (lengthsFit B)
       (λ f.
       test (ltb s 16) (λ l. absurd (n (rw (match-is B, f, l) at e)))
-      (λ l. let w : r ≡ 1 = rw (match-is B, f, l) at e in rw (b, f, ← i, l, w)))
-      (λ f. let w : r ≡ 7 = rw (match-is B, f) at e in rw (b, f, w))
+      (λ l. let w : r ≡ 1 = rw (match-is B, f, l) at e in rw (t, b, f, ← i, l, w)))
+      (λ f. let w : r ≡ 7 = rw (match-is B, f) at e in rw (t, b, f, w))
 
   -- and the call is refused by it, with all as it was
+  pub refused-under : (G : Limits) (k : Call) → tableFits k G ≡ true → s ≡ sessionOf k → (r ≡ 0 → ⊥) → (x : Session) → TakesUnder G k B x (Refused r) B x
+  refused-under G k t i n x ss o =
+      rw (← o, same-record ss (sessionOf k % 16))
+      (refuses k (record { lent = B; limits = G; sessions = ss }) r (plan-refused k i n (record { lent = B; limits = G; sessions = ss }) t refl))
+
   pub refused : (k : Call) → s ≡ sessionOf k → (r ≡ 0 → ⊥) → (x : Session) → TakesRecord k B x (Refused r) B x
-  refused k i n x ss o =
-      rw (← o, same-record ss (sessionOf k % 16)) (refuses k (record { lent = B; sessions = ss }) r (plan-refused k i n (record { lent = B; sessions = ss }) refl))
+  refused k i n x G g = refused-under G k (goes-fits k G g) i n x
 
 -- the same where the code has the test's answer t first, and asks for the number only where it did not pass
 module _ (B : Buffers) (s : ℕ) (t : Bool)
@@ -99,8 +110,11 @@ module _ (B : Buffers) (s : ℕ) (t : Bool)
 
   module _ (z : t ≡ false) (r : ℕ)
       (o : r ≡ admission (lengthsMatch (length (B .values)) (length (B .classes)) (length (B .locks .readers)) (length (B .locks .claimants)) (length (B .locks .exclusives)) (length (B .logs))) s) (k : Call) (i : s ≡ sessionOf k) where
-    pub plan-refused-by : (σ : Store) → σ .lent ≡ B → Refuse r ≡ planOf k σ
+    pub plan-refused-by : (σ : Store) → tableFits k (σ .limits) ≡ true → σ .lent ≡ B → Refuse r ≡ planOf k σ
     plan-refused-by = plan-refused B s r o k i (λ w. eqb-false _ 0 (sym e ∙ z) (sym o ∙ w))
+
+    pub refused-under-by : (G : Limits) → tableFits k G ≡ true → (x : Session) → TakesUnder G k B x (Refused r) B x
+    refused-under-by G t = refused-under B s r o G k t i (λ w. eqb-false _ 0 (sym e ∙ z) (sym o ∙ w))
 
     pub refused-by : (x : Session) → TakesRecord k B x (Refused r) B x
     refused-by = refused B s r o k i (λ w. eqb-false _ 0 (sym e ∙ z) (sym o ∙ w))

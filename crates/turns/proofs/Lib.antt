@@ -1,4 +1,6 @@
 pub mod Lengths
+pub mod Idling
+pub mod Loading
 pub mod Logs
 pub mod InLogs
 pub mod Guards

@@ -12,7 +12,7 @@ use base.Fml.{GName}
 use denote.Ref.{RefT}
 use lib.Dec.{T, ltb, eqb}
 use lib.ListN.{length, take, drop, replicate, getD-replicate, length-take, length-drop}
-use Rattle.model.specs.Buffers.{Buffers, Store, size, idle, sessionAt, entryAt, slotIn, lengthsFit}
+use Rattle.model.specs.Buffers.{Buffers, Limits, ours, Store, size, idle, sessionAt, entryAt, slotIn, lengthsFit}
 use Rattle.model.specs.Plans.{recordFits, guard, known, peekSlot, plan}
 use Rattle.model.specs.Effects.{recordOf, shown, answer, after, logOf}
 use Rattle.model.specs.Slices.{PartOf, IsPart}
@@ -151,15 +151,15 @@ unfolding sessionAt
 each x s = getD-replicate 16 (s % 16) x idle (omega arith)
 
 -- p is the plan, whatever the other records are
-module _ (B : Buffers) (x : Session) (s c : ℕ) (p : Plan) (e : (ss : Sessions) → sessionAt ss (s % 16) ≡ x → p ≡ planOf (Peek s c) (record { lent = B; sessions = ss })) where
+module _ (B : Buffers) (x : Session) (s c : ℕ) (p : Plan) (e : (G : Limits) (ss : Sessions) → sessionAt ss (s % 16) ≡ x → p ≡ planOf (Peek s c) (record { lent = B; limits = G; sessions = ss })) where
   abbrev pub alone : Store
-  alone = record { lent = B; sessions = record { records = replicate 16 x } }
+  alone = record { lent = B; limits = ours; sessions = record { records = replicate 16 x } }
 
   pub plan-alone : p ≡ planOf (Peek s c) alone
-  plan-alone = e (record { records = replicate 16 x }) (each x s)
+  plan-alone = e ours (record { records = replicate 16 x }) (each x s)
 
   pub twin-refused : (r : ℕ) → p ≡ Refuse r → TakesRecord (Peek s c) B x (Refused r) B x
-  twin-refused r f ss o = rw (← o, same-record ss (s % 16)) (peek-refused (record { lent = B; sessions = ss }) s c p (e ss o) r f)
+  twin-refused r f G _ ss o = rw (← o, same-record ss (s % 16)) (peek-refused (record { lent = B; limits = G; sessions = ss }) s c p (e G ss o) r f)
 
   pub twin-done : Passed 0 p → TakesRecord (Peek s c) B x Done B x
-  twin-done a ss o = rw (← o, same-record ss (s % 16)) (peek-done (record { lent = B; sessions = ss }) s c p (e ss o) a)
+  twin-done a G _ ss o = rw (← o, same-record ss (s % 16)) (peek-done (record { lent = B; limits = G; sessions = ss }) s c p (e G ss o) a)

@@ -1,6 +1,7 @@
 -- Any call's turn: the cell whose lock it may need, and what it decides with that lock.
 use Prim.Native.Nat.{ℕ}
 use mathlib.Core.List.{List}
+use Rattle.model.specs.Buffers.{ours}
 use Rattle.model.specs.Plans.{plan}
 use Rattle.model.specs.declared.Session.{Session}
 use Rattle.model.specs.declared.Lock.{Lock}
@@ -20,5 +21,6 @@ cellFor (Abandon s) n log x = 0
 cellFor (Peek s c) n log x = 0
 cellFor (Hold s c) n log x = c
 
+-- by our caps, with that lock
 abbrev pub planWith : Call → ℕ → List ℕ → List ℕ → Session → Lock → Plan
-planWith k n classes log x l = plan k n classes log x (λ c. l)
+planWith k n classes log x l = plan k n classes ours log x (λ c. l)

@@ -2,11 +2,14 @@
 use mathlib.Core.Path.{_≡_}
 use Prim.Native.Nat.{ℕ}
 use mathlib.Core.List.{List}
+use lib.ListN.{length}
 use denote.Ref.{now}
-use Rattle.model.specs.Buffers.{logIn, onLog}
+use Rattle.model.specs.Buffers.{free, logIn, onLog}
+use Rattle.model.specs.Plans.{writePlan}
 use Rattle.model.specs.Slices.{Slice}
 use Rattle.model.specs.Turns.{TurnEffect, leaves, turnOf}
 use Rattle.model.specs.declared.Session.{Session}
+use Rattle.model.specs.declared.Lock.{Lock}
 use Rattle.model.specs.declared.Plan.{Plan}
 use Rattle.model.specs.declared.Turn.{Turn}
 
@@ -19,3 +22,9 @@ abbrev pub TakesIn : ℕ → Plan → Slice → Slice → Session → Turn → T
 TakesIn s p values logs x r =
     leaves (r .answer) (now (values .exit)) (now (logs .exit)) (r .session) (r .change)
     ≡ inLogs s (now (logs .entry)) (turnOf p (now (values .entry)) (logIn (now (logs .entry)) s) x)
+
+-- the same of a write with the lock l, by whatever table and classes p was decided as if nobody were claimant
+abbrev pub TakesWriteIn : ℕ → Slice → Slice → Session → Lock → ℕ → ℕ → Plan → Turn → Type 0
+TakesWriteIn s values logs x l c v p r =
+    (T ks : List ℕ) → p ≡ writePlan T ks (length (now (values .entry))) (logIn (now (logs .entry)) s) x free c v
+    → TakesIn s (writePlan T ks (length (now (values .entry))) (logIn (now (logs .entry)) s) x l c v) values logs x r

@@ -1,2 +1,3 @@
 pub mod AnyCall
 pub mod InLogs
+pub mod Loads

@@ -1,15 +1,18 @@
-// What every form of the locks shares above the calls: a turn on the logs of all sessions, of which the session's is lent on, the records of all sixteen, and
-// any call's turn.
+// What every form of the locks shares above the calls: a turn on the logs of all sessions, of which the session's is lent on, the records of all sixteen, a table
+// of caps loaded, and any call's turn.
 // The laws by which a form meets its contracts stand in proofs/.
 ghost use mathlib.Core.Path.{_≡_};
 ghost use Prim.Native.Nat.{_<_, _≤_, _%_};
 ghost use lib.ListN.{length};
 ghost use Rattle.model.specs.Buffers.{free, sessionAt, withSession, logIn};
-ghost use Rattle.model.specs.Plans.{readPlan, holdPlan, writePlan, peekPlan};
+ghost use Rattle.model.specs.Load.{allIdle, tableRefusal};
+ghost use Rattle.model.specs.Plans.{readPlan, holdPlan, peekPlan};
 ghost use Rattle.model.specs.Step.{sessionOf};
 ghost use Rattle.model.specs.Turns.{TakesTurn, TurnsLog};
 ghost use Rattle.turns.specs.AnyCall.{cellFor, planWith};
-ghost use Rattle.turns.specs.InLogs.{TakesIn};
+ghost use Rattle.turns.specs.InLogs.{TakesIn, TakesWriteIn};
+ghost use Rattle.turns.specs.Loads.{LoadsCaps};
+ghost use Rattle.calls.specs.Pieces.{WriteDecided};
 use model::Answer;
 use model::Call;
 use model::Change;
@@ -58,10 +61,9 @@ pub fn hold(
     calls::take_hold(values, &mut logs[a..e], x, l, cell, p)
 }
 
-// Write.
+// Write, by whatever table and classes it was decided.
 pub fn write(
     values: &[u32],
-    classes: &[u8],
     logs: &mut [u32],
     x: Session,
     l: Lock,
@@ -70,12 +72,12 @@ pub fn write(
     written: u32,
     p: Plan,
 ) -> Turn
-    requires { ⌜ (session < 16) × (length (now logs) ≡ 2048) × (length (now classes) ≡ length (now values)) × (p ≡ writePlan (now classes) (length (now values)) (logIn (now logs) session) x free cell written) ⌝ }
-    ensures { λ r. ⌜ TakesIn session (writePlan (now (classes .entry)) (length (now (values .entry))) (logIn (now (logs .entry)) session) x l cell written) values logs x r ⌝ }
+    requires { ⌜ (session < 16) × (length (now logs) ≡ 2048) × (WriteDecided (length (now values)) (logIn (now logs) session) x cell written p) ⌝ }
+    ensures { λ r. ⌜ TakesWriteIn session values logs x l cell written p r ⌝ }
 {
     let a = 128 * (session as usize);
     let e = a + 128;
-    calls::take_write(values, classes, &mut logs[a..e], x, l, cell, written, p)
+    calls::take_write(values, &mut logs[a..e], x, l, cell, written, p)
 }
 
 // ---- the records of all sixteen
@@ -95,6 +97,81 @@ pub fn put_back(t: Turn, mut sessions: Sessions, session: u8) -> Reply
     let x = t.session;
     sessions.records[(session % 16) as usize] = x;
     Reply { answer, sessions }
+}
+
+// Whether every session is idle.
+pub fn are_idle(sessions: Sessions) -> bool
+    ensures { λ r. ⌜ r ≡ allIdle sessions ⌝ }
+{
+    let mut i = 0;
+    while i < 16 {
+        let x = sessions.records[i];
+        if x.phase != 0 {
+            return false;
+        }
+        i += 1;
+    }
+    true
+}
+
+// ---- a table of caps loaded
+
+// Refusals 2, 16, 8 and 17, or 0.
+fn table_refusal(sessions: Sessions, values: &[u32], classes: &[u8], table: &[u32]) -> u8
+    requires { ⌜ (length (now table) ≡ 16) × (length (now classes) ≡ length (now values)) ⌝ }
+    ensures { λ r. ⌜ r ≡ tableRefusal (now (table .entry)) sessions (now (values .entry)) (now (classes .entry)) ⌝ }
+{
+    if !are_idle(sessions) {
+        return 2;
+    }
+    if !calls::caps_pass(table) {
+        return 16;
+    }
+    if !calls::all_classed(classes) {
+        return 8;
+    }
+    if !calls::all_fit_by(table, values, classes) {
+        return 17;
+    }
+    0
+}
+
+// The table in the place of the one in force, of locks and logs of these lengths: 100, or 7, 2, 16, 8 or 17 with the old table as it was.
+pub fn load_caps(
+    sessions: Sessions,
+    values: &[u32],
+    classes: &[u8],
+    readers: usize,
+    claimants: usize,
+    exclusives: usize,
+    logs: usize,
+    caps: &mut [u32],
+    table: &[u32],
+) -> Answer
+    ensures { λ r. ⌜ LoadsCaps values classes readers claimants exclusives logs caps table sessions r ⌝ }
+{
+    if caps.len() != 16 {
+        return Answer::Refused(7);
+    }
+    if table.len() != 16 {
+        return Answer::Refused(7);
+    }
+    if !calls::lengths_fit(
+        values.len(),
+        classes.len(),
+        readers,
+        claimants,
+        exclusives,
+        logs,
+    ) {
+        return Answer::Refused(7);
+    }
+    let refusal = table_refusal(sessions, values, classes, table);
+    if refusal != 0 {
+        return Answer::Refused(refusal);
+    }
+    calls::put_caps(caps, table);
+    Answer::Done
 }
 
 // ---- any call
@@ -160,7 +237,7 @@ fn take_call(
         }
         Call::Write(_, c, v) => {
             let p = calls::write_plan(&log[..], classes, x, c, v);
-            calls::take_write(&values[..], classes, log, x, l, c, v, p)
+            calls::take_write(&values[..], log, x, l, c, v, p)
         }
         Call::Seal(_) => calls::take_seal(&log[..], n, x),
         Call::Advance(s) => {
