@@ -1,16 +1,16 @@
 -- What the calls on three slices cite: which part of a change each call's turn can hand back, and that what a read, a hold or a write decides with the lock looked up for it
 -- is its plan.
 use mathlib.Core.Path.{_≡_, refl, sym, ap, _∙_}
-use mathlib.Core.Bool.{Bool, false, not, _&&_}
+use mathlib.Core.Bool.{Bool, true, false, not, _&&_}
 use mathlib.Core.Option.{Option, none, some}
 use mathlib.Core.List.{List}
 use Prim.Native.Nat.{ℕ, _<_, _≤_}
 use lib.Dec.{T, eqb}
 use lib.ListN.{length}
-use Rattle.model.specs.Buffers.{Locks, Buffers, free, logIn, entryAt, targetIn, lockAt, lengthsMatch}
+use Rattle.model.specs.Buffers.{Locks, Buffers, Limits, ours, free, logIn, entryAt, targetIn, lockAt, lengthsMatch}
 use Rattle.model.specs.Readers.{otherReaders}
-use Rattle.model.specs.Plans.{guard, claimed, promotePlan, sealTarget, sealPlan, readPlan, holdPlan, writePlan, plan}
-use Rattle.model.specs.Step.{sessionOf, TakesRecord}
+use Rattle.model.specs.Plans.{tableFits, guard, claimed, promotePlan, sealTarget, sealPlan, readPlan, holdPlan, writePlan, plan}
+use Rattle.model.specs.Step.{sessionOf, TakesUnder, TakesRecord}
 use Rattle.model.specs.Turns.{TurnEffect, leaves, turnOf, changed}
 use Rattle.model.specs.declared.Session.{Session}
 use Rattle.model.specs.declared.Lock.{Lock}
@@ -33,11 +33,11 @@ use Rattle.calls.specs.declared.Due.the-variants.{Refused, Slot}
 use Rattle.calls.proofs.Agree.{advance-agree}
 use Rattle.calls.proofs.Choices.{Choice, refuses, knows, enters, read-choice, hold-choice, write-choice, when-told}
 use Rattle.turns.specs.InLogs.{inLogs}
-use Rattle.turns.proofs.Lengths.{Admitted, refused-by}
+use Rattle.turns.proofs.Lengths.{Admitted, refused-by, refused-under-by}
 use Rattle.turns.proofs.Guards.{guarded}
 use Rattle.turns.proofs.InLogs.{kept-in}
 use Rattle.turns.proofs.Logs.{log-long}
-use Rattle.turns.proofs.Whole.{planIn, can-change, takes}
+use Rattle.turns.proofs.Whole.{planUnder, planIn, can-change, takes-under, takes}
 
 -- ---- the part of a change that a call's turn can be
 
@@ -79,9 +79,9 @@ module _ (n : ℕ) (log : List ℕ) (x : Session) (vs : List ℕ) where
   unfolding turnOf dropOf
   hold-drops-none l c = chosen l c (λ k. Mark k (entryAt log k .current)) (EnterMark c) _ _ (λ k. refl) refl (hold-choice n log x l c)
 
-  pub write-drops-none : (l : Lock) (c v : ℕ) (ks : List ℕ) → dropOf (changeOf (writePlan ks n log x l c v)) ≡ Keep
+  pub write-drops-none : (l : Lock) (c v : ℕ) (T ks : List ℕ) → dropOf (changeOf (writePlan T ks n log x l c v)) ≡ Keep
   unfolding turnOf dropOf
-  write-drops-none l c v ks = chosen l c (λ k. Update k v) (EnterUpdate c v) _ _ (λ k. refl) refl (write-choice n log x l c ks v)
+  write-drops-none l c v T ks = chosen l c (λ k. Update k v) (EnterUpdate c v) _ _ (λ k. refl) refl (write-choice n log x l c T ks v)
 
   pub advance-drops-none : (l : Lock) (s : ℕ) (d : Due) → dropOf (changeOf (duePlan s log x l d)) ≡ Keep
   unfolding turnOf dropOf duePlan advanceOn promotePlan
@@ -131,16 +131,16 @@ module _ (n : ℕ) (log : List ℕ) (x : Session) (c : ℕ) (L : Locks) (l : Loc
       at-lock (hold-choice n log x l c) (hold-choice n log x (lockAt L c) c) (λ a. tt) (λ j. tt) (λ h. f .marks c (e ∙ h))
       (λ h. ap (λ (k : Lock). holdPlan n log x k c) h)
 
-  pub write-planned : (ks : List ℕ) (v : ℕ) (p : Plan) → p ≡ writePlan ks n log x free c v → LockFor p L l
-      → writePlan ks n log x l c v ≡ writePlan ks n log x (lockAt L c) c v
-  write-planned ks v p e f =
-      at-lock (write-choice n log x l c ks v) (write-choice n log x (lockAt L c) c ks v) (λ a. tt) (λ j. tt) (λ h. f .updates c v (e ∙ h))
-      (λ h. ap (λ (k : Lock). writePlan ks n log x k c v) h)
+  pub write-planned : (T ks : List ℕ) (v : ℕ) (p : Plan) → p ≡ writePlan T ks n log x free c v → LockFor p L l
+      → writePlan T ks n log x l c v ≡ writePlan T ks n log x (lockAt L c) c v
+  write-planned T ks v p e f =
+      at-lock (write-choice n log x l c T ks v) (write-choice n log x (lockAt L c) c T ks v) (λ a. tt) (λ j. tt) (λ h. f .updates c v (e ∙ h))
+      (λ h. ap (λ (k : Lock). writePlan T ks n log x k c v) h)
 
 -- and so is what an advance decides at the entry that is due
 pub advance-planned : (n s : ℕ) (ks log : List ℕ) (x : Session) (L : Locks) (l : Lock) (d : Due) (c : ℕ) → d ≡ dueOn n log x → c ≡ dueCell log d → l ≡ lockAt L c
-    → duePlan s log x l d ≡ plan (Advance s) n ks log x (lockAt L)
-advance-planned n s ks log x L l d c e f g = rw (g, f, e) (advance-agree n s ks log x (lockAt L))
+    → duePlan s log x l d ≡ plan (Advance s) n ks ours log x (lockAt L)
+advance-planned n s ks log x L l d c e f g = rw (g, f, e) (advance-agree n s ks ours log x (lockAt L))
 
 -- ---- what the functions below ask, past 7 and 1
 
@@ -154,20 +154,32 @@ log-fits B s z W w = (log-long (B .logs) s (z .lengths .logs) (z .low) W w, z .l
 
 -- ---- the call k: q is what it decided, t its turn, which left the values vs and the logs Ws
 
+-- under the limits G
+module _ (G : Limits) (k : Call) (B : Buffers) (x : Session) (s : ℕ) (i : s ≡ sessionOf k) (z : Admitted B s) (q : Plan) (e : q ≡ planUnder G k B (logIn (B .logs) s) x) (t : Turn)
+    (vs Ws : List ℕ) (h : leaves (t .answer) vs Ws (t .session) (t .change) ≡ inLogs s (B .logs) (turnOf q (B .values) (logIn (B .logs) s) x)) (W : List ℕ) (w : W ≡ logIn Ws s) where
+  -- W is the session's log afterwards: what carrying the change out asks
+  pub can-carry-under : (s < 16) × ChangeFits (t .change) s W (x .count) (length (B .locks .readers))
+      × (length (B .locks .claimants) ≡ length (B .locks .readers)) × (length (B .locks .exclusives) ≡ length (B .locks .readers))
+  can-carry-under =
+      (z .low, rw (z .lengths .readers) (can-change G k B x s i z q e (t .answer) vs Ws (t .session) (t .change) h W w), even B s z .0, even B s z .1)
+
+  -- and once it is carried out the call is the model's
+  pub replies-under : tableFits k G ≡ true → (N : Locks) → N ≡ changed (t .change) W (x .count) s (B .locks) → (r : SessionReply) → r ≡ record { answer = t .answer; session = t .session }
+      → TakesUnder G k B x (r .answer) (record { values = vs; classes = B .classes; locks = N; logs = Ws }) (r .session)
+  replies-under f N n r g = rw g (takes-under G k B x s i z q e (t .answer) vs Ws (t .session) (t .change) h W w f N n)
+
+-- of a call that is handed no table
 module _ (k : Call) (B : Buffers) (x : Session) (s : ℕ) (i : s ≡ sessionOf k) (z : Admitted B s) (q : Plan) (e : q ≡ planIn k B (logIn (B .logs) s) x) (t : Turn)
     (vs Ws : List ℕ) (h : leaves (t .answer) vs Ws (t .session) (t .change) ≡ inLogs s (B .logs) (turnOf q (B .values) (logIn (B .logs) s) x)) where
   -- its change is the plan's
   pub change-is : t .change ≡ turnOf q (B .values) (logIn (B .logs) s) x .change
   change-is = ap (λ (f : TurnEffect). f .change) h
 
-  -- W is the session's log afterwards: what carrying the change out asks
   module _ (W : List ℕ) (w : W ≡ logIn Ws s) where
     pub can-carry : (s < 16) × ChangeFits (t .change) s W (x .count) (length (B .locks .readers))
         × (length (B .locks .claimants) ≡ length (B .locks .readers)) × (length (B .locks .exclusives) ≡ length (B .locks .readers))
-    can-carry =
-        (z .low, rw (z .lengths .readers) (can-change k B x s i z q e (t .answer) vs Ws (t .session) (t .change) h W w), even B s z .0, even B s z .1)
+    can-carry = can-carry-under ours k B x s i z q e t vs Ws h W w
 
-    -- and once it is carried out the call is the model's
     pub replies : (N : Locks) → N ≡ changed (t .change) W (x .count) s (B .locks) → (r : SessionReply) → r ≡ record { answer = t .answer; session = t .session }
         → TakesRecord k B x (r .answer) (record { values = vs; classes = B .classes; locks = N; logs = Ws }) (r .session)
     replies N n r f = rw f (takes k B x s i z q e (t .answer) vs Ws (t .session) (t .change) h W w N n)
@@ -199,3 +211,8 @@ module _ (B : Buffers) (s : ℕ) (b : Bool)
       → n ≡ admission (lengthsMatch (length (B .values)) (length (B .classes)) (length (B .locks .readers)) (length (B .locks .claimants)) (length (B .locks .exclusives)) (length (B .logs))) s
       → (k : Call) → s ≡ sessionOf k → (x : Session) (r : SessionReply) → r ≡ record { answer = say.Refused n; session = x } → TakesRecord k B x (r .answer) B (r .session)
   turned-down h n o k i x r f = rw f (refused-by B s b e h n o k i x)
+
+  pub turned-down-under : (G : Limits) → b ≡ false → (n : ℕ)
+      → n ≡ admission (lengthsMatch (length (B .values)) (length (B .classes)) (length (B .locks .readers)) (length (B .locks .claimants)) (length (B .locks .exclusives)) (length (B .logs))) s
+      → (k : Call) → tableFits k G ≡ true → s ≡ sessionOf k → (x : Session) (r : SessionReply) → r ≡ record { answer = say.Refused n; session = x } → TakesUnder G k B x (r .answer) B (r .session)
+  turned-down-under G h n o k t i x r f = rw f (refused-under-by B s b e h n o k i G t x)

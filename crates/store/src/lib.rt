@@ -1,11 +1,11 @@
-// The store: set-up and the calls, on number slices that the caller lends (document 01, "The steps").
+// The store: set-up, the calls and a load of caps, on number slices that the caller lends (document 01, "The steps").
 // A call takes the record of its session and hands it back with its answer. It is admitted (7 and 1), looks up the lock that it needs, takes its turn
 // (crates calls and turns) and carries out what becomes of the locks.
 ghost use mathlib.Core.Path.{_≡_};
 ghost use lib.ListN.{length, replicate};
 ghost use Rattle.model.specs.declared.Answer.the-variants.{Refused};
 ghost use Rattle.model.specs.declared.Call.the-variants.{Begin, Read, Write, Seal, Advance, Abandon, Peek, Hold};
-ghost use Rattle.store.specs.Lent.{TakesOne, SetsUp, PeekPlans, HandsBack};
+ghost use Rattle.store.specs.Lent.{TakesOne, TakesOneBy, SetsUp, SetsUpBy, Loads, PeekPlans, HandsBack};
 use model::Answer;
 use model::Plan;
 use model::Reply;
@@ -78,6 +78,91 @@ pub fn set_up(
         answer: Answer::Done,
         sessions: idle,
     }
+}
+
+// The same by a table. 100, 7, 16 or 8.
+pub fn set_up_with_caps(
+    sessions: Sessions,
+    values: &[u32],
+    classes: &[u8],
+    readers: &mut [u16],
+    claimants: &mut [u8],
+    exclusives: &mut [u8],
+    logs: &mut [u32],
+    caps: &[u32],
+) -> Reply
+    ensures { λ r. ⌜ SetsUpBy caps values classes readers claimants exclusives logs sessions r ⌝ }
+{
+    if caps.len() != 16 {
+        return Reply {
+            answer: Answer::Refused(7),
+            sessions,
+        };
+    }
+    if !calls::lengths_fit(
+        values.len(),
+        classes.len(),
+        readers.len(),
+        claimants.len(),
+        exclusives.len(),
+        logs.len(),
+    ) {
+        return Reply {
+            answer: Answer::Refused(7),
+            sessions,
+        };
+    }
+    if !calls::caps_pass(caps) {
+        return Reply {
+            answer: Answer::Refused(16),
+            sessions,
+        };
+    }
+    if !calls::all_fit_by(caps, values, classes) {
+        return Reply {
+            answer: Answer::Refused(8),
+            sessions,
+        };
+    }
+    clear_sets(readers);
+    fill_bytes(claimants, 16);
+    fill_bytes(exclusives, 0);
+    log::clear_words(logs);
+    let idle = model::all_idle();
+    Reply {
+        answer: Answer::Done,
+        sessions: idle,
+    }
+}
+
+// ---- a table of caps
+
+// Load: while every session is idle the table is put in the place of the one in force. 100, 7, 2, 16, 8 or 17.
+pub fn load_caps(
+    sessions: Sessions,
+    values: &[u32],
+    classes: &[u8],
+    readers: &[u16],
+    claimants: &[u8],
+    exclusives: &[u8],
+    logs: &[u32],
+    caps: &mut [u32],
+    table: &[u32],
+) -> Reply
+    ensures { λ r. ⌜ Loads caps table values classes readers claimants exclusives logs sessions r ⌝ }
+{
+    let answer = turns::load_caps(
+        sessions,
+        values,
+        classes,
+        readers.len(),
+        claimants.len(),
+        exclusives.len(),
+        logs.len(),
+        caps,
+        table,
+    );
+    Reply { answer, sessions }
 }
 
 // ---- the calls
@@ -233,7 +318,59 @@ pub fn write(
     }
     let p = calls::write_plan(log::of_session(&logs[..], session), classes, x, cell, value);
     let l = locks::lock_for(&readers[..], &claimants[..], &exclusives[..], p);
-    let t = turns::write(values, classes, logs, x, l, session, cell, value, p);
+    let t = turns::write(values, logs, x, l, session, cell, value, p);
+    let change = t.change;
+    let count = x.count as usize;
+    locks::carry_out(
+        change,
+        log::of_session(&logs[..], session),
+        count,
+        readers,
+        claimants,
+        exclusives,
+        session,
+    );
+    replied(t)
+}
+
+// The same by a table, which need not pass.
+pub fn write_with_caps(
+    x: Session,
+    values: &[u32],
+    classes: &[u8],
+    readers: &mut [u16],
+    claimants: &mut [u8],
+    exclusives: &mut [u8],
+    logs: &mut [u32],
+    caps: &[u32],
+    session: u8,
+    cell: u32,
+    value: u32,
+) -> SessionReply
+    ensures { λ r. ⌜ TakesOneBy caps (Write session cell value) values classes readers claimants exclusives logs x r ⌝ }
+{
+    let n = values.len();
+    let k = classes.len();
+    let r = readers.len();
+    let c = claimants.len();
+    let m = exclusives.len();
+    let w = logs.len();
+    if caps.len() != 16 {
+        return refused(7, x);
+    }
+    if !calls::admits(n, k, r, c, m, w, session) {
+        return refused(calls::admit(n, k, r, c, m, w, session), x);
+    }
+    let p = calls::write_plan_by(
+        caps,
+        log::of_session(&logs[..], session),
+        classes,
+        x,
+        cell,
+        value,
+    );
+    let l = locks::lock_for(&readers[..], &claimants[..], &exclusives[..], p);
+    let t = turns::write(values, logs, x, l, session, cell, value, p);
     let change = t.change;
     let count = x.count as usize;
     locks::carry_out(

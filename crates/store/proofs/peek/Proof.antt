@@ -20,7 +20,7 @@ part-result-end : tie.Need-part-result-end
 part-result-end c = peek-inside _ _ _ _ (plan-alone (lent (c .before .before .before .before .before .before .before .before .before)) _ _ _ _ (c .before .before .peek-plan .ensures)) _ tt (c .enum-told .given .1)
 
 returns : tie.Need-returns
-returns c = λ ss o. hands-store _ _ _ _ (c .before .before .before .peek-plan .ensures ss o) _ _ refl _ (c .before .enum-told .given .1) _
+returns c = λ G ss o. hands-store _ _ _ _ (c .before .before .before .peek-plan .ensures G ss o) _ _ refl _ (c .before .enum-told .given .1) _
 
 enum-known-p : tie.Need-enum-known-p
 enum-known-p c = c .match2 .keys1
@@ -29,10 +29,10 @@ part-result-end-2 : tie.Need-part-result-end-2
 part-result-end-2 c = peek-logged _ _ _ _ (plan-alone (lent (c .before .before .before .before .before .before .before .before .before .before .before)) _ _ _ _ (c .before .before .before .before .peek-plan .ensures)) _ (c .before .p .given .1)
 
 returns-2 : tie.Need-returns-2
-returns-2 c = λ ss o. hands-log _ _ _ _ (c .before .before .before .before .before .peek-plan .ensures ss o) _ _ refl _ (c .before .before .p .given .1) _
+returns-2 c = λ G ss o. hands-log _ _ _ _ (c .before .before .before .before .before .peek-plan .ensures G ss o) _ _ refl _ (c .before .before .p .given .1) _
 
 returns-3 : tie.Need-returns-3
-returns-3 c = λ ss o. hands-nothing _ _ _ _ (c .before .before .before .peek-plan .ensures ss o) _ _ (c .before .before .match .keys2) (c .before .match2 .keys2) _ refl
+returns-3 c = λ G ss o. hands-nothing _ _ _ _ (c .before .before .before .peek-plan .ensures G ss o) _ _ (c .before .before .match .keys2) (c .before .match2 .keys2) _ refl
 
 pub peek-spec : {M : Type 1} → statement M
 peek-spec =

@@ -20,7 +20,7 @@ fits : (c : tie.Else1) → Admitted (lent (c .before .before .before .before .be
 fits c = admitted-by (lent (c .before .before .before .before .before .before .before .before)) _ _ (c .before .admits .ensures) (not-false _ (c .if1 .left))
 
 returns : tie.Need-returns
-returns c = λ ss o. plan-refused-by (lent (c .before .before .before .before .before .before .before .before .before)) _ _ (c .before .before .admits .ensures) (not-true _ (c .before .if1 .taken)) _ (c .admit .ensures) (Peek _ _) refl (record { lent = lent (c .before .before .before .before .before .before .before .before .before); sessions = ss }) refl
+returns c = λ G ss o. plan-refused-by (lent (c .before .before .before .before .before .before .before .before .before)) _ _ (c .before .before .admits .ensures) (not-true _ (c .before .if1 .taken)) _ (c .admit .ensures) (Peek _ _) refl (record { lent = lent (c .before .before .before .before .before .before .before .before .before); limits = G; sessions = ss }) refl refl
 
 of-session-requires : tie.Need-of-session-requires
 of-session-requires c κs = (fits (c) .low, fits (c) .lengths .logs)
@@ -30,7 +30,7 @@ peek-plan-requires c κs = log-fits _ _ (fits (c .before)) _ (c .of-session .ens
 
 returns-2 : tie.Need-returns-2
 unfolding plan
-returns-2 c = λ ss o. (rw (c .before .of-session .ensures) at (c .peek-plan .ensures)) ∙ is-plan (Peek _ _) (lent (c .before .before .before .before .before .before .before .before .before .before)) _ _ refl (fits (c .before .before)) ss o
+returns-2 c = λ G ss o. (rw (c .before .of-session .ensures) at (c .peek-plan .ensures)) ∙ is-plan G (Peek _ _) (lent (c .before .before .before .before .before .before .before .before .before .before)) _ _ refl (fits (c .before .before)) refl ss o
 
 pub peek-plan-spec : {M : Type 1} → statement M
 peek-plan-spec =
