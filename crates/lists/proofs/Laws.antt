@@ -2,9 +2,9 @@
 use mathlib.Core.Path.{_≡_, sym}
 use mathlib.Core.List.{List}
 use Prim.Native.Nat.{ℕ, _%_}
-use Rattle.model.specs.Buffers.{Locks, Buffers, sessionAt, withSession, lockAt}
+use Rattle.model.specs.Buffers.{Locks, Buffers, Limits, ours, sessionAt, withSession, lockAt}
 use Rattle.model.specs.Plans.{plan}
-use Rattle.model.specs.Step.{outcome, effect, sessionOf, TakesRecord}
+use Rattle.model.specs.Step.{outcome, effect, sessionOf, GoesBy, TakesRecord}
 use Rattle.model.specs.declared.Session.{Session}
 use Rattle.model.specs.declared.Lock.{Lock}
 use Rattle.model.specs.declared.Sessions.{Sessions}
@@ -16,11 +16,11 @@ use Rattle.turns.proofs.AnyCall.{one-lock}
 
 -- with the lock of the cell that it may need
 pub any-planned : (k : Call) (n : ℕ) (ks log W : List ℕ) (x : Session) (L : Locks) (l : Lock) (c : ℕ) → W ≡ log → c ≡ cellFor k n W x → l ≡ lockAt L c
-    → planWith k n ks log x l ≡ plan k n ks log x (lockAt L)
+    → planWith k n ks log x l ≡ plan k n ks ours log x (lockAt L)
 any-planned k n ks log W x L l c w f g = rw (g, f, w) (one-lock k n ks log x (lockAt L))
 
 -- x is the session's, and the reply has the record handed back in its place
 pub of-sixteen : (k : Call) (B C : Buffers) (ss : Sessions) (s : ℕ) → s ≡ sessionOf k → (x : Session) → x ≡ sessionAt ss (s % 16) → (t : Turn) → TakesRecord k B x (t .answer) C (t .session)
     → (r : Reply) → r ≡ record { answer = t .answer; sessions = withSession ss (s % 16) (t .session) }
-    → outcome (r .answer) (record { lent = C; sessions = r .sessions }) ≡ effect k (record { lent = B; sessions = ss })
-of-sixteen k B C ss s i x o t h r f = rw (f, i) (h ss (sym (rw i at o)))
+    → (G : Limits) → GoesBy k G → outcome (r .answer) (record { lent = C; limits = G; sessions = r .sessions }) ≡ effect k (record { lent = B; limits = G; sessions = ss })
+of-sixteen k B C ss s i x o t h r f G g = rw (f, i) (h G g ss (sym (rw i at o)))

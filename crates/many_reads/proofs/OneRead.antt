@@ -8,7 +8,7 @@ use borrow.Author.Tests.{lt-ltb, le-leb, ltb-true}
 use lib.Dec.{ltb, eqb}
 use lib.ListN.{length, getD, set}
 use lib.Seq.{getD-set-same, set-set}
-use Rattle.model.specs.Buffers.{Locks, Buffers, Store, size, idle, sessionAt, withSession, logIn, onLog, slotIn, appended, lockAt, onLock, join, lengthsFit}
+use Rattle.model.specs.Buffers.{Limits, Locks, Buffers, Store, size, idle, sessionAt, withSession, logIn, onLog, slotIn, appended, lockAt, onLock, join, lengthsFit}
 use Rattle.model.specs.Effects.{number, valueOf, answer, after, rolledBack}
 use Rattle.model.specs.Plans.{recordFits, entriesFit, guard, known, claimed, newCell, readSlot, readPlan, plan}
 use Rattle.model.specs.Readers.{withReader}
@@ -31,8 +31,8 @@ use Rattle.locks.proofs.Sweeps.{lock-here}
 use Rattle.turns.proofs.Lengths.{Admitted}
 use Rattle.many_reads.specs.Cells.{Fits, CellRead, cellRead, newRead, slotRead, readCell}
 
--- the lent buffers B, which fit, and sixteen records; the running session s has this next cell
-module _ (B : Buffers) (s : ℕ) (z : Admitted B s) (ss : Sessions) (next : ℕ) (here : s < length (ss .records)) where
+-- the lent buffers B, which fit, any limits, and sixteen records; the running session s has this next cell
+module _ (B : Buffers) (s : ℕ) (z : Admitted B s) (G : Limits) (ss : Sessions) (next : ℕ) (here : s < length (ss .records)) where
   abbrev pub ran : ℕ → Session
   ran k = record { phase = 1; count = k; next = next }
 
@@ -44,11 +44,11 @@ module _ (B : Buffers) (s : ℕ) (z : Admitted B s) (ss : Sessions) (next : ℕ)
   locksWith R = locksOf R (B .locks .claimants) (B .locks .exclusives)
 
   abbrev pub storeWith : List ℕ → List ℕ → ℕ → Store
-  storeWith R W k = record { lent = lentWith (locksWith R) W; sessions = withSession ss s (ran k) }
+  storeWith R W k = record { lent = lentWith (locksWith R) W; limits = G; sessions = withSession ss s (ran k) }
 
   -- and rolled back from there
   abbrev pub rolledWith : List ℕ → List ℕ → ℕ → Store
-  rolledWith R W k = record { lent = lentWith (rolledBack W k s (locksWith R)) W; sessions = withSession ss s idle }
+  rolledWith R W k = record { lent = lentWith (rolledBack W k s (locksWith R)) W; limits = G; sessions = withSession ss s idle }
 
   module _ (R W : List ℕ) (k : ℕ) (f : Fits s (length (B .values)) (length R) (length (B .locks .claimants)) W k) where
     abbrev σ : Store
@@ -107,7 +107,7 @@ module _ (B : Buffers) (s : ℕ) (z : Admitted B s) (ss : Sessions) (next : ℕ)
     joined c = sym (joins (Join c) s R (B .locks .claimants) (B .locks .exclusives) c refl (withReader s (getD R c 0)) refl)
 
     entered : (c v : ℕ) → onLog s (λ log. appended log k c v) (onLog s (λ log. W) (B .logs)) ≡ onLog s (λ log. appended W k c v) (B .logs)
-    entered c v = sym (over s (record { lent = B; sessions = ss }) (z .low) (z .lengths .logs) (λ log. W) (λ log. appended log k c v) (f .words))
+    entered c v = sym (over s (record { lent = B; limits = G; sessions = ss }) (z .low) (z .lengths .logs) (λ log. W) (λ log. appended log k c v) (f .words))
 
     enters : (c : ℕ) → decides c ≡ Enter c
         → ReadIs c (cellRead 101 (getD (B .values) c 0) (set R c (withReader s (getD R c 0))) (appended W k c (getD (B .values) c 0)) (suc k))

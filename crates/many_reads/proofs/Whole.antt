@@ -8,7 +8,7 @@ use borrow.Author.Tests.{eq-eqb, ne-eqb, eqb-true, ltb-true, ltb-false, leb-true
 use lib.Dec.{leb, ltb, eqb}
 use lib.ListN.{length, drop, List·getD-eq-default}
 use lib.Seq.{sets-eq}
-use Rattle.model.specs.Buffers.{Locks, Buffers, Store, idle, withEntries, sessionAt, withSession, logIn, onLog, lengthsMatch}
+use Rattle.model.specs.Buffers.{Limits, Locks, Buffers, Store, idle, withEntries, sessionAt, withSession, logIn, onLog, lengthsMatch}
 use Rattle.model.specs.Effects.{number, answer, after, rolledBack}
 use Rattle.model.specs.ManyReads.{reads, listRefusal, readMany, readManyEffect, TakesReads}
 use Rattle.model.specs.Plans.{recordFits, readPlan, plan}
@@ -41,7 +41,7 @@ module _ (s : ℕ) (cs T : List ℕ) where
   pub refused-list : (B : Buffers) (x : Session) (n : ℕ) → n ≡ listRefusal (length cs) (length T) → (n ≡ 0 → ⊥)
       → (r : ReadManyReply) → r ≡ record { number = n; count = 0; session = x } → TakesReads s cs B x T r B T
   unfolding readManyEffect readMany
-  refused-list B x n e h r i ss o = rw (← e, ne-eqb n 0 h, i, ← o, same-record ss (s % 16)) refl
+  refused-list B x n e h r i G ss o = rw (← e, ne-eqb n 0 h, i, ← o, same-record ss (s % 16)) refl
 
   -- they do
   pub record ListFits : Type 0 where
@@ -70,12 +70,12 @@ module _ (s : ℕ) (cs T : List ℕ) where
 
 module _ (B : Buffers) (s : ℕ) (x : Session) (T : List ℕ) (n : ℕ) (big : eqb n 101 ≡ false) (r : ReadManyReply) (i : r ≡ record { number = n; count = 0; session = x }) where
   first-refused : (c : ℕ) (cs : List ℕ) → ListFits s (c ∷ cs) T
-      → ((ss : Sessions) → sessionAt ss (s % 16) ≡ x → planOf (Read s c) (record { lent = B; sessions = ss }) ≡ Refuse n) → TakesReads s (c ∷ cs) B x T r B T
+      → ((G : Limits) (ss : Sessions) → sessionAt ss (s % 16) ≡ x → planOf (Read s c) (record { lent = B; limits = G; sessions = ss }) ≡ Refuse n) → TakesReads s (c ∷ cs) B x T r B T
   unfolding readManyEffect reads step answerOf answer after
-  first-refused c cs f p ss o = rw (f .reads (record { lent = B; sessions = ss }), p ss o, big, i, ← o, same-record ss (s % 16)) refl
+  first-refused c cs f p G ss o = rw (f .reads (record { lent = B; limits = G; sessions = ss }), p G ss o, big, i, ← o, same-record ss (s % 16)) refl
 
   some-refused : (cs : List ℕ) → ListFits s cs T
-      → ((c : ℕ) (ss : Sessions) → sessionAt ss (s % 16) ≡ x → planOf (Read s c) (record { lent = B; sessions = ss }) ≡ Refuse n) → TakesReads s cs B x T r B T
+      → ((c : ℕ) (G : Limits) (ss : Sessions) → sessionAt ss (s % 16) ≡ x → planOf (Read s c) (record { lent = B; limits = G; sessions = ss }) ≡ Refuse n) → TakesReads s cs B x T r B T
   some-refused [] f p = absurd (let w = f .some in omega arith)
   some-refused (c ∷ cs) f p = first-refused c cs f (p c)
 
@@ -91,7 +91,7 @@ module _ (B : Buffers) (s : ℕ) (b : Bool)
       → n ≡ admission (lengthsMatch (length (B .values)) (length (B .classes)) (length (B .locks .readers)) (length (B .locks .claimants)) (length (B .locks .exclusives)) (length (B .logs))) s
       → (x : Session) (cs T : List ℕ) → ListFits s cs T → (r : ReadManyReply) → r ≡ record { number = n; count = 0; session = x } → TakesReads s cs B x T r B T
   not-admitted h n o x cs T f r i =
-      some-refused B s x T n (rw o (admission-small _)) r i cs f (λ c ss _. sym (plan-refused-by B s b e h n o (Read s c) refl (record { lent = B; sessions = ss }) refl))
+      some-refused B s x T n (rw o (admission-small _)) r i cs f (λ c G ss _. sym (plan-refused-by B s b e h n o (Read s c) refl (record { lent = B; limits = G; sessions = ss }) refl refl))
 
 -- 9 and 2: b is whether the tests pass
 module _ (B : Buffers) (s : ℕ) (z : Admitted B s) (x : Session) (b : Bool)
@@ -113,7 +113,7 @@ module _ (B : Buffers) (s : ℕ) (z : Admitted B s) (x : Session) (b : Bool)
   unfolding plan readPlan
   not-running h r o cs T f q i =
       some-refused B s x T r (rw o (tests-small _ _)) q i cs f
-      (λ c ss m. sym (is-plan (Read s c) B x s refl z ss m) ∙ sym (run-refused n log x b e h r o _))
+      (λ c G ss m. sym (is-plan G (Read s c) B x s refl z refl ss m) ∙ sym (run-refused n log x b e h r o _))
 
   -- ---- past the tests
 
@@ -142,9 +142,9 @@ module _ (B : Buffers) (s : ℕ) (z : Admitted B s) (x : Session) (b : Bool)
       o = readCells (B .values) (B .locks .claimants) s 0 cs T (B .locks .readers) (logIn (B .logs) s) (x .count)
 
       -- of sixteen records of which x is the session's
-      module _ (ss : Sessions) (m : sessionAt ss (s % 16) ≡ x) where
+      module _ (G : Limits) (ss : Sessions) (m : sessionAt ss (s % 16) ≡ x) where
         abbrev given : Store
-        given = record { lent = B; sessions = ss }
+        given = record { lent = B; limits = G; sessions = ss }
 
         own : s % 16 ≡ s
         own = let w = z .low in omega arith
@@ -161,19 +161,19 @@ module _ (B : Buffers) (s : ℕ) (z : Admitted B s) (x : Session) (b : Bool)
             let past : sessionAt ss s ≡ idle = List·getD-eq-default (ss .records) idle {n = s} (ltb-false s _ a) in
             absurd (let w : 0 ≡ 1 = sym (ap (λ (y : Session). y .phase) past) ∙ ap (λ (y : Session). y .phase) mine ∙ running in omega arith))
 
-        start : storeWith B s z ss (x .next) here (B .locks .readers) (logIn (B .logs) s) (x .count) ≡ given
+        start : storeWith B s z G ss (x .next) here (B .locks .readers) (logIn (B .logs) s) (x .count) ≡ given
         start =
             let y : x ≡ record { phase = 1; count = x .count; next = x .next } = ap (λ (p : ℕ). record { phase = p; count = x .count; next = x .next }) running in
             rw (same-log s (B .logs), ← y, ← mine, same-record ss s) refl
 
-        same : Same B s z ss (x .next) here 0 cs T (reads s Done cs given) o
+        same : Same B s z G ss (x .next) here 0 cs T (reads s Done cs given) o
         same =
-            subst (λ (σ : Store). Same B s z ss (x .next) here 0 cs T (reads s Done cs σ) o) start
-            (same-reads B s z ss (x .next) here cs Done 0 T (B .locks .readers) (logIn (B .logs) s) (x .count) fits
+            subst (λ (σ : Store). Same B s z G ss (x .next) here 0 cs T (reads s Done cs σ) o) start
+            (same-reads B s z G ss (x .next) here cs Done 0 T (B .locks .readers) (logIn (B .logs) s) (x .count) fits
             (λ c. absurd (let w = l .some in let v : length cs ≡ 0 = ap length c in omega arith)))
 
-        effect-is : (C : Buffers) (y : Session) → record { lent = C; sessions = withSession ss (s % 16) y } ≡ leftBy B s z ss (x .next) here o
-            → record { number = o .number; count = o .count; target = o .target; store = record { lent = C; sessions = withSession ss (s % 16) y } }
+        effect-is : (C : Buffers) (y : Session) → record { lent = C; limits = G; sessions = withSession ss (s % 16) y } ≡ leftBy B s z G ss (x .next) here o
+            → record { number = o .number; count = o .count; target = o .target; store = record { lent = C; limits = G; sessions = withSession ss (s % 16) y } }
             ≡ readManyEffect s cs T given
         unfolding readManyEffect
         effect-is C y v =
@@ -190,16 +190,17 @@ module _ (B : Buffers) (s : ℕ) (z : Admitted B s) (x : Session) (b : Bool)
       pub goes-on : (o .number ≡ 6 → ⊥)
           → TakesReads s cs B x T (record { number = o .number; count = o .count; session = withEntries (o .entries) x })
           (left (locksOf (o .readers) (B .locks .claimants) (B .locks .exclusives))) (o .target)
-      goes-on n ss m =
-          effect-is ss m _ _ (rw (ne-eqb (o .number) 6 n, own ss m) (ap (λ (p : ℕ). record {
+      goes-on n G ss m =
+          effect-is G ss m _ _ (rw (ne-eqb (o .number) 6 n, own G ss m) (ap (λ (p : ℕ). record {
             lent = left (locksOf (o .readers) (B .locks .claimants) (B .locks .exclusives));
+            limits = G;
             sessions = withSession ss s (record { phase = p; count = o .entries; next = x .next });
           }) running))
 
       -- it is rolled back
       pub gives-up : o .number ≡ 6 → (L : Locks) → L ≡ rolledBack (o .log) (o .entries) s (locksOf (o .readers) (B .locks .claimants) (B .locks .exclusives))
           → TakesReads s cs B x T (record { number = o .number; count = o .count; session = idle }) (left L) (o .target)
-      gives-up n L e ss m = effect-is ss m _ _ (rw (eq-eqb (o .number) 6 n, own ss m, e) refl)
+      gives-up n L e G ss m = effect-is G ss m _ _ (rw (eq-eqb (o .number) 6 n, own G ss m, e) refl)
 
       -- ---- as the code has it: q is what it answered, and T′, R′ and Ws are the target, the reader sets and the logs afterwards
       module _ (q : CellsReply) (T′ R′ Ws : List ℕ) (t : cellsRead (q .number) (q .count) T′ R′ Ws (q .entries) ≡ cellsInLogs s (B .logs) o) where

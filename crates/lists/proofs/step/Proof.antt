@@ -2,6 +2,7 @@
 use mathlib.Core.Path.{refl, sym, _∙_}
 use borrow.Author.Tests.{not-true, not-false}
 use Rattle.model.specs.Buffers.{Buffers}
+use Rattle.model.proofs.Tables.{goes-fits}
 use Rattle.turns.proofs.Lengths.{Admitted, admitted-by, plan-refused-by, refuses}
 use Rattle.store.specs.Lent.{buffersOf}
 use Rattle.store.proofs.Forms.{even, log-fits, can-carry, replies}
@@ -18,7 +19,7 @@ fits : (c : tie.Else1) → Admitted (lent (c .before .before .before .before .be
 fits c = admitted-by (lent (c .before .before .before .before .before .before .before .before .before)) _ _ (c .before .admits .ensures) (not-false _ (c .if1 .left))
 
 returns : tie.Need-returns
-returns c = let a = c .before .before .before .before .before .before .before .before .before .before .args in refuses (a .call) (record { lent = lent (c .before .before .before .before .before .before .before .before .before .before); sessions = a .sessions }) _ (plan-refused-by (lent (c .before .before .before .before .before .before .before .before .before .before)) _ _ (c .before .before .admits .ensures) (not-true _ (c .before .if1 .taken)) _ (c .admit .ensures) (a .call) (c .before .before .before .session .ensures) (record { lent = lent (c .before .before .before .before .before .before .before .before .before .before); sessions = a .sessions }) refl)
+returns c = λ G g. let a = c .before .before .before .before .before .before .before .before .before .before .args in refuses (a .call) (record { lent = lent (c .before .before .before .before .before .before .before .before .before .before); limits = G; sessions = a .sessions }) _ (plan-refused-by (lent (c .before .before .before .before .before .before .before .before .before .before)) _ _ (c .before .before .admits .ensures) (not-true _ (c .before .if1 .taken)) _ (c .admit .ensures) (a .call) (c .before .before .before .session .ensures) (record { lent = lent (c .before .before .before .before .before .before .before .before .before .before); limits = G; sessions = a .sessions }) (goes-fits (a .call) G g) refl)
 
 of-session-requires : tie.Need-of-session-requires
 of-session-requires c κs = (fits (c .before .before) .low, fits (c .before .before) .lengths .logs)
