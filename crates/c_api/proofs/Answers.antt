@@ -8,7 +8,7 @@ use lib.Dec.{ltb, eqb}
 use lib.ListN.{replicate}
 use types.Run.{OneOf, miss}
 use denote.Enum.Declared.{tagOf}
-use Rattle.model.specs.Buffers.{Buffers, Store, idle, size, withSession, lockAt, lengthsFit, slotIn, targetIn}
+use Rattle.model.specs.Buffers.{Buffers, ours, Store, idle, size, withSession, lockAt, lengthsFit, slotIn, targetIn}
 use Rattle.model.specs.Effects.{number, valueOf, recordOf, logOf, answer, planEffect}
 use Rattle.model.specs.Plans.{require, admit, guard, known, claimed, newCell, readSlot, readPlan, holdSlot, holdPlan, sealTarget, sealPlan, plan}
 use Rattle.model.specs.Step.{Outcome, answerOf, planOf, effect, sessionOf, TakesRecord}
@@ -23,6 +23,7 @@ use Rattle.model.specs.declared.Session.{Session}
 use Rattle.model.specs.declared.SessionReply.{SessionReply}
 use Rattle.model.proofs.Answer as answers
 use Rattle.model.proofs.Laws.{session-same}
+use Rattle.model.proofs.Tables.{goes-by-ours}
 use Rattle.model.proofs.Tools.{split, which, clash}
 use Rattle.turns.proofs.Guards.{required, guarded}
 use Rattle.c_api.specs.declared.NumberReply.{NumberReply}
@@ -82,8 +83,8 @@ given : (P : Answer → Bool) (k : Call) (B C : Buffers) (x y : Session) (a : An
 unfolding effect
 given P k B C x y a h t =
     let ss = withSession (record { records = replicate 16 idle }) (sessionOf k % 16) x in
-    let e = t ss (session-same (record { records = replicate 16 idle }) (sessionOf k % 16) x refl (omega arith)) in
-    ap (λ (o : Outcome). P (o .answer)) e ∙ h (record { lent = B; sessions = ss })
+    let e = t ours (goes-by-ours k) ss (session-same (record { records = replicate 16 idle }) (sessionOf k % 16) x refl (omega arith)) in
+    ap (λ (o : Outcome). P (o .answer)) e ∙ h (record { lent = B; limits = ours; sessions = ss })
 
 module _ (s : ℕ) (B C : Buffers) (x y : Session) (a : Answer) where
   pub begin-gives : TakesRecord (Begin s) B x a C y → ofBegin a ≡ true

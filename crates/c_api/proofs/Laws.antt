@@ -1,9 +1,9 @@
 -- A call's outcome in numbers, from its answer taken apart: the one law behind every exported call; and where a peek's word is, by its plan.
 use Prim.Native.Nat.{ℕ, _+_, _*_, _%_}
 use mathlib.Core.Path.{_≡_, sym, ap, _∙_}
-use Rattle.model.specs.Buffers.{Buffers, Store, sessionAt, withSession}
+use Rattle.model.specs.Buffers.{Buffers, Limits, Store, sessionAt, withSession}
 use Rattle.model.specs.Effects.{number, valueOf, shown}
-use Rattle.model.specs.Step.{Outcome, outcome, effect, sessionOf, TakesRecord}
+use Rattle.model.specs.Step.{Outcome, outcome, effect, sessionOf, TakesUnder, GoesBy, TakesRecord}
 use Rattle.model.specs.declared.Answer.{Answer}
 use Rattle.model.specs.declared.Session.{Session}
 use Rattle.model.specs.declared.Sessions.{Sessions}
@@ -17,12 +17,18 @@ use Rattle.c_api.specs.InNumbers.{numbersOf, replied, inNumbers, at, pla
 pub in-numbers : (a : Answer) (σ : Store) (o : Outcome) (n v : ℕ) → outcome a σ ≡ o → n ≡ number a → v ≡ valueOf a → replied n v σ ≡ inNumbers o
 in-numbers a σ o n v e p q = rw (p, q) (ap inNumbers e)
 
--- a call on one record: what the store's function replied, in numbers
-pub told : (k : Call) (B C : Buffers) (x : Session) (r : SessionReply) (n : NumberReply) → n ≡ numbersOf r → TakesRecord k B x (r .answer) C (r .session)
+-- a call on one record: what the store's function replied, in numbers; under the limits G, and handed no table
+pub told-under : (G : Limits) (k : Call) (B C : Buffers) (x : Session) (r : SessionReply) (n : NumberReply) → n ≡ numbersOf r → TakesUnder G k B x (r .answer) C (r .session)
     → (ss : Sessions) → sessionAt ss (sessionOf k % 16) ≡ x
-    → replied (n .number) (n .value) (record { lent = C; sessions = withSession ss (sessionOf k % 16) (n .session) })
-    ≡ inNumbers (effect k (record { lent = B; sessions = ss }))
-told k B C x r n e t ss o = rw e (ap inNumbers (t ss o))
+    → replied (n .number) (n .value) (record { lent = C; limits = G; sessions = withSession ss (sessionOf k % 16) (n .session) })
+    ≡ inNumbers (effect k (record { lent = B; limits = G; sessions = ss }))
+told-under G k B C x r n e t ss o = rw e (ap inNumbers (t ss o))
+
+pub told : (k : Call) (B C : Buffers) (x : Session) (r : SessionReply) (n : NumberReply) → n ≡ numbersOf r → TakesRecord k B x (r .answer) C (r .session)
+    → (G : Limits) → GoesBy k G → (ss : Sessions) → sessionAt ss (sessionOf k % 16) ≡ x
+    → replied (n .number) (n .value) (record { lent = C; limits = G; sessions = withSession ss (sessionOf k % 16) (n .session) })
+    ≡ inNumbers (effect k (record { lent = B; limits = G; sessions = ss }))
+told k B C x r n e t G g = told-under G k B C x r n e (t G g)
 
 -- ---- the three plans of a peek
 

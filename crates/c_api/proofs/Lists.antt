@@ -5,7 +5,8 @@ use mathlib.Core.Path.{_≡_, refl, sym, ap}
 use mathlib.Core.List.{List, [], _∷_, map, reverse}
 use lib.ListN.{length, take}
 use Rattle.model.specs.Buffers.{Store}
-use Rattle.model.specs.History.{Action, Event, event, withFound, readsEvent}
+use Rattle.model.specs.History.{Action, Event, event, withFound, readsEvent, loadEvent}
+use Rattle.model.specs.Load.{loadEffect}
 use Rattle.model.specs.Isolation.{Ran}
 use Rattle.model.specs.ManyReads.{ReadsOutcome, readMany, readManyEffect}
 use Rattle.model.specs.Isolation as list
@@ -14,7 +15,7 @@ use Rattle.model.specs.Step.{Outcome, outcome, effect, setUpEffect}
 use Rattle.model.specs.Told.{foundBy}
 use Rattle.model.proofs.CommitOrder.{in-commit-order-of-code}
 use Rattle.model.proofs.Demand3.{ran-many, demand3-of-code}
-use Rattle.c_api.specs.InNumbers.{NumberOutcome, replied, inNumbers, Heard, heard, Called, none, then, thenMany, Demand3InNumbers}
+use Rattle.c_api.specs.InNumbers.{NumberOutcome, replied, inNumbers, Heard, heard, Called, none, then, thenMany, thenLoad, Demand3InNumbers}
 
 -- the store that a call for C leaves, with the model's own answer, is the call's outcome
 answered : (n v : ℕ) (y : Store) (o : Outcome) → replied n v y ≡ inNumbers o → outcome (o .answer) y ≡ o
@@ -47,6 +48,16 @@ answered-all σ (thenMany {x = x} r s cs target o e) =
       events = readsEvent s cs (length target) (take (o .count) (o .target)) (readMany s cs (length target) x .last) ∷ i .events;
       told = cc;
       ran = ran-many (i .ran) s cs target o e;
+    }
+
+answered-all σ (thenLoad {x = x} r T n v y e) =
+    let i = answered-all σ r in
+    let n′ : n ≡ number (loadEffect T x .answer) = ap (λ (s : NumberOutcome). s .number) e in
+    let t = i .told in
+    record {
+      events = loadEvent T (loadEffect T x .answer) ∷ i .events;
+      told = cc;
+      ran = list.thenLoad (i .ran) T (loadEffect T x .answer) y (answered n v y (loadEffect T x) e);
     }
 
 -- demand 3 of the calls for C: a set-up that told 100 left σ, and the calls kept their contracts

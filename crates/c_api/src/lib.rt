@@ -1,11 +1,11 @@
-// The calls for C: the fields, and each call of the store with the record of its session passed in and handed back by value, the answer as two numbers beside it; and many reads.
+// The calls for C: the fields, and each call of the store with the record of its session passed in and handed back by value, the answer as two numbers beside it; many reads; and a load of caps.
 mod fields;
 
 ghost use mathlib.Core.Path.{_≡_};
 ghost use mathlib.Core.Bool.{true};
 ghost use Rattle.model.specs.declared.Call.the-variants.{Begin, Read, Write, Seal, Advance, Abandon, Peek, Hold};
 ghost use Rattle.many_reads.specs.Lent.{ReadsMany};
-ghost use Rattle.c_api.specs.InNumbers.{SetsUpInNumbers, TakesInNumbers, TellsPlace, numbersOf};
+ghost use Rattle.c_api.specs.InNumbers.{SetsUpInNumbers, SetsUpInNumbersBy, LoadsInNumbers, TakesInNumbers, TakesInNumbersBy, TellsPlace, numbersOf};
 ghost use Rattle.c_api.specs.Answers.{refusalOf, ofBegin, ofRead, ofSeal};
 use model::Answer;
 use model::Plan;
@@ -22,7 +22,7 @@ pub struct NumberReply {
     pub session: Session,
 }
 
-// Set-up's answer, and the sixteen records.
+// The answer of set-up and of a load, and the sixteen records.
 #[repr(C)]
 pub struct SetUpReply {
     pub number: u32,
@@ -142,6 +142,74 @@ pub extern "C" fn rukkanei_set_up(
         claimants,
         exclusives,
         logs,
+    );
+    let answer = reply.answer;
+    let after = reply.sessions;
+    SetUpReply {
+        number: answer.number() as u32,
+        value: answer.value(),
+        sessions: after,
+    }
+}
+
+// Set-up by a table: 100, 7, 16 or 8.
+#[no_mangle]
+pub extern "C" fn rukkanei_set_up_with_caps(
+    sessions: Sessions,
+    values: &[u32],
+    classes: &[u8],
+    readers: &mut [u16],
+    claimants: &mut [u8],
+    exclusives: &mut [u8],
+    logs: &mut [u32],
+    caps: &[u32],
+) -> SetUpReply
+    ensures { λ r. ⌜ SetsUpInNumbersBy caps values classes readers claimants exclusives logs sessions r ⌝ }
+{
+    let reply = store::set_up_with_caps(
+        sessions,
+        values,
+        classes,
+        readers,
+        claimants,
+        exclusives,
+        logs,
+        caps,
+    );
+    let answer = reply.answer;
+    let after = reply.sessions;
+    SetUpReply {
+        number: answer.number() as u32,
+        value: answer.value(),
+        sessions: after,
+    }
+}
+
+// A load of a table of caps: 100, 7, 2, 16, 8 or 17.
+#[no_mangle]
+pub extern "C" fn rukkanei_load_caps(
+    sessions: Sessions,
+    values: &[u32],
+    classes: &[u8],
+    readers: &[u16],
+    claimants: &[u8],
+    exclusives: &[u8],
+    logs: &[u32],
+    caps: &mut [u32],
+    table: &[u32],
+) -> SetUpReply
+    ensures { λ r. ⌜ LoadsInNumbers caps table values classes readers claimants exclusives logs sessions r ⌝ }
+{
+    let reply = store::load_caps(
+        sessions,
+        values,
+        classes,
+        readers,
+        claimants,
+        exclusives,
+        logs,
+        caps,
+        table,
     );
     let answer = reply.answer;
     let after = reply.sessions;
@@ -288,6 +356,38 @@ pub extern "C" fn rukkanei_write(
         claimants,
         exclusives,
         logs,
+        session,
+        cell,
+        written,
+    ))
+}
+
+// Write by a table: 100, 6 with the session rolled back, or a refusal.
+#[no_mangle]
+pub extern "C" fn rukkanei_write_with_caps(
+    x: Session,
+    values: &[u32],
+    classes: &[u8],
+    readers: &mut [u16],
+    claimants: &mut [u8],
+    exclusives: &mut [u8],
+    logs: &mut [u32],
+    caps: &[u32],
+    session: u8,
+    cell: u32,
+    written: u32,
+) -> NumberReply
+    ensures { λ r. ⌜ TakesInNumbersBy caps (Write session cell written) values classes readers claimants exclusives logs x r ⌝ }
+{
+    in_numbers(store::write_with_caps(
+        x,
+        values,
+        classes,
+        readers,
+        claimants,
+        exclusives,
+        logs,
+        caps,
         session,
         cell,
         written,
