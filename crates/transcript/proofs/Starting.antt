@@ -10,9 +10,9 @@ use lib.Seq.{sets, sets-eq, length-take-le}
 use borrow.Author.Tests.{le-leb, lt-leb, eq-eqb, ne-eqb}
 use Rattle.model.specs.declared.Answer.{Answer}
 use Rattle.model.specs.declared.Sessions.{Sessions}
-use Rattle.model.specs.Buffers.{Store, size, lengthsFit, fresh}
+use Rattle.model.specs.Buffers.{Store, ours, size, lengthsFit, fresh}
 use Rattle.model.specs.Effects.{number}
-use Rattle.model.specs.Step.{Outcome, outcome, setUpAnswer, setUp, setUpEffect}
+use Rattle.model.specs.Step.{Outcome, outcome, setUpRefusal, setUpAnswer, setUp, setUpEffect}
 use Rattle.model.proofs.Demand3.{set-up-fresh}
 use Rattle.model.proofs.Tools.{test}
 use Rattle.store.specs.Lent.{storeOf}
@@ -29,29 +29,29 @@ use Rattle.text.proofs.Puts.{ends-at}
 -- ---- set-up on lent buffers
 
 module _ (vs ks readers claimants exclusives logs : List ℕ) (ss : Sessions) (f : Fitted vs ks readers claimants exclusives logs) where
-  same-lengths : lengthsFit (storeOf vs ks readers claimants exclusives logs ss .lent) ≡ lengthsFit (given vs ks .lent)
+  same-lengths : lengthsFit (storeOf ours vs ks readers claimants exclusives logs ss .lent) ≡ lengthsFit (given vs ks .lent)
   unfolding lengthsFit size given
   same-lengths = simp (f .read, f .claimed, f .marked, f .logged, length-replicate)
 
-  same-answer : setUpAnswer (storeOf vs ks readers claimants exclusives logs ss .lent) ≡ setUpAnswer (given vs ks)
-  unfolding setUpAnswer given
+  same-answer : setUpAnswer (storeOf ours vs ks readers claimants exclusives logs ss) ≡ setUpAnswer (given vs ks)
+  unfolding setUpAnswer setUpRefusal given
   same-answer = rw same-lengths
 
-  same-fresh : fresh (storeOf vs ks readers claimants exclusives logs ss .lent) ≡ fresh (given vs ks .lent)
+  same-fresh : fresh ours (storeOf ours vs ks readers claimants exclusives logs ss .lent) ≡ fresh ours (given vs ks .lent)
   unfolding fresh size given
   same-fresh = refl
 
-  module _ {a : Answer} {φ : Store} (e : outcome a φ ≡ setUpEffect (storeOf vs ks readers claimants exclusives logs ss)) where
+  module _ {a : Answer} {φ : Store} (e : outcome a φ ≡ setUpEffect (storeOf ours vs ks readers claimants exclusives logs ss)) where
     said : a ≡ setUpAnswer (given vs ks)
     unfolding setUpEffect
     said = ap (λ (r : Outcome). r .answer) e ∙ same-answer
 
     left : number a ≡ 100 → φ ≡ setUp (given vs ks)
-    unfolding setUpEffect
+    unfolding setUpEffect given setUp
     left h =
         let mine = ap (λ (r : Outcome). r .answer) e in
         ap (λ (r : Outcome). r .store) e
-        ∙ set-up-fresh (storeOf vs ks readers claimants exclusives logs ss) (sym (ap number mine) ∙ h)
+        ∙ set-up-fresh (storeOf ours vs ks readers claimants exclusives logs ss) (sym (ap number mine) ∙ h)
         ∙ same-fresh
         ∙ sym (set-up-fresh (given vs ks) (sym (ap number said) ∙ h))
 
@@ -82,8 +82,8 @@ unfolding lengthsFit size given
 over vs ks h = simp (lt-leb (length vs) 1024 h, and-false)
 
 pub too-many-text : (input : List ℕ) → length input ≤ 65536 → 1025 ≤ length (values (itemsAt input 0)) → setUpLine 7 ≡ transcript input
-unfolding transcript itemsText setUpText afterSetUp setUpAnswer
-too-many-text input h k = simp (le-leb _ _ h, over (values (itemsAt input 0)) (classes (itemsAt input 0)) k)
+unfolding transcript itemsText setUpText afterSetUp setUpAnswer setUpRefusal
+too-many-text input h k = simp (le-leb _ _ h, over (values (itemsAt input 0)) (classes (itemsAt input 0)) k, and-false)
 
 -- the cells that were read, and the items from the field that closes them
 pub leading-text : (input vs ks : List ℕ) (n place : ℕ) → length input ≤ 65536 → Leading input vs ks n place → setUpText (given (take n vs) (take n ks)) (itemsAt input place) ≡ transcript input

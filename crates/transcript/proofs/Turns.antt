@@ -7,8 +7,9 @@ use denote.Enum.Declared.{tagOf}
 use types.Run.{OneOf, miss}
 use Rattle.model.specs.declared.Answer.{Answer}
 use Rattle.model.specs.declared.Call.{Call}
-use Rattle.model.specs.Buffers.{Store}
-use Rattle.model.specs.Step.{Outcome, outcome, effect, step, answerOf}
+use Rattle.model.specs.Buffers.{Store, ours}
+use Rattle.model.specs.Step.{Outcome, outcome, effect, step, answerOf, GoesBy}
+use Rattle.model.proofs.Tables.{goes-by-ours}
 use Rattle.text.specs.declared.Next.{Next}
 use Rattle.text.specs.declared.Next.the-variants as next
 use Rattle.text.specs.Items.{Item, asked, following}
@@ -20,10 +21,11 @@ use Rattle.text.proofs.Next.{the-type}
 use Rattle.text.proofs.Puts.{after}
 
 module _ (k : Call) (i : ℕ) (o : List ℕ) (at : ℕ) (σ : Store) where
-  -- what is left of the text after a call
-  pub turned-text : (items : List Item) {x : Answer} {φ : Store} {a : ℕ} {p : List ℕ} → outcome x φ ≡ effect k σ → out a p ≡ put o at (answerLine i x) → put p a (callsText (i + 1) φ items) ≡ put o at (callsText i σ (asked k ∷ items))
+  -- what is left of the text after a call by our caps
+  pub turned-text : (items : List Item) {x : Answer} {φ : Store} {a : ℕ} {p : List ℕ} → (GoesBy k ours → outcome x φ ≡ effect k σ) → out a p ≡ put o at (answerLine i x) → put p a (callsText (i + 1) φ items) ≡ put o at (callsText i σ (asked k ∷ items))
   unfolding effect
-  turned-text items {x} {φ} {a} {p} e f =
+  turned-text items {x} {φ} {a} {p} step-is f =
+      let e = step-is (goes-by-ours k) in
       let said : x ≡ answerOf k σ = ap (λ (r : Outcome). r .answer) e in
       let left : φ ≡ step k σ = ap (λ (r : Outcome). r .store) e in
       let line : out a p ≡ put o at (answerLine i (answerOf k σ)) = f ∙ ap (λ (y : Answer). put o at (answerLine i y)) said in

@@ -7,14 +7,14 @@ use mathlib.Core.List.{List, _++_, reverse}
 use lib.Dec.{leb, eqb}
 use lib.ListN.{length, replicate}
 use Rattle.model.specs.declared.Answer.{Answer}
-use Rattle.model.specs.Buffers.{Store, idle}
+use Rattle.model.specs.Buffers.{Store, ours, idle}
 use Rattle.model.specs.Effects.{number}
 use Rattle.model.specs.Step.{setUpAnswer, setUp}
 use Rattle.model.specs.History.{Action, run, events}
 use Rattle.text.specs.Items.{Item, itemsAt, values, classes, later, calls}
 use Rattle.text.specs.Lines.{sizeLine, setUpLine, answerLines, cellLines, endLine}
 
--- what set-up is given for the starting cells: nothing in locks, logs and records
+-- what set-up is given for the starting cells: nothing in locks, logs and records, and our caps
 unfoldable pub given : List ℕ → List ℕ → Store
 given vs ks =
     let n = length vs in
@@ -25,6 +25,7 @@ given vs ks =
         locks = record { readers = replicate n 0; claimants = replicate n 0; exclusives = replicate n 0 };
         logs = replicate 2048 0;
       };
+      limits = ours;
       sessions = record { records = replicate 16 idle };
     }
 

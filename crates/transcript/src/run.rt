@@ -8,6 +8,7 @@ use text::lines;
 ghost use mathlib.Core.Path.{_≡_};
 ghost use Prim.Native.Nat.{_≤_};
 ghost use lib.ListN.{length};
+ghost use Rattle.model.specs.Buffers.{ours};
 ghost use Rattle.store.specs.Lent.{before};
 ghost use Rattle.text.specs.Output.{Puts};
 ghost use Rattle.transcript.specs.Output.{PutsCalls, PutsSetUp, Fitted};
@@ -27,7 +28,7 @@ fn run_calls(
     logs: &mut [u32],
 ) -> usize
     requires { ⌜ (place ≤ length (now input)) × (length (now input) ≤ 65536) × (409600 ≤ length (now output)) × (length (now values) ≤ 1024) ⌝ }
-    ensures { λ r. ⌜ PutsCalls input place output (before values classes readers claimants exclusives logs sessions) r ⌝ }
+    ensures { λ r. ⌜ PutsCalls input place output (before ours values classes readers claimants exclusives logs sessions) r ⌝ }
 {
     let mut ordinal: u32 = 1;
     let mut at = 0;

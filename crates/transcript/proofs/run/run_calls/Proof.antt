@@ -4,6 +4,7 @@ use Prim.Native.Nat.{_+_, _-_, _*_, _≤_}
 use native.Mathlib.Omega.{arith}
 use mathlib.Core.Path.{_≡_, refl, sym, _∙_, ap, subst}
 use lib.ListN.{length}
+use Rattle.model.specs.Buffers.{ours}
 use Rattle.store.specs.Lent.{storeOf}
 use Rattle.text.specs.Items.{itemsAt, following}
 use Rattle.text.specs.Output.{put}
@@ -25,8 +26,8 @@ Inv-loop input place₀ output₀ sessions₀ values₀ classes readers₀ claim
     × (length claimants ≡ length claimants₀)
     × (length exclusives ≡ length exclusives₀)
     × (length logs ≡ length logs₀)
-    × (put output at (callsText ordinal (storeOf values classes readers claimants exclusives logs sessions) (itemsAt input place))
-    ≡ put output₀ 0 (callsText 1 (storeOf values₀ classes readers₀ claimants₀ exclusives₀ logs₀ sessions₀) (itemsAt input place₀)))
+    × (put output at (callsText ordinal (storeOf ours values classes readers claimants exclusives logs sessions) (itemsAt input place))
+    ≡ put output₀ 0 (callsText 1 (storeOf ours values₀ classes readers₀ claimants₀ exclusives₀ logs₀ sessions₀) (itemsAt input place₀)))
 
 abbrev μ-loop : tie.MeasureT-loop
 μ-loop input place₀ output₀ sessions₀ values₀ classes readers₀ claimants₀ exclusives₀ logs₀ ordinal₀ at₀ place output sessions values readers claimants exclusives logs ordinal at = length input - place
@@ -87,7 +88,7 @@ loop-again c =
       search needs,
       search needs,
       search needs,
-      turned-text _ _ _ _ _ _ (c .before .before .before .before .before .before .before .before .before .before .before .before .before .before .before .step .ensures) (line .0) ∙ ap (put _ _) (ap (callsText _ _) (sym here)) ∙ inv .9,
+      turned-text _ _ _ _ _ _ (c .before .before .before .before .before .before .before .before .before .before .before .before .before .before .before .step .ensures ours) (line .0) ∙ ap (put _ _) (ap (callsText _ _) (sym here)) ∙ inv .9,
     )
 
 pub run-calls-spec : {M : Type 1} → statement M
