@@ -416,7 +416,7 @@ within-call ws τ w k =
 within-action : {σ : Store} → Capped σ → (k : Action) → Within (tellsOf (eventOf k σ)) (leaves k σ)
 within-action {σ} I (oneCall k) = subst (λ (ws : List Told). Within ws (step k σ)) (append-nil (tells k (answerOf k σ) (foundBy k (step k σ)))) (within-call [] σ (I, tt) k)
 within-action {σ} I (manyReads s cs words) = kept-by-reads (λ ws _ τ. Within ws τ) s (λ ws _ τ _ w c. within-call ws τ w (Read s c)) cs words σ (I, tt) (I, tt) (I, tt)
-within-action {σ} I (loadCaps T) = (load-cases Capped T σ (capped-load T σ I) I, tt)
+within-action {σ} I (loadCaps T) = (load-cases (λ _ τ. Capped τ) T σ (capped-load T σ I) I I I I I, tt)
 
 -- ---- every list of actions
 

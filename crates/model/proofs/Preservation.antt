@@ -390,4 +390,4 @@ module _ {first : List ℕ} {σ : Store} {T : Ledger} (I : Inv first σ T) where
   unfolding step answerOf observe
   keep (oneCall k) = keep-call I k
   keep (manyReads s cs words) = ticks (kept-with-inv s (λ _ _ _. Unit {0}) (λ _ _ _ _ _ _ _. tt) cs words tt tt tt .0)
-  keep (loadCaps caps) = ticks (load-cases (λ τ. Inv first τ (calm T)) caps σ (λ _. recaps caps (calms I)) (calms I))
+  keep (loadCaps caps) = let J = calms I in ticks (load-cases (λ _ τ. Inv first τ (calm T)) caps σ (λ _. recaps caps J) J J J J J)

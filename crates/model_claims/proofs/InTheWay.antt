@@ -80,7 +80,7 @@ in-the-way-from R actions = in-the-way-by (inv-run R (reverse actions))
 
 pub in-the-way : (σ : Store) → number (setUpAnswer σ) ≡ 100 → (actions : List Action) → InTheWay (run (setUp σ) (reverse actions))
 in-the-way σ h actions =
-    subst (λ (φ : Store). InTheWay (run φ (reverse actions))) (sym (set-up-fresh σ h)) (in-the-way-from (ready (fresh (σ .lent)) (inv-fresh (σ .lent))) actions)
+    subst (λ (φ : Store). InTheWay (run φ (reverse actions))) (sym (set-up-fresh σ h)) (in-the-way-from (ready (fresh (σ .limits) (σ .lent)) (inv-fresh (σ .limits) (σ .lent))) actions)
 
 -- ---- what a seal leaves
 
@@ -113,4 +113,4 @@ seal-lets-go-from R ks s = seal-lets-go-by s (inv-run R ks) (unfold run in in-th
 
 pub seal-lets-go : (σ : Store) → number (setUpAnswer σ) ≡ 100 → (actions : List Action) (s : ℕ) → SealLetsGo (run (setUp σ) (reverse actions)) s
 seal-lets-go σ h actions s =
-    subst (λ (φ : Store). SealLetsGo (run φ (reverse actions)) s) (sym (set-up-fresh σ h)) (seal-lets-go-from (ready (fresh (σ .lent)) (inv-fresh (σ .lent))) (reverse actions) s)
+    subst (λ (φ : Store). SealLetsGo (run φ (reverse actions)) s) (sym (set-up-fresh σ h)) (seal-lets-go-from (ready (fresh (σ .limits) (σ .lent)) (inv-fresh (σ .limits) (σ .lent))) (reverse actions) s)

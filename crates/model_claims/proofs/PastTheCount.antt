@@ -14,7 +14,7 @@ use Rattle.model.specs.declared.Lock.{Lock}
 use Rattle.model.specs.declared.Plan.{Plan}
 use Rattle.model.specs.declared.Plan.the-variants.{Tell}
 use Rattle.model.specs.declared.Session.{Session}
-use Rattle.model.specs.Buffers.{free, word, cellAt, entryAt, entryOf, slotIn, lookIn, publishesIn, targetIn}
+use Rattle.model.specs.Buffers.{Limits, free, word, cellAt, entryAt, entryOf, slotIn, lookIn, publishesIn, targetIn}
 use Rattle.model.specs.Plans.{entriesFit, recordFits, guard, known, readSlot, readPlan, holdSlot, holdPlan, writeCapped, writePlan, sealPlan, advanceTarget, advancePlan, peekSlot, peekPlan, plan}
 use Rattle.model.specs.Readers.{odd}
 use Rattle.model.specs.Search.{orElse, find, lowest, below}
@@ -80,9 +80,9 @@ module _ (n : ℕ) (log other : List ℕ) (x : Session) (h : SameEntries (x .cou
   unfolding holdPlan holdSlot
   holds l c = guards (eqb (x .phase) 1) (ap (known n c) (on-slot c (holdSlot log x l c) (holdSlot other x l c) refl (λ k i. rw (entry k i))))
 
-  writes : (ks : List ℕ) (l : Lock) (c v : ℕ) → writePlan ks n log x l c v ≡ writePlan ks n other x l c v
+  writes : (T ks : List ℕ) (l : Lock) (c v : ℕ) → writePlan T ks n log x l c v ≡ writePlan T ks n other x l c v
   unfolding writePlan writeCapped
-  writes ks l c v = guards (eqb (x .phase) 1) (rw (slots log other (x .count) h c))
+  writes T ks l c v = guards (eqb (x .phase) 1) (rw (slots log other (x .count) h c))
 
   seals : sealPlan n log x ≡ sealPlan n other x
   unfolding sealPlan
@@ -100,18 +100,18 @@ module _ (n : ℕ) (log other : List ℕ) (x : Session) (h : SameEntries (x .cou
   peeks c = guards (eqb (x .phase) 1) (ap (known n c) (on-slot c (peekSlot log c) (peekSlot other c) refl (λ k i. rw (entry k i))))
 
 -- two logs with the same first `count` entries give every call the same plan
-pub entries-decide : (call : Call) (n : ℕ) (ks log other : List ℕ) (x : Session) (lock : ℕ → Lock)
+pub entries-decide : (call : Call) (n : ℕ) (ks : List ℕ) (G : Limits) (log other : List ℕ) (x : Session) (lock : ℕ → Lock)
     → SameEntries (x .count) log other
-    → plan call n ks log x lock ≡ plan call n ks other x lock
+    → plan call n ks G log x lock ≡ plan call n ks G other x lock
 unfolding plan
-entries-decide (Begin s) n ks log other x lock h = guards n log other x h (eqb (x .phase) 0) refl
-entries-decide (Read s c) n ks log other x lock h = reads n log other x h (lock c) c
-entries-decide (Write s c v) n ks log other x lock h = writes n log other x h ks (lock c) c v
-entries-decide (Seal s) n ks log other x lock h = seals n log other x h
-entries-decide (Advance s) n ks log other x lock h = advances n log other x h s lock
-entries-decide (Abandon s) n ks log other x lock h = guards n log other x h (eqb (x .phase) 1 || eqb (x .phase) 2) refl
-entries-decide (Peek s c) n ks log other x lock h = peeks n log other x h c
-entries-decide (Hold s c) n ks log other x lock h = holds n log other x h (lock c) c
+entries-decide (Begin s) n ks G log other x lock h = guards n log other x h (eqb (x .phase) 0) refl
+entries-decide (Read s c) n ks G log other x lock h = reads n log other x h (lock c) c
+entries-decide (Write s c v) n ks G log other x lock h = writes n log other x h (G .caps) ks (lock c) c v
+entries-decide (Seal s) n ks G log other x lock h = seals n log other x h
+entries-decide (Advance s) n ks G log other x lock h = advances n log other x h s lock
+entries-decide (Abandon s) n ks G log other x lock h = guards n log other x h (eqb (x .phase) 1 || eqb (x .phase) 2) refl
+entries-decide (Peek s c) n ks G log other x lock h = peeks n log other x h c
+entries-decide (Hold s c) n ks G log other x lock h = holds n log other x h (lock c) c
 
 -- ---- what that is of, and what not
 

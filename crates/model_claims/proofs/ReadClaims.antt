@@ -222,16 +222,16 @@ left-a-reader g = clash true refl (g (inr refl) 0 (omega arith) refl)
 -- ---- caps
 
 -- of a value got, by its cell's class; of the values that a list leaves, and of those that it is answered
-pub got-within : GotWithin (midway 1 4 16 0) (item 3 0 (got 0 8)) × GotWithin (midway 1 4 16 0) (item 3 0 (put 0 9 3))
+pub got-within : GotWithin (midway 1 4 16 0) (got 0 8) × GotWithin (midway 1 4 16 0) (put 0 9 3)
 unfolding midway computing
 got-within = (omega arith, tt)
 
-pub got-within-not : (GotWithin (midway 1 4 16 0) (item 3 0 (got 0 9)) → ⊥) × (GotWithin (midway 1 4 16 0) (item 3 0 (got 1 8)) → ⊥)
+pub got-within-not : (GotWithin (midway 1 4 16 0) (got 0 9) → ⊥) × (GotWithin (midway 1 4 16 0) (got 1 8) → ⊥)
 unfolding midway computing
 got-within-not = (λ l. let h : 9 ≤ 8 = l in omega arith, λ l. let h : 8 ≤ 6 = l in omega arith)
 
 -- a hold's is one
-pub held-within : GotWithin (midway 1 4 16 0) (item 3 0 (held 0 8 3)) × (GotWithin (midway 1 4 16 0) (item 3 0 (held 0 9 3)) → ⊥)
+pub held-within : GotWithin (midway 1 4 16 0) (held 0 8 3) × (GotWithin (midway 1 4 16 0) (held 0 9 3) → ⊥)
 unfolding midway computing
 held-within = (omega arith, λ l. let h : 9 ≤ 8 = l in omega arith)
 
@@ -241,15 +241,15 @@ stored-above w = let h : 9 ≤ 8 = w .stored 0 in omega arith
 
 pub got-above : WithinCaps (midway 1 9 16 0) (oneCall (Read 1 0) ∷ []) → ⊥
 unfolding midway computing counting
-got-above w = let h : 9 ≤ 8 = w .got .0 in omega arith
+got-above w = let h : 9 ≤ 8 = w .got .1 .0 in omega arith
 
 pub got-above-held : WithinCaps (midway 1 9 16 0) (oneCall (Hold 1 0) ∷ []) → ⊥
 unfolding midway computing counting
-got-above-held w = let h : 9 ≤ 8 = w .got .0 in omega arith
+got-above-held w = let h : 9 ≤ 8 = w .got .1 .0 in omega arith
 
 pub got-above-many : WithinCaps (midway 1 9 16 0) (manyReads 1 (1 ∷ 0 ∷ []) 2 ∷ []) → ⊥
 unfolding midway computing counting
-got-above-many w = let h : 9 ≤ 8 = w .got .0 in omega arith
+got-above-many w = let h : 9 ≤ 8 = w .got .1 .0 in omega arith
 
 -- ---- one after the other
 

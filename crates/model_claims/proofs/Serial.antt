@@ -77,4 +77,4 @@ pub serially-equal : (σ : Store) → number (setUpAnswer σ) ≡ 100 → (actio
     → OneAtATime (events (setUp σ) (reverse actions)) → SeriallyEqual (setUp σ) (reverse actions)
 serially-equal σ h actions =
     subst (λ (φ : Store). OneAtATime (events φ (reverse actions)) → SeriallyEqual φ (reverse actions)) (sym (set-up-fresh σ h))
-    (serially-equal-from (fresh (σ .lent)) (inv-fresh (σ .lent)) actions)
+    (serially-equal-from (fresh (σ .limits) (σ .lent)) (inv-fresh (σ .limits) (σ .lent)) actions)

@@ -15,8 +15,8 @@ use Rattle.model.specs.declared.Answer.{Answer}
 use Rattle.model.specs.declared.Answer.the-variants.{Done, Value, Sealed, Moved, Committed, Refused}
 use Rattle.model.specs.declared.Plan.{Plan}
 use Rattle.model.specs.declared.Plan.the-variants.{Refuse, Start, Enter, EnterUpdate, EnterMark, Cancel}
-use Rattle.model.specs.Buffers.{Store, size, entryAt, slotIn, targetIn, onLog, updated, marked, lockAt, cap}
-use Rattle.model.specs.History.{Action, oneCall, manyReads, actor, Event, event, withFound, readsEvent, tellsOf, eventOf}
+use Rattle.model.specs.Buffers.{Store, size, entryAt, slotIn, targetIn, onLog, updated, marked, lockAt, cap, hasCaps}
+use Rattle.model.specs.History.{Action, oneCall, manyReads, loadCaps, actor, Event, event, withFound, readsEvent, loadEvent, tellsOf, eventOf}
 use Rattle.model.specs.Isolation.{All}
 use Rattle.model.specs.ManyReads.{readMany}
 use Rattle.model.specs.Serial.{Serial, drafted, draftedBy, serialStep, Undisturbed}
@@ -30,6 +30,7 @@ use Rattle.model.proofs.Advancing.{target-some}
 use Rattle.model.proofs.Effects.{slot-some, running-role, enters, enter-phase, enter-slot, notes, marks}
 use Rattle.model.proofs.Invariant.{latest, all-append, Promoting, Finishing, Inv}
 use Rattle.model.proofs.Ledger.{closed, saw, sealedAt, advanced, Ledger, calm, starts, hears, observe}
+use Rattle.model.proofs.Loading.{load-cases}
 use Rattle.model.proofs.ManyReads.{ByRead, value, end, read-by-read, reads-by-read}
 use Rattle.model.proofs.Passing.{choose, guarded, running-cell, cell-new}
 use Rattle.model.proofs.Preservation.{inside, inside-wrote, phase-le, runs, none-written, kept-with-inv}
@@ -160,16 +161,18 @@ module _ {start : List ℕ} {σ : Store} {T : Ledger} {z : Serial} (I : Inv star
   unfolding planOf plan writeCapped writeSlot answer after observe tells ending serialStep slot
   write-fine s c v =
       let k = getD (σ .lent .classes) c 0 in
-      on-cell (Fine (Write s c v)) (λ r small. refused r small (Write s c v)) s c (cond (ltb k 16) (writeCapped (logOf σ s) (recordOf σ s) (lockAt (σ .lent .locks) c) c v (cap k)) (Refuse 8))
+      split (Fine (Write s c v)) (hasCaps (σ .limits .caps))
+      (λ _. on-cell (Fine (Write s c v)) (λ r small. refused r small (Write s c v)) s c (cond (ltb k 16) (writeCapped (logOf σ s) (recordOf σ s) (lockAt (σ .lent .locks) c) c v (cap (σ .limits .caps) k)) (Refuse 8))
       (λ lt ph lc.
       split (Fine (Write s c v)) (ltb k 16)
-      (λ _. split (Fine (Write s c v)) (leb v (cap k))
+      (λ _. split (Fine (Write s c v)) (leb v (cap (σ .limits .caps) k))
       (λ _. choose (Fine (Write s c v)) (writeSlot (recordOf σ s) (lockAt (σ .lent .locks) c) c v) (slot σ s c)
       (λ p. on-new (Fine (Write s c v)) (refused 5 refl (Write s c v)) s c (EnterUpdate c v) ph lc p
       (λ room cl. wrote ph lc _ (found-latest s lt (enters s lt I c ph p room lc cl) c (recordOf σ s .count) (enter-phase s lt I c ph p room) (enter-slot s lt I c ph p room) lc v)))
       (λ j p. wrote ph lc _ (found-latest s lt I c j ph p lc v)))
       (λ _. refused 4 refl (Write s c v)))
-      (λ _. refused 8 refl (Write s c v)))
+      (λ _. refused 8 refl (Write s c v))))
+      (λ _. refused 7 refl (Write s c v))
     where
       wrote : recordOf σ s .phase ≡ 1 → c < length start → (f : ℕ) → f ≡ latest start (T .commits) c → Serially start T z (withFound f (event (Write s c v) Done))
       wrote ph lc f e = let r = runs I s ph in answered (Write s c v) Done refl refl (tt, tt) (follows-tick (follows-write G s (r .live) c v f lc (r .open′) e))
@@ -284,11 +287,14 @@ module _ {start : List ℕ} {σ : Store} {T : Ledger} {z : Serial} (I : Inv star
 -- ---- the actions
 
 module _ {start : List ℕ} {σ : Store} {T : Ledger} {z : Serial} (I : Inv start σ T) (F : Follows start T z) where
+  -- nothing was told
+  still : (a : Answer) → Undisturbed a → eqb (number a) 105 ≡ false → Reading start (calm T) z [] a
+  still a u n = record { follows = follows-calm F; undisturbed = u; not-105 = n; read = tt }
+
   pub serially : (k : Action) → Alone I F (tellsOf (eventOf k σ)) → Serially start T z (eventOf k σ)
   unfolding answerOf
   serially (oneCall k) b = serially-call I F k b
   serially (manyReads s cs words) b =
-      let still : (a : Answer) → Undisturbed a → eqb (number a) 105 ≡ false → Reading start (calm T) z [] a = λ a u n. record { follows = follows-calm F; undisturbed = u; not-105 = n; read = tt } in
       let r = readMany s cs words σ in
       reads-serially (readsEvent s cs words (r .values) (r .last)) (reads-by-read cs (r .values) (r .last))
       (kept-with-inv I s (λ ws a U. Reading start U z ws a)
@@ -297,3 +303,8 @@ module _ {start : List ℕ} {σ : Store} {T : Ledger} {z : Serial} (I : Inv star
       let us = tells (Read s c) (answerOf (Read s c) τ) 0 in
       record { follows = r .follows; undisturbed = r .undisturbed; not-105 = r .not-105; read = all-append (WhereGot (λ c v. v ≡ getD (z .draft) c 0)) us ws (r .read) (H .read) })
       cs words (still (Refused 15) (λ e. omega arith, λ e. omega arith) refl) (still (Refused 13) (λ e. omega arith, λ e. omega arith) refl) (still Done (λ e. omega arith, λ e. omega arith) refl) .1)
+  serially (loadCaps caps) b =
+      let loads : (a : Answer) → Undisturbed a → eqb (number a) 105 ≡ false → Serially start T z (loadEvent caps a) = λ a u n. reads-serially (loadEvent caps a) tt (still a u n) in
+      load-cases (λ a _. Serially start T z (loadEvent caps a)) caps σ (λ _. loads Done (λ e. omega arith, λ e. omega arith) refl) (loads (Refused 7) (λ e. omega arith, λ e. omega arith) refl)
+      (loads (Refused 2) (λ e. omega arith, λ e. omega arith) refl) (loads (Refused 16) (λ e. omega arith, λ e. omega arith) refl)
+      (loads (Refused 8) (λ e. omega arith, λ e. omega arith) refl) (loads (Refused 17) (λ e. omega arith, λ e. omega arith) refl)

@@ -7,7 +7,7 @@ use lib.ListN.{replicate}
 use Rattle.model.specs.declared.Call.the-variants.{Begin, Read, Write, Seal, Advance}
 use Rattle.model.specs.declared.Answer.{Answer}
 use Rattle.model.specs.declared.Answer.the-variants.{Done, Value, Sealed, Moved, Waiting, Committed, Refused}
-use Rattle.model.specs.Buffers.{Store, idle}
+use Rattle.model.specs.Buffers.{ours, Store, idle}
 use Rattle.model.specs.Computing.{computing, counting}
 use Rattle.model.specs.History.{Action, oneCall, manyReads, asActions, Event, tellsOf, run, events, told}
 use Rattle.model.specs.Isolation.{All}
@@ -63,6 +63,7 @@ given =
         locks = record { readers = 0 ∷ 0 ∷ []; claimants = 16 ∷ 16 ∷ []; exclusives = 0 ∷ 0 ∷ [] };
         logs = replicate 2048 0;
       };
+      limits = ours;
       sessions = record { records = replicate 16 idle };
     }
 

@@ -9,7 +9,7 @@ use lib.ListN.{length, replicate}
 use Rattle.model.specs.declared.Call.the-variants.{Begin, Read, Write, Seal, Advance}
 use Rattle.model.specs.declared.Answer.{Answer}
 use Rattle.model.specs.declared.Answer.the-variants.{Done, Value, Sealed, Moved, Waiting, Committed}
-use Rattle.model.specs.Buffers.{Store, idle, fresh}
+use Rattle.model.specs.Buffers.{ours, Store, idle, fresh}
 use Rattle.model.specs.Computing.{computing, counting}
 use Rattle.model.specs.History.{Action, asActions, Event, run, events, Item, item, history, name, Name, transaction, wrote, readsBeforeWriting, snapshot, commit, committed}
 use Rattle.model.specs.Isolation.{Last, lastCommit, noCommit, Demand3}
@@ -34,6 +34,7 @@ started =
         locks = record { readers = 1 ∷ 1 ∷ []; claimants = 16 ∷ 16 ∷ []; exclusives = 0 ∷ 0 ∷ [] };
         logs = 1 ∷ 5 ∷ 5 ∷ 0 ∷ 0 ∷ 3 ∷ 4 ∷ 1 ∷ replicate 2040 0;
       };
+      limits = ours;
       sessions = record { records = record { phase = 1; count = 2; next = 0 } ∷ replicate 15 idle };
     }
 
@@ -47,14 +48,14 @@ toldWith v = item 0 0 (put 0 4 3) ∷ item 0 0 (got 1 v) ∷ item 0 0 began ∷ 
 abbrev opening : List Action
 opening = asActions (Write 0 0 4 ∷ Read 0 1 ∷ Begin 0 ∷ [])
 
-abbrev setUpReady : Ready (fresh (given .lent)) [] blank
-setUpReady = ready (fresh (given .lent)) (inv-fresh (given .lent))
+abbrev setUpReady : Ready (fresh ours (given .lent)) [] blank
+setUpReady = ready (fresh ours (given .lent)) (inv-fresh ours (given .lent))
 
 record Led : Type 0 where
-  store : run (fresh (given .lent)) opening ≡ started
-  items : openItems (history [] (fresh (given .lent)) opening) (ledger-of setUpReady opening) ≡ toldWith 5
-  records : length (run (fresh (given .lent)) opening .sessions .records) ≡ 16
-  sixteen : below 2 (λ s. recordOf (run (fresh (given .lent)) opening) s .phase) 16 ≡ true
+  store : run (fresh ours (given .lent)) opening ≡ started
+  items : openItems (history [] (fresh ours (given .lent)) opening) (ledger-of setUpReady opening) ≡ toldWith 5
+  records : length (run (fresh ours (given .lent)) opening .sessions .records) ≡ 16
+  sixteen : below 2 (λ s. recordOf (run (fresh ours (given .lent)) opening) s .phase) 16 ≡ true
 
 led : Led
 unfolding started given openItems openBelow openOf atStart ledger observe amend starts upd computing counting
@@ -64,8 +65,8 @@ pub started-ready : Ready started (toldWith 5) (restart (ledger-of setUpReady op
 started-ready =
     let T = ledger-of setUpReady opening in
     subst (λ (σ : Store). Ready σ (toldWith 5) (restart T)) (led .store)
-    (subst (λ (h : List Item). Ready (run (fresh (given .lent)) opening) h (restart T)) (led .items)
-    (resumes setUpReady opening (by-sixteen (run (fresh (given .lent)) opening) (led .records) (led .sixteen))))
+    (subst (λ (h : List Item). Ready (run (fresh ours (given .lent)) opening) h (restart T)) (led .items)
+    (resumes setUpReady opening (by-sixteen (run (fresh ours (given .lent)) opening) (led .records) (led .sixteen))))
 
 pub started-demand3 : (actions : List Action) → Demand3 (toldWith 5) started actions
 started-demand3 = demand3-from started-ready
