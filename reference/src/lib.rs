@@ -1,8 +1,9 @@
-//! Document 01 and Papers 1 to 4 of document 02 read a second time, from the papers alone: the store, the call fields and the replay, and the
+//! Document 01 and Papers 1 to 5 of document 02 read a second time, from the papers alone: the store, the call fields and the replay, and the
 //! random lists that compare them with other programs. Nothing here is shared with the proved crates.
 
 pub mod arbitrary;
 pub mod boundary;
+pub mod caps;
 pub mod field;
 pub mod generate;
 pub mod holds;
@@ -11,6 +12,7 @@ pub mod logs;
 pub mod look_ups;
 pub mod many_reads;
 pub mod options;
+pub mod own_caps;
 pub mod random;
 pub mod replay;
 pub mod runs;
