@@ -1,5 +1,6 @@
 /* plain_store.h over the proved calls of include/rukkanei.h, so that whatever runs the plain store can run the proved one. A call is passed its
-   session's record alone, and the one handed back is put in its place: the other fifteen are out of its reach. Links with the archive for C. */
+   session's record alone, and the one handed back is put in its place: the other fifteen are out of its reach. Set-up and load are passed all sixteen.
+   Links with the archive for C. */
 #include "plain_store.h"
 #include "rukkanei.h"
 
