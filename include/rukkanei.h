@@ -202,7 +202,8 @@ rukkanei_set_up_reply rukkanei_set_up_with_caps(rukkanei_sessions sessions, cons
  *    17  a value above its cap in the new table
  *   100  the new table is in force
  *
- * With the refusals all is as before, and the old table stays in force. The records come back as they came, with 100 too. */
+ * With the refusals all is as before, and the old table stays in force. The records come back as they came, with 100 too. The tables do not overlap:
+ * a load of the table in force itself is one of a copy. */
 rukkanei_set_up_reply rukkanei_load_caps(rukkanei_sessions sessions, const uint32_t *values, size_t values_len, const uint8_t *classes,
                                          size_t classes_len, const uint16_t *readers, size_t readers_len, const uint8_t *claimants,
                                          size_t claimants_len, const uint8_t *exclusives, size_t exclusives_len, const uint32_t *logs,

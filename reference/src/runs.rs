@@ -12,7 +12,8 @@ use crate::store::{Buffers, Call, ManyReads, Table, DONE, RUNNING, SESSIONS, TAB
 use crate::written_back;
 
 /// The numbers that each call must be seen to answer over the runs: every one that it can give on a store that is set up.
-pub const REQUIRED: [(&str, &[u32]); 15] = [
+pub const REQUIRED: [(&str, &[u32]); 16] = [
+    ("set-up", &[100]),
     ("set-up with caps", &[100]),
     (LOAD, &[2, 7, 16, 17, 100]),
     ("begin", &[1, 2, 100]),

@@ -92,7 +92,8 @@ pub fn compare_runs(run: &Run) {
         let random = Random::for_case(run.seed, case);
         let (shape, mut buffers) = runs::start(&random);
         counted.last_load = LastLoad::default();
-        let mut next = Next::One(Call::SetUp { table: Table::InForce });
+        let table = if shape.own_caps { Table::InForce } else { Table::Ours };
+        let mut next = Next::One(Call::SetUp { table });
         for _ in 0..random.range(20, 150) {
             let got = compare_next(&mut stores, case, &mut buffers, next, &mut counted);
             within_caps(case, &got, &buffers);
