@@ -185,7 +185,7 @@ rukkanei_set_up_reply rukkanei_set_up(rukkanei_sessions sessions, const uint32_t
  *     8  a class above 15, or a value above its cap in this table
  *   100  set up
  *
- * With 7, 16 and 8 all is as before. There is no call field of this call, of a write with a table or of a load. */
+ * With 7, 16 and 8 all is as before. There is no call field of this call, of a write by a table or of a load. */
 rukkanei_set_up_reply rukkanei_set_up_with_caps(rukkanei_sessions sessions, const uint32_t *values, size_t values_len, const uint8_t *classes,
                                                 size_t classes_len, uint16_t *readers, size_t readers_len, uint8_t *claimants,
                                                 size_t claimants_len, uint8_t *exclusives, size_t exclusives_len, uint32_t *logs,

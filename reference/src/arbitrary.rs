@@ -2,9 +2,9 @@
 
 use crate::caps;
 use crate::field::Field;
+use crate::loads::LOAD;
 use crate::logs::{asked_cell, log, Focus};
 use crate::many_reads::{MANY, MANY_AFTER_A_VALUE, MANY_AND_A_CELL_AGAIN};
-use crate::own_caps::LOAD;
 use crate::random::Random;
 use crate::store::{Buffers, Call, Session, Table, IDLE, LOG_WORDS, MAX_ENTRIES, NOBODY, OUR_CAPS, RUNNING, SESSIONS};
 use crate::written_back;
@@ -121,19 +121,25 @@ pub fn buffers(random: &Random) -> (Buffers, Focus) {
     (buffers, focus)
 }
 
-/// Makes every session idle, with any count and next; or all but one, whose phase is often a damaged one.
+/// Makes every session idle, with any count and next; or all but one, whose phase is often a damaged one, or two, whose phases are equal or add up
+/// to 256.
 fn rest(random: &Random, buffers: &mut Buffers) {
     buffers.sessions.iter_mut().for_each(|record| record.phase = IDLE);
-    if random.percent(30) {
+    let phase = random.pick(&[1, 2, 3, 4, 5, 7, 16, 128, 255, random.byte()]);
+    let busy = random.weighted(&[65, 27, 8]);
+    if busy > 0 {
         let session = random.pick(&[0, SESSIONS - 1, random.below(SESSIONS)]);
-        buffers.sessions[session].phase = random.pick(&[1, 2, 3, 4, 5, 7, 255, random.byte()]);
+        buffers.sessions[session].phase = phase;
+    }
+    if busy > 1 {
+        buffers.sessions[random.below(SESSIONS)].phase = random.pick(&[phase, phase.wrapping_neg()]);
     }
 }
 
-/// Of a hundred calls on these buffers, the loads: many where at most one session is not idle.
+/// Of a hundred calls on these buffers, the loads: many where at most two sessions are not idle.
 pub fn loads(buffers: &Buffers) -> usize {
     let busy = buffers.sessions.iter().filter(|record| record.phase != IDLE).count();
-    if busy > 1 {
+    if busy > 2 {
         return 1;
     }
     50

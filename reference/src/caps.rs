@@ -14,6 +14,19 @@ pub fn not_rising(caps: &[u32]) -> Vec<usize> {
     (1..caps.len()).filter(|place| caps[*place] <= caps[*place - 1]).collect()
 }
 
+/// The one place of 16 whose cap is not above the one before it, where nothing else keeps the table from passing.
+pub fn unfit_place(caps: &[u32]) -> Option<usize> {
+    match not_rising(caps)[..] {
+        [place] if caps.len() == TABLE_CAPS && caps[0] > 0 => Some(place),
+        _ => None,
+    }
+}
+
+/// Whether nothing but a first cap of 0 keeps the table from passing.
+pub fn only_first_cap_is_0(caps: &[u32]) -> bool {
+    caps.len() == TABLE_CAPS && caps[0] == 0 && not_rising(caps).is_empty()
+}
+
 /// The highest value of each class in the store, 0 where it has none.
 pub fn floors(buffers: &Buffers) -> Caps {
     let mut floors = [0; TABLE_CAPS];

@@ -8,6 +8,7 @@ pub mod field;
 pub mod generate;
 pub mod holds;
 pub mod lent;
+pub mod loads;
 pub mod logs;
 pub mod look_ups;
 pub mod many_reads;
@@ -18,6 +19,7 @@ pub mod replay;
 pub mod runs;
 pub mod store;
 pub mod tally;
+pub mod within_caps;
 pub mod written_back;
 
 #[cfg(feature = "plain")]

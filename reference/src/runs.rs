@@ -4,8 +4,8 @@
 use crate::arbitrary::stray_cell;
 use crate::caps;
 use crate::generate::{self, Shape};
+use crate::loads::LOAD;
 use crate::many_reads::{self, MANY, MANY_AFTER_A_VALUE, MANY_AND_A_CELL_AGAIN};
-use crate::own_caps::LOAD;
 use crate::random::Random;
 use crate::replay::call_of;
 use crate::store::{Buffers, Call, ManyReads, Table, DONE, RUNNING, SESSIONS, TABLE_CAPS};

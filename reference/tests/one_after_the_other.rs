@@ -3,10 +3,10 @@
 //! as if run one after the other. Every value is within its cap in the table in force.
 
 use reference::generate::Shape;
-use reference::own_caps::{above_its_cap, got, is_within};
 use reference::random::Random;
 use reference::runs::{self, Next};
 use reference::store::{Answer, Buffers, Call, ManyAnswer, ManyReads, PUBLISHING, SESSIONS};
+use reference::within_caps::{above_its_cap, got, is_within};
 use std::collections::{BTreeMap, BTreeSet};
 
 const SEED: u64 = 1;

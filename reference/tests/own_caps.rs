@@ -4,8 +4,8 @@ mod common;
 
 use common::*;
 use reference::caps::passes;
-use reference::own_caps::above_its_cap;
 use reference::store::{Buffers, Call, Session, Table, OUR_CAPS};
+use reference::within_caps::above_its_cap;
 
 /// Caps 10, 20 and on to 160.
 fn tens() -> Vec<u32> {

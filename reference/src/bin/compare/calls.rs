@@ -5,12 +5,14 @@ use reference::arbitrary::{self, Numbers, REQUIRED, REQUIRED_FIELDS};
 use reference::boundary::{Fields, Reference, Store};
 use reference::caps;
 use reference::holds;
+use reference::loads;
 use reference::look_ups::{self, LookUps};
 use reference::many_reads;
 use reference::own_caps::{self, LastLoad};
 use reference::random::Random;
 use reference::runs::{self, Next};
 use reference::store::{Answer, Buffers, Call, ManyAnswer, ManyReads, Part, Table, MAX_LIST, SHORT_TARGET, VALUE, WRONG_LIST};
+use reference::within_caps;
 use reference::written_back;
 use std::fmt::{self, Debug, Display, Formatter};
 use std::process::exit;
@@ -96,7 +98,7 @@ pub fn compare_runs(run: &Run) {
         let mut next = Next::One(Call::SetUp { table });
         for _ in 0..random.range(20, 150) {
             let got = compare_next(&mut stores, case, &mut buffers, next, &mut counted);
-            within_caps(case, &got, &buffers);
+            keeps_caps(case, &got, &buffers);
             next = runs::next(&random, &shape, &buffers);
             made += 1;
         }
@@ -126,7 +128,7 @@ fn compare_next(stores: &mut [Box<dyn Store>], case: u64, buffers: &mut Buffers,
             numbers.add(arbitrary::kind(call), answer.number);
             kinds.into_iter().for_each(|kind| numbers.add(kind, answer.number));
             look_ups.add(look_up, answer.number);
-            own_caps::got(call, answer).into_iter().collect()
+            within_caps::got(call, answer).into_iter().collect()
         }
         Next::Many(many) => {
             let look_up = look_ups::of_many(buffers, &many);
@@ -136,9 +138,9 @@ fn compare_next(stores: &mut [Box<dyn Store>], case: u64, buffers: &mut Buffers,
             many.cells.iter().copied().zip(words).take(answer.count as usize).collect()
         }
         Next::Load(new_caps) => {
-            let (old, kinds) = (buffers.caps.clone(), own_caps::kinds_of_load(buffers, &new_caps));
+            let (old, kinds) = (buffers.caps.clone(), loads::kinds(buffers, &new_caps));
             let number = compare_load(stores, case, buffers, &new_caps).number;
-            numbers.add(own_caps::LOAD, number);
+            numbers.add(loads::LOAD, number);
             kinds.into_iter().for_each(|kind| numbers.add(kind, number));
             *last_load = LastLoad::new(old, &new_caps, number);
             Vec::new()
@@ -147,10 +149,10 @@ fn compare_next(stores: &mut [Box<dyn Store>], case: u64, buffers: &mut Buffers,
 }
 
 /// In a run every value is within its cap in force: those of the store, of the logs' written entries, and those got.
-fn within_caps(case: u64, got: &[(u32, u32)], buffers: &Buffers) {
-    let told = got.iter().find(|(cell, value)| !own_caps::is_within(buffers, *cell, *value));
+fn keeps_caps(case: u64, got: &[(u32, u32)], buffers: &Buffers) {
+    let told = got.iter().find(|(cell, value)| !within_caps::is_within(buffers, *cell, *value));
     let told =
-        told.map(|(cell, _)| format!("a value above its cap was got of cell {}", cell)).or(own_caps::above_its_cap(buffers));
+        told.map(|(cell, _)| format!("a value above its cap was got of cell {}", cell)).or(within_caps::above_its_cap(buffers));
     if let Some(told) = told {
         println!("case {}: {}", case, told);
         exit(1);
