@@ -5,7 +5,9 @@
    `commit` with holds in place of reads, so that every cell is advanced.
    `look-up-known-read`, `look-up-new-read` and the same of writes and holds make that call in a log of ENTRIES entries.
    The workloads `many` and `singles` read a session's ENTRIES cells as new ones, by one call for many reads and by a loop of single reads, which counts
-   as one call here; `many-known` and `singles-known` read them when they are in the log. */
+   as one call here; `many-known` and `singles-known` read them when they are in the log.
+   `caps-commit`, `look-up-known-write-caps` and `look-up-new-write-caps` write by the table of caps in force, after a set-up by it; `load` loads one of two
+   tables in turn, ENTRIES times a cycle, with every session idle. */
 #include "plain_store.h"
 #include "rukkanei.h"
 
@@ -14,7 +16,7 @@
 #include <string.h>
 #include <time.h>
 
-enum { BEGIN = 1, READ, HOLD, WRITE, SEAL, ADVANCE, ABANDON, PEEK, MANY, SINGLES };
+enum { BEGIN = 1, READ, HOLD, WRITE, SEAL, ADVANCE, ABANDON, PEEK, MANY, SINGLES, WRITE_WITH_CAPS, LOAD };
 enum { MAX_CALLS = 1 << 20 };
 
 static uint32_t calls[4 * MAX_CALLS];
@@ -31,6 +33,11 @@ static uint32_t logs[2][PLAIN_LOG_WORDS];
 /* The list and the targets of each session's many reads. */
 static uint32_t lists[PLAIN_SESSIONS][PLAIN_MAX_LIST];
 static uint32_t targets[2][PLAIN_SESSIONS][PLAIN_MAX_LIST];
+
+/* The table in force of each store, and the tables that are loaded. Every run starts with the first. Set-up is by it where `own_caps` says so. */
+static uint32_t caps[2][PLAIN_CAPS];
+static uint32_t tables[2][PLAIN_CAPS];
+static int own_caps;
 
 static void add(uint32_t kind, uint32_t session, uint32_t cell, uint32_t value)
 {
@@ -69,7 +76,7 @@ __attribute__((noinline)) static uint32_t plain_run(size_t n)
     plain_session sessions[PLAIN_SESSIONS];
     memset(sessions, 0, sizeof sessions);
     plain_lent lent = {values[1], n, classes, n, readers[1], n, claimants[1], n, exclusives[1], n, logs[1], PLAIN_LOG_WORDS};
-    plain_answer up = plain_set_up(&lent, sessions);
+    plain_answer up = own_caps ? plain_set_up_with_caps(&lent, sessions, caps[1], PLAIN_CAPS) : plain_set_up(&lent, sessions);
     for (size_t i = 0; i < count; i++) {
         uint32_t *c = calls + 4 * i;
         plain_answer a;
@@ -100,6 +107,12 @@ __attribute__((noinline)) static uint32_t plain_run(size_t n)
             break;
         case SINGLES:
             a = plain_singles(&lent, sessions, (uint8_t)c[1], c[2]);
+            break;
+        case WRITE_WITH_CAPS:
+            a = plain_write_with_caps(&lent, sessions, caps[1], PLAIN_CAPS, (uint8_t)c[1], c[2], c[3]);
+            break;
+        case LOAD:
+            a = plain_load_caps(&lent, sessions, caps[1], PLAIN_CAPS, tables[c[2]], PLAIN_CAPS);
             break;
         default:
             a = plain_peek_number(&lent, sessions, (uint8_t)c[1], c[2]);
@@ -132,12 +145,20 @@ __attribute__((noinline)) static rukkanei_reply proved_singles(size_t n, rukkane
     return (rukkanei_reply){RUKKANEI_VALUE, entries, record};
 }
 
+/* A load takes and hands back all records; the reply is as session 0's. */
+static rukkanei_reply proved_load(size_t n, rukkanei_sessions *sessions, uint32_t table)
+{
+    rukkanei_set_up_reply r = rukkanei_load_caps(*sessions, LENT, caps[0], PLAIN_CAPS, tables[table], PLAIN_CAPS);
+    *sessions = r.sessions;
+    return (rukkanei_reply){r.number, r.value, r.sessions.records[0]};
+}
+
 /* The proved store's run of the same list, by its calls for C: the record of the session that calls goes in, and what comes back takes its place. */
 __attribute__((noinline)) static uint32_t proved_run(size_t n)
 {
     rukkanei_sessions sessions;
     memset(&sessions, 0, sizeof sessions);
-    rukkanei_set_up_reply up = rukkanei_set_up(sessions, LENT);
+    rukkanei_set_up_reply up = own_caps ? rukkanei_set_up_with_caps(sessions, LENT, caps[0], PLAIN_CAPS) : rukkanei_set_up(sessions, LENT);
     sessions = up.sessions;
     for (size_t i = 0; i < count; i++) {
         uint32_t *c = calls + 4 * i;
@@ -145,6 +166,12 @@ __attribute__((noinline)) static uint32_t proved_run(size_t n)
         rukkanei_session *own = &sessions.records[s];
         rukkanei_reply r;
         switch (c[0]) {
+        case LOAD:
+            r = proved_load(n, &sessions, c[2]);
+            break;
+        case WRITE_WITH_CAPS:
+            r = rukkanei_write_with_caps(*own, LENT, caps[0], PLAIN_CAPS, s, c[2], c[3]);
+            break;
         case BEGIN:
             r = rukkanei_begin(*own, LENT, s);
             break;
@@ -225,7 +252,7 @@ static void look_up_workload(uint32_t kind, int known, uint32_t entries, uint32_
         for (uint32_t s = 0; s < sessions; s++) {
             add(BEGIN, s, 0, 0);
             for (uint32_t i = 0; i < entries; i++) {
-                add(kind == WRITE ? READ : WRITE, s, cell_of(s, i, n, sessions, entries + 1), k & 0xff);
+                add(kind == WRITE || kind == WRITE_WITH_CAPS ? READ : WRITE, s, cell_of(s, i, n, sessions, entries + 1), k & 0xff);
             }
             for (uint32_t i = known ? 0 : entries; i < (known ? entries : entries + 1); i++) {
                 add(kind, s, cell_of(s, i, n, sessions, entries + 1), k & 0xff);
@@ -242,12 +269,18 @@ static void workload(const char *name, uint32_t entries, uint32_t n, uint32_t se
         return;
     }
     if (!strncmp(name, "look-up-", 8)) {
-        uint32_t kind = strstr(name, "write") ? WRITE : strstr(name, "hold") ? HOLD : READ;
+        uint32_t kind = strstr(name, "write-caps") ? WRITE_WITH_CAPS : strstr(name, "write") ? WRITE : strstr(name, "hold") ? HOLD : READ;
         look_up_workload(kind, strstr(name, "known") != NULL, entries, n, sessions, cycles);
         return;
     }
+    if (!strcmp(name, "load")) {
+        for (uint32_t i = 0; i < entries * cycles; i++) {
+            add(LOAD, 0, (i + 1) % 2, 0);
+        }
+        return;
+    }
     int held = !strcmp(name, "held");
-    int commit = held || !strcmp(name, "commit");
+    int commit = held || own_caps || !strcmp(name, "commit");
     for (uint32_t k = 0; k < cycles; k++) {
         for (uint32_t s = 0; s < sessions; s++) {
             add(BEGIN, s, 0, 0);
@@ -255,7 +288,7 @@ static void workload(const char *name, uint32_t entries, uint32_t n, uint32_t se
         for (uint32_t i = 0; i < entries; i++) {
             for (uint32_t s = 0; s < sessions; s++) {
                 int write = !strcmp(name, "write") || (commit && i % 2 == 1) || !strcmp(name, "update");
-                add(write ? WRITE : held ? HOLD : READ, s, cell_of(s, i, n, sessions, entries), k & 0xff);
+                add(write && own_caps ? WRITE_WITH_CAPS : write ? WRITE : held ? HOLD : READ, s, cell_of(s, i, n, sessions, entries), k & 0xff);
             }
         }
         for (uint32_t i = 0; !strcmp(name, "written-back") && i < entries; i++) {
@@ -305,12 +338,20 @@ int main(int argc, char **argv)
     for (uint32_t i = 0; i < n; i++) {
         classes[i] = 15;
     }
+    for (uint32_t k = 0; k < PLAIN_CAPS; k++) {
+        tables[0][k] = 100 * (k + 1);
+        tables[1][k] = 100 * (k + 1) + 50;
+    }
+    tables[0][PLAIN_CAPS - 1] = tables[1][PLAIN_CAPS - 1] = 4294967295u;
+    own_caps = strstr(argv[1], "caps") != NULL || !strcmp(argv[1], "load");
     workload(argv[1], (uint32_t)atoi(argv[2]), n, (uint32_t)atoi(argv[4]), (uint32_t)atoi(argv[5]));
     double best[2] = {1e18, 1e18};
     for (int k = 0; k < 5; k++) {
         for (uint32_t i = 0; i < n; i++) {
             values[0][i] = values[1][i] = start_of(i);
         }
+        memcpy(caps[0], tables[0], sizeof caps[0]);
+        memcpy(caps[1], tables[0], sizeof caps[1]);
         double a = now();
         uint32_t p = proved_run(n);
         double b = now();
@@ -319,7 +360,7 @@ int main(int argc, char **argv)
         if (p != q || memcmp(answers[0], answers[1], count * 8) || memcmp(values[0], values[1], sizeof values[0]) ||
             memcmp(readers[0], readers[1], sizeof readers[0]) || memcmp(claimants[0], claimants[1], sizeof claimants[0]) ||
             memcmp(exclusives[0], exclusives[1], sizeof exclusives[0]) || memcmp(logs[0], logs[1], sizeof logs[0]) ||
-            memcmp(targets[0], targets[1], sizeof targets[0])) {
+            memcmp(targets[0], targets[1], sizeof targets[0]) || memcmp(caps[0], caps[1], sizeof caps[0])) {
             printf("DIFFER\n");
             return 1;
         }
@@ -330,7 +371,7 @@ int main(int argc, char **argv)
     for (size_t i = 0; i < count; i++) {
         kinds[answers[0][2 * i] & 255]++;
     }
-    printf("%-13s entries %2s cells %4s sessions %2s calls %7zu ns %6.1f C %6.1f ratio %.2f  [100:%u 101:%u 102:%u 103:%u 104:%u 105:%u 6:%u]\n", argv[1], argv[2], argv[3],
+    printf("%-24s entries %2s cells %4s sessions %2s calls %7zu ns %6.1f C %6.1f ratio %.2f  [100:%u 101:%u 102:%u 103:%u 104:%u 105:%u 6:%u]\n", argv[1], argv[2], argv[3],
            argv[4], count, best[0] / (double)count, best[1] / (double)count, best[0] / best[1], kinds[100], kinds[101], kinds[102], kinds[103],
            kinds[104], kinds[105], kinds[6]);
     return 0;

@@ -1,4 +1,4 @@
-/* Rukkanei for C99 and C++: the call fields and the store of document 01, with Papers 1 to 4 of document 02. One archive has every function of
+/* Rukkanei for C99 and C++: the call fields and the store of document 01, with Papers 1 to 5 of document 02. One archive has every function of
  * this file: link librukkanei.a, which scripts/install puts beside this header. It needs memcpy and memset of the C library at most.
  *
  * Every function answers for every number and every content of what it is lent. None keeps a pointer, allocates, or calls anything of yours.
@@ -33,13 +33,15 @@ extern "C" {
 /* Refusals of the calls, in the order in which they are tested; the first two are of many reads alone. */
 #define RUKKANEI_WRONG_LIST 15     /* list of cells empty or longer than 32 */
 #define RUKKANEI_SHORT_TARGET 13   /* target shorter than the list of cells; of a field: shorter than the field */
-#define RUKKANEI_WRONG_LENGTHS 7   /* n outside 1 to 1,024, classes or locks not n long, logs not 2,048 words */
+#define RUKKANEI_WRONG_LENGTHS 7   /* n outside 1 to 1,024, classes or locks not n long, logs not 2,048 words, a table not of 16 caps */
 #define RUKKANEI_NO_SUCH_SESSION 1 /* session above 15 */
 #define RUKKANEI_DAMAGED_RECORD 9  /* phase above 4; in phases 1 to 4 a count above 32 or an entered cell not below n;
                                       in phases 2 to 4 no cell to publish at or above next */
-#define RUKKANEI_WRONG_PHASE 2     /* the call does not fit the session's phase */
+#define RUKKANEI_WRONG_PHASE 2     /* the call does not fit the session's phase; at a load: a session is not idle */
 #define RUKKANEI_NO_SUCH_CELL 3    /* cell not below n */
+#define RUKKANEI_UNFIT_CAPS 16     /* at set-up and at a load: the first cap is 0, or one is not above the one before it */
 #define RUKKANEI_NO_SUCH_CLASS 8   /* class above 15; at set-up also a value above its cap */
+#define RUKKANEI_ABOVE_NEW_CAP 17  /* at a load: a value above its cap in the new table */
 #define RUKKANEI_ABOVE_CAP 4       /* written value above its cap */
 #define RUKKANEI_NOT_IN_LOG 14     /* peeked cell not in the log */
 #define RUKKANEI_LOG_FULL 5        /* new cell with 32 entries in the log */
@@ -105,7 +107,7 @@ uint8_t rukkanei_field_read(const uint8_t *bytes, size_t bytes_len, size_t place
 uint8_t rukkanei_field_write(uint8_t *target, size_t target_len, uint8_t tag, uint8_t session, uint8_t cell_class, uint16_t cell,
                              uint32_t value, size_t *length);
 
-/* ---- The store: one function for each call of document 01, one for many reads and one for hold ----
+/* ---- The store: one function for each call of document 01, one for many reads, one for hold and three for a table of your own ----
  *
  * The caller lends every buffer and keeps it between calls. With n cells, n from 1 to 1,024:
  *
@@ -115,6 +117,11 @@ uint8_t rukkanei_field_write(uint8_t *target, size_t target_len, uint8_t tag, ui
  *   claimants   n bytes, a session or 16 for nobody
  *   exclusives  n bytes, the writer marks
  *   logs        2,048 words, 128 to a session
+ *   caps        16 words, a table: one cap to a class; lent only to the three calls that name it
+ *
+ * Whoever lends no table has document 01's: 1, 6, 8, 10, 12, 15, 18, 21, 24, 27, 30, 36, 42, 48, 60 and 4294967295. Whoever goes by a table of his own
+ * sets up with it, passes it to every write, and changes it by rukkanei_load_caps alone: then no value in the store and none written is ever above its
+ * cap in that table. A write without a table goes by document 01's, whatever is in force. The other calls read no caps.
  *
  * The caller also keeps sixteen records, one to a session. A call takes the record of the session that calls, by value, and hands it back in the
  * reply; the caller puts it in its place, whatever the number. A record belongs to its session's number: what is promised of a list of calls is of
@@ -132,6 +139,7 @@ uint8_t rukkanei_field_write(uint8_t *target, size_t target_len, uint8_t tag, ui
 #define RUKKANEI_CELLS_MAX 1024
 #define RUKKANEI_LOG_WORDS 2048
 #define RUKKANEI_READ_MANY_MAX 32
+#define RUKKANEI_CAPS 16
 
 /* A session's record: phase (0 idle, 1 running, 2 promoting, 3 publishing, 4 releasing), entry count, next cell. */
 typedef struct {
@@ -168,6 +176,38 @@ typedef struct {
 rukkanei_set_up_reply rukkanei_set_up(rukkanei_sessions sessions, const uint32_t *values, size_t values_len, const uint8_t *classes,
                                       size_t classes_len, uint16_t *readers, size_t readers_len, uint8_t *claimants, size_t claimants_len,
                                       uint8_t *exclusives, size_t exclusives_len, uint32_t *logs, size_t logs_len);
+
+/* Set-up by a table of your own, which is only read: caps from 1 on that rise strictly. What rukkanei_set_up leaves.
+ *
+ * Answers, in the order of the tests:
+ *     7  as of set-up, or the table has not 16 caps
+ *    16  the first cap is 0, or one is not above the one before it
+ *     8  a class above 15, or a value above its cap in this table
+ *   100  set up
+ *
+ * With 7, 16 and 8 all is as before. There is no call field of this call, of a write by a table or of a load. */
+rukkanei_set_up_reply rukkanei_set_up_with_caps(rukkanei_sessions sessions, const uint32_t *values, size_t values_len, const uint8_t *classes,
+                                                size_t classes_len, uint16_t *readers, size_t readers_len, uint8_t *claimants,
+                                                size_t claimants_len, uint8_t *exclusives, size_t exclusives_len, uint32_t *logs,
+                                                size_t logs_len, const uint32_t *caps, size_t caps_len);
+
+/* Puts another table in force while every session is idle: the sixteen words of `new_caps` are copied to `caps`, and nothing else changes. The table in
+ * force need not be one that may be loaded: its length alone is tested.
+ *
+ * Answers, in the order of the tests:
+ *     7  as of set-up, or one of the tables has not 16 caps
+ *     2  a session is not idle: its phase is not 0, a damaged one too
+ *    16  the first new cap is 0, or one is not above the one before it
+ *     8  a class above 15
+ *    17  a value above its cap in the new table
+ *   100  the new table is in force
+ *
+ * With the refusals all is as before, and the old table stays in force. The records come back as they came, with 100 too. The tables do not overlap:
+ * a load of the table in force itself is one of a copy. */
+rukkanei_set_up_reply rukkanei_load_caps(rukkanei_sessions sessions, const uint32_t *values, size_t values_len, const uint8_t *classes,
+                                         size_t classes_len, const uint16_t *readers, size_t readers_len, const uint8_t *claimants,
+                                         size_t claimants_len, const uint8_t *exclusives, size_t exclusives_len, const uint32_t *logs,
+                                         size_t logs_len, uint32_t *caps, size_t caps_len, const uint32_t *new_caps, size_t new_caps_len);
 
 /* An idle session runs, with no entry. 100. */
 rukkanei_reply rukkanei_begin(rukkanei_session record, const uint32_t *values, size_t values_len, const uint8_t *classes, size_t classes_len,
@@ -216,6 +256,12 @@ rukkanei_read_many_reply rukkanei_read_many(rukkanei_session record, const uint3
 rukkanei_reply rukkanei_write(rukkanei_session record, const uint32_t *values, size_t values_len, const uint8_t *classes, size_t classes_len,
                               uint16_t *readers, size_t readers_len, uint8_t *claimants, size_t claimants_len, uint8_t *exclusives,
                               size_t exclusives_len, uint32_t *logs, size_t logs_len, uint8_t session, uint32_t cell, uint32_t written);
+
+/* A write by the table that is lent, one that may not be loaded too: 7 where it has not 16 caps, 8 and 4 by it, and all else as of rukkanei_write. */
+rukkanei_reply rukkanei_write_with_caps(rukkanei_session record, const uint32_t *values, size_t values_len, const uint8_t *classes,
+                                        size_t classes_len, uint16_t *readers, size_t readers_len, uint8_t *claimants, size_t claimants_len,
+                                        uint8_t *exclusives, size_t exclusives_len, uint32_t *logs, size_t logs_len, const uint32_t *caps,
+                                        size_t caps_len, uint8_t session, uint32_t cell, uint32_t written);
 
 /* A running session takes its snapshot: it leaves the readers of every cell but those to publish. 105 where there are none, and it is idle; else 102. */
 rukkanei_reply rukkanei_seal(rukkanei_session record, const uint32_t *values, size_t values_len, const uint8_t *classes, size_t classes_len,

@@ -1,4 +1,4 @@
-/* A plain C store with the steps of document 01 and Papers 1 to 4 of document 02. Every call judges its lent buffers and its session's record anew. */
+/* A plain C store with the steps of document 01 and Papers 1 to 5 of document 02. Every call judges its lent buffers and its session's record anew. */
 #include "plain_store.h"
 
 #include <string.h>
@@ -10,7 +10,8 @@ enum { CELL, SNAPSHOT_VALUE, CURRENT_VALUE, MARKS };
 /* The marks of an entry; bits above them stand for nothing, and go where a mark is set. */
 enum { DIRTY = 1, HELD = 2 };
 
-static const uint32_t caps[16] = {1, 6, 8, 10, 12, 15, 18, 21, 24, 27, 30, 36, 42, 48, 60, 4294967295u};
+/* Document 01's table of caps. */
+static const uint32_t our_caps[PLAIN_CAPS] = {1, 6, 8, 10, 12, 15, 18, 21, 24, 27, 30, 36, 42, 48, 60, 4294967295u};
 
 const char *store_name(void)
 {
@@ -204,11 +205,19 @@ static inline uint32_t enter(const plain_lent *lent, plain_session *record, uint
     return enter_at(lent, record, session, cell, find(entry_at(lent, session, 0), record->count, cell), entry);
 }
 
-plain_answer plain_set_up(const plain_lent *lent, plain_session *sessions)
+/* Whether a table may be put in force: its first cap is not 0, and each other is above the one before it. */
+static inline int passes(const uint32_t *caps)
 {
-    if (!lengths_fit(lent)) {
-        return answer(7);
+    int rises = caps[0] > 0;
+    for (int k = 1; k < PLAIN_CAPS; k++) {
+        rises &= caps[k - 1] < caps[k];
     }
+    return rises;
+}
+
+/* Set-up by this table, after the lengths and the table are judged. */
+static inline plain_answer set_up_by(const plain_lent *lent, plain_session *sessions, const uint32_t *caps)
+{
     size_t n = lent->values_len;
     for (size_t i = 0; i < n; i++) {
         uint8_t class = lent->classes[i];
@@ -223,6 +232,57 @@ plain_answer plain_set_up(const plain_lent *lent, plain_session *sessions)
     memset(lent->claimants, PLAIN_NOBODY, n);
     memset(lent->exclusives, 0, n);
     memset(lent->logs, 0, PLAIN_LOG_WORDS * sizeof lent->logs[0]);
+    return answer(100);
+}
+
+plain_answer plain_set_up(const plain_lent *lent, plain_session *sessions)
+{
+    if (!lengths_fit(lent)) {
+        return answer(7);
+    }
+    return set_up_by(lent, sessions, our_caps);
+}
+
+plain_answer plain_set_up_with_caps(const plain_lent *lent, plain_session *sessions, const uint32_t *caps, size_t caps_len)
+{
+    if (!lengths_fit(lent) || caps_len != PLAIN_CAPS) {
+        return answer(7);
+    }
+    if (!passes(caps)) {
+        return answer(16);
+    }
+    return set_up_by(lent, sessions, caps);
+}
+
+/* One pass over the cells: a class above 15 is told at once, a value above its new cap at the end. */
+plain_answer plain_load_caps(const plain_lent *lent, plain_session *sessions, uint32_t *caps, size_t caps_len, const uint32_t *new_caps,
+                             size_t new_caps_len)
+{
+    if (!lengths_fit(lent) || caps_len != PLAIN_CAPS || new_caps_len != PLAIN_CAPS) {
+        return answer(7);
+    }
+    uint8_t phases = IDLE;
+    for (int s = 0; s < PLAIN_SESSIONS; s++) {
+        phases |= sessions[s].phase;
+    }
+    if (phases != IDLE) {
+        return answer(2);
+    }
+    if (!passes(new_caps)) {
+        return answer(16);
+    }
+    int above = 0;
+    for (size_t i = 0; i < lent->values_len; i++) {
+        uint8_t class = lent->classes[i];
+        if (class > PLAIN_MAX_CLASS) {
+            return answer(8);
+        }
+        above |= lent->values[i] > new_caps[class];
+    }
+    if (above) {
+        return answer(17);
+    }
+    memcpy(caps, new_caps, PLAIN_CAPS * sizeof caps[0]);
     return answer(100);
 }
 
@@ -315,7 +375,9 @@ plain_many_answer plain_read_many(const plain_lent *lent, plain_session *session
     return many_answer(101, (uint32_t)cells_len);
 }
 
-plain_answer plain_write(const plain_lent *lent, plain_session *sessions, uint8_t session, uint32_t cell, uint32_t value)
+/* A write by this table, which is read and not judged. */
+static inline plain_answer write_by(const plain_lent *lent, plain_session *sessions, const uint32_t *caps, uint8_t session, uint32_t cell,
+                                    uint32_t value)
 {
     uint32_t refused = admit_cell(lent, sessions, session, cell);
     if (refused) {
@@ -336,6 +398,20 @@ plain_answer plain_write(const plain_lent *lent, plain_session *sessions, uint8_
     entry[CURRENT_VALUE] = value;
     entry[MARKS] = DIRTY | (entry[MARKS] & HELD);
     return answer(100);
+}
+
+plain_answer plain_write(const plain_lent *lent, plain_session *sessions, uint8_t session, uint32_t cell, uint32_t value)
+{
+    return write_by(lent, sessions, our_caps, session, cell, value);
+}
+
+plain_answer plain_write_with_caps(const plain_lent *lent, plain_session *sessions, const uint32_t *caps, size_t caps_len, uint8_t session,
+                                   uint32_t cell, uint32_t value)
+{
+    if (caps_len != PLAIN_CAPS) {
+        return answer(7);
+    }
+    return write_by(lent, sessions, caps, session, cell, value);
 }
 
 plain_answer plain_seal(const plain_lent *lent, plain_session *sessions, uint8_t session)

@@ -1,4 +1,4 @@
-/* A plain C store with the steps of document 01 and Papers 1 to 4 of document 02, on lent buffers: the baseline of the proved store's speed. */
+/* A plain C store with the steps of document 01 and Papers 1 to 5 of document 02, on lent buffers: the baseline of the proved store's speed. */
 #ifndef PLAIN_STORE_H
 #define PLAIN_STORE_H
 
@@ -14,7 +14,8 @@ enum {
     PLAIN_LOG_WORDS = 2048,
     PLAIN_MAX_LIST = 32,
     PLAIN_NOBODY = 16,
-    PLAIN_MAX_CLASS = 15
+    PLAIN_MAX_CLASS = 15,
+    PLAIN_CAPS = 16
 };
 
 /* A session's record. */
@@ -63,12 +64,20 @@ const char *store_name(void);
 
 /* Every call takes the sixteen records behind `sessions`. */
 plain_answer plain_set_up(const plain_lent *lent, plain_session *sessions);
+/* The same by the caller's own table of caps. */
+plain_answer plain_set_up_with_caps(const plain_lent *lent, plain_session *sessions, const uint32_t *caps, size_t caps_len);
+/* Puts a new table of caps in force. */
+plain_answer plain_load_caps(const plain_lent *lent, plain_session *sessions, uint32_t *caps, size_t caps_len, const uint32_t *new_caps,
+                             size_t new_caps_len);
 plain_answer plain_begin(const plain_lent *lent, plain_session *sessions, uint8_t session);
 plain_answer plain_read(const plain_lent *lent, plain_session *sessions, uint8_t session, uint32_t cell);
 plain_answer plain_hold(const plain_lent *lent, plain_session *sessions, uint8_t session, uint32_t cell);
 plain_many_answer plain_read_many(const plain_lent *lent, plain_session *sessions, uint8_t session, const uint32_t *cells, size_t cells_len,
                                   uint32_t *target, size_t target_len);
 plain_answer plain_write(const plain_lent *lent, plain_session *sessions, uint8_t session, uint32_t cell, uint32_t value);
+/* The same by the table of caps in force. */
+plain_answer plain_write_with_caps(const plain_lent *lent, plain_session *sessions, const uint32_t *caps, size_t caps_len, uint8_t session,
+                                   uint32_t cell, uint32_t value);
 plain_answer plain_seal(const plain_lent *lent, plain_session *sessions, uint8_t session);
 plain_answer plain_advance(const plain_lent *lent, plain_session *sessions, uint8_t session);
 plain_answer plain_abandon(const plain_lent *lent, plain_session *sessions, uint8_t session);

@@ -1,6 +1,7 @@
 /* A start for a maker's firmware. First the fields: it writes a begin, two reads, a write and a seal into one buffer, reads them back and prints
  * them, and shows what each refusal looks like. Then the store: it carries out one transaction, call for call as fields bring them. Then a tablet's
- * round: many cells read in one call. Last two desks that move shares crosswise, and hold what they read. Build it with
+ * round: many cells read in one call. Then two desks that move shares crosswise, and hold what they read. Last a maker with caps of his own. Build it
+ * with
  *
  *   bash scripts/install PREFIX
  *   export PKG_CONFIG_PATH=PREFIX/lib/pkgconfig
@@ -248,6 +249,52 @@ static int move_shares(void) {
     return wrong;
 }
 
+/* Other docks, other caps: the maker's own table, one cap to a class. Class 2 has 12. */
+static uint32_t caps[RUKKANEI_CAPS] = {4, 8, 12, 16, 20, 24, 28, 32, 36, 40, 44, 48, 52, 56, 60, 64};
+
+/* Writes a cell by the maker's own table, keeps the record, and prints the answer. */
+static int write_by_table(uint8_t session, uint32_t cell, uint32_t value, uint32_t wanted) {
+    rukkanei_reply reply = rukkanei_write_with_caps(sessions.records[session], LENT, caps, RUKKANEI_CAPS, session, cell, value);
+    sessions.records[session] = reply.session;
+    printf("answer %" PRIu32 ": write session %u cell %" PRIu32 " value %" PRIu32 " by the own table\n", reply.number, session, cell, value);
+    return expect(reply.number, wanted);
+}
+
+/* Loads another table and prints the answer with the cap of class 2 that is then in force. */
+static int load(const uint32_t *new_caps, uint32_t wanted) {
+    rukkanei_set_up_reply reply = rukkanei_load_caps(sessions, LENT, caps, RUKKANEI_CAPS, new_caps, RUKKANEI_CAPS);
+    sessions = reply.sessions;
+    printf("answer %" PRIu32 ": load; class 2 has %" PRIu32 "\n", reply.number, caps[2]);
+    return expect(reply.number, wanted);
+}
+
+/* The store is set up by the own table, and session 6 writes by it. At night, with every session idle, another table is loaded: one that leaves a value
+ * above its new cap is refused, and the old one stays. */
+static int own_caps(void) {
+    static const uint32_t narrow[RUKKANEI_CAPS] = {1, 2, 11, 16, 20, 24, 28, 32, 36, 40, 44, 48, 52, 56, 60, 64};
+    static const uint32_t wide[RUKKANEI_CAPS] = {4, 8, 15, 16, 20, 24, 28, 32, 36, 40, 44, 48, 52, 56, 60, 64};
+    rukkanei_set_up_reply up = rukkanei_set_up_with_caps(sessions, LENT, caps, RUKKANEI_CAPS);
+    int wrong = expect(up.number, RUKKANEI_DONE);
+    sessions = up.sessions;
+
+    wrong += carried((struct call){RUKKANEI_TAG_BEGIN, 6, 0, 0, 0}, RUKKANEI_DONE);
+    wrong += write_by_table(6, 0, 13, RUKKANEI_ABOVE_CAP);
+    wrong += write_by_table(6, 0, 12, RUKKANEI_DONE);
+    wrong += load(wide, RUKKANEI_WRONG_PHASE);
+    wrong += carried((struct call){RUKKANEI_TAG_SEAL, 6, 0, 0, 0}, RUKKANEI_SEALED);
+    wrong += carried((struct call){RUKKANEI_TAG_ADVANCE, 6, 0, 0, 0}, RUKKANEI_MOVED);
+    wrong += carried((struct call){RUKKANEI_TAG_ADVANCE, 6, 0, 0, 0}, RUKKANEI_MOVED);
+    wrong += carried((struct call){RUKKANEI_TAG_ADVANCE, 6, 0, 0, 0}, RUKKANEI_COMMITTED);
+    printf("cell 0: %" PRIu32 "\n", values[0]);
+
+    wrong += load(narrow, RUKKANEI_ABOVE_NEW_CAP);
+    wrong += load(wide, RUKKANEI_DONE);
+    wrong += carried((struct call){RUKKANEI_TAG_BEGIN, 6, 0, 0, 0}, RUKKANEI_DONE);
+    wrong += write_by_table(6, 0, 15, RUKKANEI_DONE);
+    wrong += carried((struct call){RUKKANEI_TAG_ABANDON, 6, 0, 0, 0}, RUKKANEI_DONE);
+    return wrong;
+}
+
 int main(void) {
     static const struct call calls[] = {
         {RUKKANEI_TAG_BEGIN, 2, 0, 0, 0}, {RUKKANEI_TAG_READ, 2, 0, 5, 0},  {RUKKANEI_TAG_READ, 2, 0, 300, 0},
@@ -289,5 +336,6 @@ int main(void) {
     wrong += transact();
     wrong += draw_round();
     wrong += move_shares();
+    wrong += own_caps();
     return wrong != 0;
 }

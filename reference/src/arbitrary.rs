@@ -1,17 +1,21 @@
 //! Lent buffers with arbitrary contents, single calls on them, and arbitrary fields: what no replay can reach.
 
+use crate::caps;
 use crate::field::Field;
+use crate::loads::LOAD;
 use crate::logs::{asked_cell, log, Focus};
 use crate::many_reads::{MANY, MANY_AFTER_A_VALUE, MANY_AND_A_CELL_AGAIN};
 use crate::random::Random;
-use crate::store::{Buffers, Call, Session, CAPS, LOG_WORDS, MAX_ENTRIES, NOBODY, RUNNING, SESSIONS};
+use crate::store::{Buffers, Call, Session, Table, IDLE, LOG_WORDS, MAX_ENTRIES, NOBODY, OUR_CAPS, RUNNING, SESSIONS};
 use crate::written_back;
 use std::collections::BTreeMap;
 use std::fmt;
 
 /// The numbers that each call must be seen to answer over a run on arbitrary buffers.
-pub const REQUIRED: [(&str, &[u32]); 18] = [
+pub const REQUIRED: [(&str, &[u32]); 21] = [
     ("set-up", &[7, 8, 100]),
+    ("set-up with caps", &[7, 8, 16, 100]),
+    (LOAD, &[2, 7, 8, 16, 17, 100]),
     ("begin", &[1, 2, 7, 9, 100]),
     ("read", &[1, 2, 3, 5, 6, 7, 9, 101]),
     ("hold", &[1, 2, 3, 5, 6, 7, 9, 101]),
@@ -19,6 +23,7 @@ pub const REQUIRED: [(&str, &[u32]); 18] = [
     (MANY_AFTER_A_VALUE, &[3, 5, 6]),
     (MANY_AND_A_CELL_AGAIN, &[3, 5, 6, 101]),
     ("write", &[1, 2, 3, 4, 5, 6, 7, 8, 9, 100]),
+    ("write with caps", &[1, 2, 3, 4, 5, 6, 7, 8, 9, 100]),
     ("seal", &[1, 2, 7, 9, 102, 105]),
     ("advance", &[1, 2, 6, 7, 9, 103, 104, 105]),
     ("abandon", &[1, 2, 7, 9, 100]),
@@ -68,11 +73,13 @@ impl fmt::Display for Numbers {
 
 pub fn kind(call: Call) -> &'static str {
     match call {
-        Call::SetUp => "set-up",
+        Call::SetUp { table: Table::Ours } => "set-up",
+        Call::SetUp { table: Table::InForce } => "set-up with caps",
         Call::Begin { .. } => "begin",
         Call::Read { .. } => "read",
         Call::Hold { .. } => "hold",
-        Call::Write { .. } => "write",
+        Call::Write { table: Table::Ours, .. } => "write",
+        Call::Write { table: Table::InForce, .. } => "write with caps",
         Call::Seal { .. } => "seal",
         Call::Advance { .. } => "advance",
         Call::Abandon { .. } => "abandon",
@@ -92,6 +99,7 @@ pub fn buffers(random: &Random) -> (Buffers, Focus) {
         exclusives: (0..n).map(|_| random.pick(&[0, 0, 1, 1, random.byte()])).collect(),
         classes,
         logs: Vec::with_capacity(LOG_WORDS),
+        caps: Vec::new(),
         sessions: [Session::default(); SESSIONS],
     };
     let focus = Focus { session: random.below(SESSIONS) as u8, cell: random.below(n) as u32 };
@@ -103,10 +111,38 @@ pub fn buffers(random: &Random) -> (Buffers, Focus) {
         log(random, &buffers.values, record.count as usize, focus.cell, &mut buffers.logs);
         buffers.sessions[session] = record;
     }
+    if random.percent(14) {
+        rest(random, &mut buffers);
+    }
+    buffers.caps = caps::any(random, &caps::floors(&buffers), 4);
     if random.percent(5) {
         misfit(random, &mut buffers);
     }
     (buffers, focus)
+}
+
+/// Makes every session idle, with any count and next; or all but one, whose phase is often a damaged one, or two, whose phases are equal or add up
+/// to 256.
+fn rest(random: &Random, buffers: &mut Buffers) {
+    buffers.sessions.iter_mut().for_each(|record| record.phase = IDLE);
+    let phase = random.pick(&[1, 2, 3, 4, 5, 7, 16, 128, 255, random.byte()]);
+    let busy = random.weighted(&[65, 27, 8]);
+    if busy > 0 {
+        let session = random.pick(&[0, SESSIONS - 1, random.below(SESSIONS)]);
+        buffers.sessions[session].phase = phase;
+    }
+    if busy > 1 {
+        buffers.sessions[random.below(SESSIONS)].phase = random.pick(&[phase, phase.wrapping_neg()]);
+    }
+}
+
+/// Of a hundred calls on these buffers, the loads: many where at most two sessions are not idle.
+pub fn loads(buffers: &Buffers) -> usize {
+    let busy = buffers.sessions.iter().filter(|record| record.phase != IDLE).count();
+    if busy > 2 {
+        return 1;
+    }
+    50
 }
 
 fn class(random: &Random, tame: bool) -> u8 {
@@ -117,7 +153,7 @@ fn class(random: &Random, tame: bool) -> u8 {
 }
 
 fn value(random: &Random, class: u8, tame: bool) -> u32 {
-    let cap = CAPS.get(class as usize).copied().unwrap_or(0);
+    let cap = OUR_CAPS.get(class as usize).copied().unwrap_or(0);
     if tame {
         return random.pick(&[0, cap, random.word() % 2]);
     }
@@ -198,17 +234,19 @@ pub fn call(random: &Random, buffers: &Buffers, focus: Focus) -> Call {
     let session = session(random, own);
     let n = buffers.values.len();
     let cell = if random.percent(5) { stray_cell(random, n) } else { asked_cell(random, buffers, focus) };
-    let cap = buffers.classes.get(cell as usize).and_then(|class| CAPS.get(*class as usize)).copied().unwrap_or(0);
+    let table = random.pick(&[Table::Ours, Table::InForce]);
+    let caps = buffers.caps_by(table).unwrap_or(OUR_CAPS);
+    let cap = buffers.classes.get(cell as usize).and_then(|class| caps.get(*class as usize)).copied().unwrap_or(0);
     let found = buffers.found(own, cell).unwrap_or(0);
     let value = random.pick(&[0, 1, cap, cap.wrapping_add(1), random.word(), found]);
     let running = buffers.sessions[own as usize].phase == RUNNING;
-    let weights = if running { [1, 4, 20, 20, 25, 9, 5, 3, 13] } else { [2, 8, 13, 13, 14, 8, 30, 4, 8] };
+    let weights = if running { [2, 4, 18, 18, 29, 9, 5, 3, 12] } else { [6, 8, 12, 12, 14, 8, 29, 4, 7] };
     match random.weighted(&weights) {
-        0 => Call::SetUp,
+        0 => Call::SetUp { table },
         1 => Call::Begin { session },
         2 => Call::Read { session, cell },
         3 => Call::Hold { session, cell },
-        4 => Call::Write { session, cell, value },
+        4 => Call::Write { session, cell, value, table },
         5 => Call::Seal { session },
         6 => Call::Advance { session },
         7 => Call::Abandon { session },

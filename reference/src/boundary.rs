@@ -13,11 +13,13 @@ pub trait Replayer {
     fn replay(&mut self, input: &[u8]) -> io::Result<Vec<u8>>;
 }
 
-/// A store: one call, or many reads in one, on lent buffers, which it changes in place. `Part` is a peek's part, and `Empty` for other calls.
+/// A store: one call, many reads in one, or a load, on lent buffers, which it changes in place. `Part` is a peek's part, and `Empty` for other calls.
+/// The new table of a load must stay as it is.
 pub trait Store {
     fn name(&self) -> String;
     fn call(&mut self, buffers: &mut Buffers, call: Call) -> (Answer, Part);
     fn read_many(&mut self, buffers: &mut Buffers, many: &mut ManyReads) -> ManyAnswer;
+    fn load_caps(&mut self, buffers: &mut Buffers, new_caps: &mut [u32]) -> Answer;
 }
 
 /// A field reader and writer.
@@ -57,6 +59,10 @@ impl Store for Reference {
     fn read_many(&mut self, buffers: &mut Buffers, many: &mut ManyReads) -> ManyAnswer {
         let cells = many.cells.clone();
         buffers.read_many(many.session, &cells, many.target())
+    }
+
+    fn load_caps(&mut self, buffers: &mut Buffers, new_caps: &mut [u32]) -> Answer {
+        buffers.load_caps(new_caps)
     }
 }
 

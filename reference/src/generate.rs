@@ -4,7 +4,7 @@
 use crate::field::{self, append, Field};
 use crate::random::Random;
 use crate::replay::{call_of, MAX_INPUT};
-use crate::store::{Buffers, CAPS, IDLE, RUNNING};
+use crate::store::{Buffers, IDLE, OUR_CAPS, RUNNING};
 
 /// How the calls of one file or run are chosen.
 pub struct Shape {
@@ -16,6 +16,8 @@ pub struct Shape {
     pub back: usize,
     /// Of a hundred reads, those that hold.
     pub held: usize,
+    /// Go by a table of the caller's own, with loads between; a replay has none.
+    pub own_caps: bool,
 }
 
 /// The input of one case.
@@ -76,6 +78,7 @@ pub fn set_up(random: &Random, bytes: &mut Vec<u8>) -> (Shape, Buffers) {
         sweeping,
         back: random.pick(&[2, 10, 40, 85]),
         held: random.pick(&[0, 10, 40, 80]),
+        own_caps: false,
     };
     (shape, buffers)
 }
@@ -86,7 +89,7 @@ fn starting_cells(random: &Random, n: usize, bytes: &mut Vec<u8>) -> Buffers {
     let mut classes = Vec::new();
     for _ in 0..n {
         let class = if random.percent(60) { random.pick(&[2, 15]) } else { random.below(16) as u8 };
-        let value = value_within(random, class);
+        let value = value_within(random, OUR_CAPS[class as usize]);
         append(bytes, &Field { tag: field::CELL, class, value, ..Field::default() });
         values.push(value);
         classes.push(class);
@@ -96,8 +99,7 @@ fn starting_cells(random: &Random, n: usize, bytes: &mut Vec<u8>) -> Buffers {
     buffers
 }
 
-fn value_within(random: &Random, class: u8) -> u32 {
-    let cap = CAPS[class as usize];
+pub fn value_within(random: &Random, cap: u32) -> u32 {
     match random.weighted(&[70, 15, 15]) {
         0 => random.word() % cap.clamp(1, 100),
         1 => cap,
@@ -153,13 +155,13 @@ pub fn choose_cell(random: &Random, shape: &Shape, buffers: &Buffers, session: u
 }
 
 fn choose_value(random: &Random, buffers: &Buffers, cell: u16) -> u32 {
-    let class = match buffers.classes.get(cell as usize) {
-        Some(class) => *class,
+    let cap = match buffers.classes.get(cell as usize) {
+        Some(class) => buffers.caps[*class as usize],
         None => return random.word(),
     };
     match random.weighted(&[86, 8, 6]) {
-        0 => value_within(random, class),
-        1 => CAPS[class as usize].saturating_add(1),
+        0 => value_within(random, cap),
+        1 => cap.saturating_add(1),
         _ => random.word(),
     }
 }
@@ -179,12 +181,12 @@ fn refused_cells(random: &Random) -> Vec<u8> {
     let bad = random.below(n);
     for cell in 0..n {
         let mut class = random.below(16) as u8;
-        let mut value = value_within(random, class);
+        let mut value = value_within(random, OUR_CAPS[class as usize]);
         if cell == bad && random.percent(50) {
             class = random.pick(&[16, 17, 255, 16 + (random.byte() % 240)]);
         } else if cell == bad {
             class = random.below(15) as u8;
-            value = CAPS[class as usize] + 1;
+            value = OUR_CAPS[class as usize] + 1;
         }
         append(&mut bytes, &Field { tag: field::CELL, class, value, ..Field::default() });
     }

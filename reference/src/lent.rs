@@ -1,5 +1,5 @@
 //! What the caller lends, the session records, the calls and their answers: document 01, 'What the caller lends' and the numbers, and
-//! document 02, Papers 1 and 4.
+//! document 02, Papers 1, 4 and 5.
 
 /// The number of sessions.
 pub const SESSIONS: usize = 16;
@@ -19,9 +19,14 @@ pub const MAX_LIST: usize = 32;
 pub const NOBODY: u8 = 16;
 /// The highest class.
 pub const MAX_CLASS: u8 = 15;
+/// The caps of a table, one for each class.
+pub const TABLE_CAPS: usize = 16;
 
-/// The cap of each class.
-pub const CAPS: [u32; 16] = [1, 6, 8, 10, 12, 15, 18, 21, 24, 27, 30, 36, 42, 48, 60, 4_294_967_295];
+/// The caps of a table.
+pub type Caps = [u32; TABLE_CAPS];
+
+/// Document 01's table: the cap of each class for whoever lends none.
+pub const OUR_CAPS: Caps = [1, 6, 8, 10, 12, 15, 18, 21, 24, 27, 30, 36, 42, 48, 60, 4_294_967_295];
 
 pub const IDLE: u8 = 0;
 pub const RUNNING: u8 = 1;
@@ -41,6 +46,8 @@ pub const DAMAGED: u32 = 9;
 pub const SHORT_TARGET: u32 = 13;
 pub const NOT_IN_LOG: u32 = 14;
 pub const WRONG_LIST: u32 = 15;
+pub const UNFIT_CAPS: u32 = 16;
+pub const ABOVE_NEW_CAP: u32 = 17;
 
 pub const DONE: u32 = 100;
 pub const VALUE: u32 = 101;
@@ -79,14 +86,21 @@ pub enum Part {
     Log(usize),
 }
 
+/// The table that a call goes by: document 01's, or the one in force, which is lent.
+#[derive(Clone, Copy, Debug, PartialEq, Eq)]
+pub enum Table {
+    Ours,
+    InForce,
+}
+
 /// One call on the store.
 #[derive(Clone, Copy, Debug, PartialEq, Eq)]
 pub enum Call {
-    SetUp,
+    SetUp { table: Table },
     Begin { session: u8 },
     Read { session: u8, cell: u32 },
     Hold { session: u8, cell: u32 },
-    Write { session: u8, cell: u32, value: u32 },
+    Write { session: u8, cell: u32, value: u32, table: Table },
     Seal { session: u8 },
     Advance { session: u8 },
     Abandon { session: u8 },
@@ -97,7 +111,7 @@ impl Call {
     /// The session that calls, but at set-up.
     pub fn session(self) -> Option<u8> {
         match self {
-            Call::SetUp => None,
+            Call::SetUp { .. } => None,
             Call::Begin { session } | Call::Seal { session } | Call::Advance { session } | Call::Abandon { session } => {
                 Some(session)
             }
@@ -131,11 +145,14 @@ pub struct Buffers {
     pub claimants: Vec<u8>,
     pub exclusives: Vec<u8>,
     pub logs: Vec<u32>,
+    /// The table of caps in force.
+    pub caps: Vec<u32>,
     pub sessions: [Session; SESSIONS],
 }
 
 impl Buffers {
-    /// Buffers of the right lengths for these values and classes, with empty logs and idle sessions; set-up is still due.
+    /// Buffers of the right lengths for these values and classes, with empty logs, idle sessions and document 01's caps in force; set-up is still
+    /// due.
     pub fn new(values: Vec<u32>, classes: Vec<u8>) -> Buffers {
         let n = values.len();
         Buffers {
@@ -145,8 +162,22 @@ impl Buffers {
             claimants: vec![NOBODY; n],
             exclusives: vec![0; n],
             logs: vec![0; LOG_WORDS],
+            caps: OUR_CAPS.to_vec(),
             sessions: [Session::default(); SESSIONS],
         }
+    }
+
+    /// The caps that a call by this table goes by, where they are 16.
+    pub fn caps_by(&self, table: Table) -> Option<Caps> {
+        match table {
+            Table::Ours => Some(OUR_CAPS),
+            Table::InForce => self.caps.as_slice().try_into().ok(),
+        }
+    }
+
+    /// The cells, each with its class and its value.
+    pub fn cells(&self) -> impl Iterator<Item = (u8, u32)> + '_ {
+        self.classes.iter().copied().zip(self.values.iter().copied())
     }
 
     /// The value that a session's first entry for a cell found, or else the store's: what a write of it puts back. Of any contents and lengths.

@@ -3,7 +3,7 @@
 
 use crate::arbitrary::Numbers;
 use crate::store::{
-    Buffers, Call, ManyAnswer, ManyReads, CAPS, DAMAGED, ENTRY_WORDS, MAX_ENTRIES, MAX_LIST, RUNNING, SESSIONS, SESSION_WORDS,
+    Buffers, Call, ManyAnswer, ManyReads, Table, DAMAGED, ENTRY_WORDS, MAX_ENTRIES, MAX_LIST, RUNNING, SESSIONS, SESSION_WORDS,
     VALUE,
 };
 use std::collections::BTreeMap;
@@ -11,21 +11,22 @@ use std::fmt;
 use std::ops::Range;
 
 /// The calls that look a cell up. Many reads count by the first cell of their list.
-const CALLS: [&str; 5] = ["read", "many reads", "write", "peek", "hold"];
+const CALLS: [&str; 6] = ["read", "many reads", "write", "peek", "hold", "write with caps"];
 const READ: usize = 0;
 const MANY: usize = 1;
 const WRITE: usize = 2;
 const PEEK: usize = 3;
 const HOLD: usize = 4;
+const WRITE_WITH_CAPS: usize = 5;
 
 /// The numbers that each of the calls must be seen to answer.
-type Answers = [&'static [u32]; 5];
-const FOUND: Answers = [&[101], &[101], &[100], &[100], &[101]];
-const NEW: Answers = [&[6, 101], &[6, 101], &[6, 100], &[14], &[6, 101]];
-const FULL: Answers = [&[5], &[5], &[5], &[14], &[5]];
-const NEW_OR_FULL: Answers = [&[5, 6, 101], &[5, 6, 101], &[5, 6, 100], &[14], &[5, 6, 101]];
-const NEW_OR_FOUND: Answers = [&[6, 101], &[6, 101], &[6, 100], &[14, 100], &[6, 101]];
-const REFUSED: Answers = [&[DAMAGED]; 5];
+type Answers = [&'static [u32]; 6];
+const FOUND: Answers = [&[101], &[101], &[100], &[100], &[101], &[100]];
+const NEW: Answers = [&[6, 101], &[6, 101], &[6, 100], &[14], &[6, 101], &[6, 100]];
+const FULL: Answers = [&[5], &[5], &[5], &[14], &[5], &[5]];
+const NEW_OR_FULL: Answers = [&[5, 6, 101], &[5, 6, 101], &[5, 6, 100], &[14], &[5, 6, 101], &[5, 6, 100]];
+const NEW_OR_FOUND: Answers = [&[6, 101], &[6, 101], &[6, 100], &[14, 100], &[6, 101], &[6, 100]];
+const REFUSED: Answers = [&[DAMAGED]; 6];
 
 /// A kind of look-ups: its name, whether one is of it, and its answers.
 type Kind = (&'static str, fn(&LookUp) -> bool, Answers);
@@ -115,7 +116,7 @@ impl LookUp<'_> {
     /// Whether one of the cell's later entries would give another answer, or another word to change or to hand back.
     fn later_differs(&self) -> bool {
         let differs = |first: usize, later: usize| match self.call {
-            WRITE | HOLD => true,
+            WRITE | WRITE_WITH_CAPS | HOLD => true,
             PEEK => (self.word(self.session, first, 3) | self.word(self.session, later, 3)) % 2 == 1,
             _ => self.word(self.session, first, 2) != self.word(self.session, later, 2),
         };
@@ -136,10 +137,10 @@ pub fn of_call(buffers: &Buffers, call: Call) -> Option<Met> {
     match call {
         Call::Read { session, cell } => met(buffers, READ, session, cell),
         Call::Hold { session, cell } => met(buffers, HOLD, session, cell),
-        Call::Write { session, cell, value } => {
+        Call::Write { session, cell, value, table } => {
             let class = *buffers.classes.get(cell as usize)?;
-            CAPS.get(class as usize).filter(|cap| value <= **cap)?;
-            met(buffers, WRITE, session, cell)
+            buffers.caps_by(table)?.get(class as usize).filter(|cap| value <= **cap)?;
+            met(buffers, if table == Table::Ours { WRITE } else { WRITE_WITH_CAPS }, session, cell)
         }
         Call::Peek { session, cell } => met(buffers, PEEK, session, cell),
         _ => None,
@@ -175,9 +176,9 @@ fn met(buffers: &Buffers, call: usize, session: u8, cell: u32) -> Option<Met> {
 /// How often each call met each kind with each answer, each entry count and each place found.
 #[derive(Default)]
 pub struct LookUps {
-    kinds: [Numbers; 5],
-    counts: [BTreeMap<usize, u64>; 5],
-    places: [BTreeMap<usize, u64>; 5],
+    kinds: [Numbers; 6],
+    counts: [BTreeMap<usize, u64>; 6],
+    places: [BTreeMap<usize, u64>; 6],
 }
 
 impl LookUps {

@@ -5,7 +5,7 @@ use std::ffi::{c_char, CStr};
 
 use crate::boundary::{located, Fields, Store};
 use crate::field::{Field, Reading};
-use crate::store::{Answer, Buffers, Call, ManyAnswer, ManyReads, Part, Session, SESSIONS};
+use crate::store::{Answer, Buffers, Call, ManyAnswer, ManyReads, Part, Session, Table, SESSIONS};
 
 /// The layout of `plain_lent`: each run with its length.
 #[repr(C)]
@@ -77,6 +77,7 @@ extern "C" {
     fn store_name() -> *const c_char;
     fn fields_name() -> *const c_char;
     fn plain_set_up(lent: *const Lent, sessions: *mut Record) -> CAnswer;
+    fn plain_set_up_with_caps(lent: *const Lent, sessions: *mut Record, caps: *const u32, caps_len: usize) -> CAnswer;
     fn plain_begin(lent: *const Lent, sessions: *mut Record, session: u8) -> CAnswer;
     fn plain_read(lent: *const Lent, sessions: *mut Record, session: u8, cell: u32) -> CAnswer;
     fn plain_hold(lent: *const Lent, sessions: *mut Record, session: u8, cell: u32) -> CAnswer;
@@ -90,6 +91,23 @@ extern "C" {
         target_len: usize,
     ) -> CManyAnswer;
     fn plain_write(lent: *const Lent, sessions: *mut Record, session: u8, cell: u32, value: u32) -> CAnswer;
+    fn plain_write_with_caps(
+        lent: *const Lent,
+        sessions: *mut Record,
+        caps: *const u32,
+        caps_len: usize,
+        session: u8,
+        cell: u32,
+        value: u32,
+    ) -> CAnswer;
+    fn plain_load_caps(
+        lent: *const Lent,
+        sessions: *mut Record,
+        caps: *mut u32,
+        caps_len: usize,
+        new_caps: *const u32,
+        new_caps_len: usize,
+    ) -> CAnswer;
     fn plain_seal(lent: *const Lent, sessions: *mut Record, session: u8) -> CAnswer;
     fn plain_advance(lent: *const Lent, sessions: *mut Record, session: u8) -> CAnswer;
     fn plain_abandon(lent: *const Lent, sessions: *mut Record, session: u8) -> CAnswer;
@@ -142,16 +160,21 @@ impl Store for Plain {
     fn call(&mut self, buffers: &mut Buffers, call: Call) -> (Answer, Part) {
         let mut records = records(buffers);
         let lent = lent(buffers);
+        let (caps, caps_len) = (buffers.caps.as_mut_ptr(), buffers.caps.len());
         let all = records.as_mut_ptr();
         let mut part = Part::Empty;
         // SAFETY: the pointers and lengths are those of live vectors, and the sixteen records are behind `all`.
         let answer = unsafe {
             match call {
-                Call::SetUp => plain_set_up(&lent, all),
+                Call::SetUp { table: Table::Ours } => plain_set_up(&lent, all),
+                Call::SetUp { table: Table::InForce } => plain_set_up_with_caps(&lent, all, caps, caps_len),
                 Call::Begin { session } => plain_begin(&lent, all, session),
                 Call::Read { session, cell } => plain_read(&lent, all, session, cell),
                 Call::Hold { session, cell } => plain_hold(&lent, all, session, cell),
-                Call::Write { session, cell, value } => plain_write(&lent, all, session, cell, value),
+                Call::Write { session, cell, value, table: Table::Ours } => plain_write(&lent, all, session, cell, value),
+                Call::Write { session, cell, value, table: Table::InForce } => {
+                    plain_write_with_caps(&lent, all, caps, caps_len, session, cell, value)
+                }
                 Call::Seal { session } => plain_seal(&lent, all, session),
                 Call::Advance { session } => plain_advance(&lent, all, session),
                 Call::Abandon { session } => plain_abandon(&lent, all, session),
@@ -178,6 +201,17 @@ impl Store for Plain {
         };
         buffers.sessions = sessions(records);
         ManyAnswer { number: answer.number, count: answer.count }
+    }
+
+    fn load_caps(&mut self, buffers: &mut Buffers, new_caps: &mut [u32]) -> Answer {
+        let mut records = records(buffers);
+        let lent = lent(buffers);
+        let (caps, caps_len) = (buffers.caps.as_mut_ptr(), buffers.caps.len());
+        // SAFETY: the pointers and lengths are those of live vectors and of the slice, and the sixteen records are behind the first.
+        let answer =
+            unsafe { plain_load_caps(&lent, records.as_mut_ptr(), caps, caps_len, new_caps.as_mut_ptr(), new_caps.len()) };
+        buffers.sessions = sessions(records);
+        Answer { number: answer.number, value: answer.value }
     }
 }
 

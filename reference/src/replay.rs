@@ -1,7 +1,7 @@
 //! The replay: document 01, 'Call fields', from input bytes to the text it prints.
 
 use crate::field::{self, Field};
-use crate::store::{Answer, Buffers, Call, VALUE};
+use crate::store::{Answer, Buffers, Call, Table, VALUE};
 use std::fmt::Write;
 
 /// The most bytes of input.
@@ -15,7 +15,7 @@ pub fn call_of(field: &Field) -> Option<Call> {
         field::BEGIN => Some(Call::Begin { session }),
         field::READ => Some(Call::Read { session, cell }),
         field::HOLD => Some(Call::Hold { session, cell }),
-        field::WRITE => Some(Call::Write { session, cell, value: field.value }),
+        field::WRITE => Some(Call::Write { session, cell, value: field.value, table: Table::Ours }),
         field::SEAL => Some(Call::Seal { session }),
         field::ADVANCE => Some(Call::Advance { session }),
         field::ABANDON => Some(Call::Abandon { session }),

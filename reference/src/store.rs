@@ -1,6 +1,7 @@
-//! The store's calls: document 01, 'The steps' and 'When a call is turned down', and document 02, Papers 1 to 4.
+//! The store's calls: document 01, 'The steps' and 'When a call is turned down', and document 02, Papers 1 to 5.
 //! Every call is total: it says what happens for any contents and any lengths of the lent buffers.
 
+use crate::caps::passes;
 pub use crate::lent::*;
 
 /// One log entry and the index of its first word in all the logs.
@@ -67,11 +68,11 @@ impl Buffers {
     /// Any call by its name. A peek's number is that of its twin.
     pub fn call(&mut self, call: Call) -> Answer {
         match call {
-            Call::SetUp => self.set_up(),
+            Call::SetUp { table } => self.set_up_by(table),
             Call::Begin { session } => self.begin(session),
             Call::Read { session, cell } => self.read(session, cell),
             Call::Hold { session, cell } => self.hold(session, cell),
-            Call::Write { session, cell, value } => self.write(session, cell, value),
+            Call::Write { session, cell, value, table } => self.write(session, cell, value, table),
             Call::Seal { session } => self.seal(session),
             Call::Advance { session } => self.advance(session),
             Call::Abandon { session } => self.abandon(session),
@@ -79,14 +80,21 @@ impl Buffers {
         }
     }
 
+    /// Set-up by document 01's caps.
     pub fn set_up(&mut self) -> Answer {
-        if !self.lengths_fit() {
-            return refuse(WRONG_LENGTH);
+        self.set_up_by(Table::Ours)
+    }
+
+    pub fn set_up_by(&mut self, table: Table) -> Answer {
+        let caps = match self.caps_by(table) {
+            Some(caps) if self.lengths_fit() => caps,
+            _ => return refuse(WRONG_LENGTH),
+        };
+        if !passes(&caps) {
+            return refuse(UNFIT_CAPS);
         }
-        for (value, class) in self.values.iter().zip(&self.classes) {
-            if *class > MAX_CLASS || *value > CAPS[*class as usize] {
-                return refuse(BAD_CELL);
-            }
+        if self.cells().any(|(class, value)| class > MAX_CLASS || value > caps[class as usize]) {
+            return refuse(BAD_CELL);
         }
         self.sessions = [Session::default(); SESSIONS];
         self.readers.fill(0);
@@ -94,6 +102,32 @@ impl Buffers {
         self.exclusives.fill(0);
         self.logs.fill(0);
         good(DONE)
+    }
+
+    /// Load: puts a new table of caps in force while every session is idle. Cells are judged by class first, all of them, and then by value.
+    pub fn load_caps(&mut self, new_caps: &[u32]) -> Answer {
+        if !self.lengths_fit() || self.caps.len() != TABLE_CAPS || new_caps.len() != TABLE_CAPS {
+            return refuse(WRONG_LENGTH);
+        }
+        if !self.all_idle() {
+            return refuse(WRONG_PHASE);
+        }
+        if !passes(new_caps) {
+            return refuse(UNFIT_CAPS);
+        }
+        if self.classes.iter().any(|class| *class > MAX_CLASS) {
+            return refuse(BAD_CELL);
+        }
+        if self.cells().any(|(class, value)| value > new_caps[class as usize]) {
+            return refuse(ABOVE_NEW_CAP);
+        }
+        self.caps = new_caps.to_vec();
+        good(DONE)
+    }
+
+    /// Whether every session's phase is 0; a damaged one is not.
+    pub fn all_idle(&self) -> bool {
+        self.sessions.iter().all(|record| record.phase == IDLE)
     }
 
     pub fn begin(&mut self, session: u8) -> Answer {
@@ -149,7 +183,12 @@ impl Buffers {
         last
     }
 
-    pub fn write(&mut self, session: u8, cell: u32, value: u32) -> Answer {
+    /// A write by this table, which need not pass.
+    pub fn write(&mut self, session: u8, cell: u32, value: u32, table: Table) -> Answer {
+        let caps = match self.caps_by(table) {
+            Some(caps) => caps,
+            None => return refuse(WRONG_LENGTH),
+        };
         let entries = match self.judge(session, &[RUNNING]) {
             Ok(entries) => entries,
             Err(number) => return refuse(number),
@@ -161,7 +200,7 @@ impl Buffers {
         if class > MAX_CLASS {
             return refuse(BAD_CELL);
         }
-        if value > CAPS[class as usize] {
+        if value > caps[class as usize] {
             return refuse(OVER_CAP);
         }
         match self.enter(session, cell, &entries) {
@@ -265,7 +304,7 @@ impl Buffers {
         }
     }
 
-    fn lengths_fit(&self) -> bool {
+    pub fn lengths_fit(&self) -> bool {
         let n = self.values.len();
         (1..=MAX_CELLS).contains(&n)
             && self.classes.len() == n

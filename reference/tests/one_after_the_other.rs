@@ -1,11 +1,12 @@
-//! Document 02, Paper 4, and document 01, 'What demand 3 counts', by running: over random runs with many reads among the calls each committed
-//! transaction read its snapshot, no span was cut, and where every committed one that wrote or held also wrote or held what it read, all are as if
-//! run one after the other.
+//! Document 02, Papers 4 and 5, and document 01, 'What demand 3 counts', by running: over random runs with many reads and loads among the calls each
+//! committed transaction read its snapshot, no span was cut, and where every committed one that wrote or held also wrote or held what it read, all are
+//! as if run one after the other. Every value is within its cap in the table in force.
 
 use reference::generate::Shape;
 use reference::random::Random;
 use reference::runs::{self, Next};
 use reference::store::{Answer, Buffers, Call, ManyAnswer, ManyReads, PUBLISHING, SESSIONS};
+use reference::within_caps::{above_its_cap, got, is_within};
 use std::collections::{BTreeMap, BTreeSet};
 
 const SEED: u64 = 1;
@@ -57,6 +58,8 @@ impl Transaction {
 struct History {
     all: Vec<Transaction>,
     open: [Option<usize>; SESSIONS],
+    /// The loads answered 100. They are of no session, and have a place.
+    loads: usize,
 }
 
 impl History {
@@ -136,12 +139,20 @@ fn random_run(random: &Random, covering: bool) -> (Vec<u32>, History, Buffers) {
             Next::One(call) => {
                 let answer = buffers.call(call);
                 history.add(place, call, answer, &values);
+                assert!(
+                    got(call, answer).map_or(true, |(cell, value)| is_within(&buffers, cell, value)),
+                    "a value above its cap"
+                );
             }
+            Next::Load(new_caps) => history.loads += (buffers.load_caps(&new_caps).number == 100) as usize,
             Next::Many(mut many) => {
                 let answer = buffers.read_many(many.session, &many.cells, &mut many.words[..many.lent]);
                 history.add_many(&many, answer, &values);
+                let mut got = many.cells.iter().zip(&many.words).take(answer.count as usize);
+                assert!(got.all(|(cell, value)| is_within(&buffers, *cell, *value)), "a value above its cap");
             }
         }
+        assert_eq!(above_its_cap(&buffers), None, "after the call at {}", place);
     }
     (start, history, buffers)
 }
@@ -194,6 +205,7 @@ fn one_after_the_other(start: &[u32], committed: &[(usize, &Transaction)]) -> (b
 fn committed_transactions_that_hold_what_they_read_run_one_after_the_other() {
     let (mut covered, mut skewed, mut held, mut settled) = (0, 0, 0, 0);
     let (mut many_covered, mut many_skewed) = (0, 0);
+    let (mut loads, mut loaded_and_covered, mut loaded_and_skewed) = (0, 0, 0);
     for case in 0..RUNS {
         let random = Random::for_case(SEED, case);
         let covering = case % 2 == 0;
@@ -204,13 +216,16 @@ fn committed_transactions_that_hold_what_they_read_run_one_after_the_other() {
         let count = |wanted: fn(&Transaction) -> bool| committed.iter().filter(|(_, transaction)| wanted(transaction)).count();
         let uncovered = count(|transaction| !transaction.covers_its_reads());
         assert!(!covering || uncovered == 0, "seed {}, case {}: who reads by holds alone covers its reads", SEED, case);
+        loads += history.loads;
         if uncovered == 0 {
             assert!(same, "seed {}, case {}", SEED, case);
             covered += 1;
+            loaded_and_covered += (history.loads > 0) as usize;
             held += count(|transaction| !transaction.held.is_empty());
             many_covered += count(|transaction| transaction.many);
         } else if !same {
             skewed += 1;
+            loaded_and_skewed += (history.loads > 0) as usize;
             many_skewed += count(|transaction| transaction.many);
         }
         if buffers.sessions.iter().all(|record| record.phase != PUBLISHING) {
@@ -220,6 +235,8 @@ fn committed_transactions_that_hold_what_they_read_run_one_after_the_other() {
     }
     println!("seed {}: {} runs covered, {} skewed, {} settled", SEED, covered, skewed, settled);
     println!("commits covered that hold {}, with many reads {}; skewed with many reads {}", held, many_covered, many_skewed);
+    println!("loads {}; runs with loads: {} covered, {} skewed", loads, loaded_and_covered, loaded_and_skewed);
+    assert!(loads >= 10_000 && loaded_and_covered >= 2_000 && loaded_and_skewed >= 20);
     assert!(covered >= 10_000 && held >= 10_000 && skewed >= 100 && settled >= 10_000);
     assert!(many_covered >= 1_000 && many_skewed >= 100);
 }

@@ -1,6 +1,7 @@
 /* Calls on buffers that no run leaves, through the calls for C: numbers 9 and 14, duplicate entries, any fourth word, any claimant byte, any record,
-   values written back, holds; and many reads, numbers 15 and 13 among them. Two cells of class 2, values 3 and 5; the session is passed the record; session 0's log begins with the
-   words. Prints a line for each row, with the record that came back. */
+   values written back, holds; many reads, numbers 15 and 13 among them; and tables of caps, numbers 16 and 17 among them. Two cells of class 2, values 3
+   and 5, where a row has none of its own; the session is passed the record; session 0's log begins with the words. Prints a line for each row, with the
+   record that came back. */
 #include "rukkanei.h"
 
 #include <stdio.h>
@@ -131,9 +132,102 @@ static const many_row many_rows[] = {
     {{"33 cells and a short target for phase 9", 9, 255, 65535, {0}, {0, 0}, {16, 16}, 'm', 0, 0, 0}, 33, {0}, 1},
 };
 
+/* Tables of caps: four that pass, and those that do not, each for one reason. The last has 17 caps; of each other the first 15 may be passed too. */
+#define TABLE_WORDS 17
+static const uint32_t tens[TABLE_WORDS] = {10, 20, 30, 40, 50, 60, 70, 80, 90, 100, 110, 120, 130, 140, 150, 160};
+static const uint32_t ours[TABLE_WORDS] = {1, 6, 8, 10, 12, 15, 18, 21, 24, 27, 30, 36, 42, 48, 60, 4294967295u};
+static const uint32_t least[TABLE_WORDS] = {1, 2, 3, 4, 5, 6, 7, 8, 9, 10, 11, 12, 13, 14, 15, 16};
+static const uint32_t most[TABLE_WORDS] = {4294967280u, 4294967281u, 4294967282u, 4294967283u, 4294967284u, 4294967285u, 4294967286u, 4294967287u,
+                                           4294967288u, 4294967289u, 4294967290u, 4294967291u, 4294967292u, 4294967293u, 4294967294u, 4294967295u};
+static const uint32_t first_0[TABLE_WORDS] = {0, 20, 30, 40, 50, 60, 70, 80, 90, 100, 110, 120, 130, 140, 150, 160};
+static const uint32_t equal[TABLE_WORDS] = {10, 20, 30, 40, 50, 60, 70, 80, 80, 100, 110, 120, 130, 140, 150, 160};
+static const uint32_t first_equal[TABLE_WORDS] = {10, 10, 30, 40, 50, 60, 70, 80, 90, 100, 110, 120, 130, 140, 150, 160};
+static const uint32_t last_equal[TABLE_WORDS] = {10, 20, 30, 40, 50, 60, 70, 80, 90, 100, 110, 120, 130, 140, 150, 150};
+static const uint32_t last_falls[TABLE_WORDS] = {10, 20, 30, 40, 50, 60, 70, 80, 90, 100, 110, 120, 130, 140, 150, 149};
+static const uint32_t falling[TABLE_WORDS] = {160, 150, 140, 130, 120, 110, 100, 90, 80, 70, 60, 50, 40, 30, 20, 10};
+static const uint32_t seventeen[TABLE_WORDS] = {10, 20, 30, 40, 50, 60, 70, 80, 90, 100, 110, 120, 130, 140, 150, 160, 170};
+
+/* A call with tables: 'u' is set-up, 'w' a write and 'l' a load. The record is of this session, and the others are idle. */
+typedef struct {
+    row lent;
+    uint8_t classes[2];
+    uint32_t values[2];
+    const uint32_t *caps;
+    size_t caps_len;
+    const uint32_t *new_caps;
+    size_t new_caps_len;
+} caps_row;
+
+static const caps_row caps_rows[] = {
+    {{"set up by a table", 9, 200, 7, {7, 7, 7, 7}, {3, 3}, {1, 2}, 'u', 4, 0, 0}, {0, 15}, {10, 160}, tens, 16, tens, 16},
+    {{"set up by the lowest table", 0, 0, 0, {0}, {0, 0}, {16, 16}, 'u', 0, 0, 0}, {0, 15}, {1, 16}, least, 16, tens, 16},
+    {{"set up by the highest table", 0, 0, 0, {0}, {0, 0}, {16, 16}, 'u', 0, 0, 0}, {0, 15}, {4294967280u, 4294967295u}, most, 16, tens, 16},
+    {{"a value above its cap in the table", 9, 200, 7, {7, 7, 7, 7}, {3, 3}, {1, 2}, 'u', 4, 0, 0}, {0, 15}, {11, 160}, tens, 16, tens, 16},
+    {{"a last value above its cap in the table", 9, 200, 7, {7, 7, 7, 7}, {3, 3}, {1, 2}, 'u', 4, 0, 0}, {0, 15}, {10, 161}, tens, 16, tens, 16},
+    {{"a value within our cap and above the table's", 0, 0, 0, {0}, {0, 0}, {16, 16}, 'u', 0, 0, 0}, {2, 2}, {3, 5}, least, 16, tens, 16},
+    {{"set up with a class of 16", 0, 0, 0, {0}, {0, 0}, {16, 16}, 'u', 0, 0, 0}, {2, 16}, {3, 5}, tens, 16, tens, 16},
+    {{"set up with a first cap of 0", 0, 0, 0, {0}, {0, 0}, {16, 16}, 'u', 0, 0, 0}, {2, 2}, {3, 5}, first_0, 16, tens, 16},
+    {{"set up with two equal caps", 9, 200, 7, {7, 7, 7, 7}, {3, 3}, {1, 2}, 'u', 4, 0, 0}, {2, 2}, {3, 5}, equal, 16, tens, 16},
+    {{"set up with an equal last cap", 0, 0, 0, {0}, {0, 0}, {16, 16}, 'u', 0, 0, 0}, {2, 2}, {3, 5}, last_equal, 16, tens, 16},
+    {{"set up with a lower last cap", 0, 0, 0, {0}, {0, 0}, {16, 16}, 'u', 0, 0, 0}, {2, 2}, {3, 5}, last_falls, 16, tens, 16},
+    {{"set up with an unfit table and a class of 16", 0, 0, 0, {0}, {0, 0}, {16, 16}, 'u', 0, 0, 0}, {16, 2}, {99, 5}, first_equal, 16, tens, 16},
+    {{"set up with 15 caps", 0, 0, 0, {0}, {0, 0}, {16, 16}, 'u', 0, 0, 0}, {2, 2}, {3, 5}, tens, 15, tens, 16},
+    {{"set up with 17 caps", 0, 0, 0, {0}, {0, 0}, {16, 16}, 'u', 0, 0, 0}, {2, 2}, {3, 5}, seventeen, 17, tens, 16},
+    {{"set up with 15 unfit caps and a class of 16", 9, 200, 7, {7, 7, 7, 7}, {3, 3}, {1, 2}, 'u', 4, 0, 0}, {16, 2}, {3, 5}, first_0, 15, tens, 16},
+    {{"a write at its cap", 1, 0, 0, {0}, {0, 0}, {16, 16}, 'w', 0, 1, 30}, {2, 2}, {3, 5}, tens, 16, tens, 16},
+    {{"a write above its cap", 1, 0, 0, {0}, {0, 0}, {16, 16}, 'w', 0, 1, 31}, {2, 2}, {3, 5}, tens, 16, tens, 16},
+    {{"a write within our cap and above the table's", 1, 0, 0, {0}, {0, 0}, {16, 16}, 'w', 0, 1, 4}, {2, 2}, {3, 5}, least, 16, tens, 16},
+    {{"a write to a held cell by a table", 1, 1, 0, {0, 4, 6, 4294967294u}, {1, 0}, {3, 16}, 'w', 0, 0, 30}, {2, 2}, {3, 5}, tens, 16, tens, 16},
+    {{"a write of the highest value", 1, 0, 0, {0}, {0, 0}, {16, 16}, 'w', 15, 0, 4294967295u}, {15, 2}, {3, 5}, most, 16, tens, 16},
+    {{"a write by a falling table", 1, 0, 0, {0}, {0, 0}, {16, 16}, 'w', 0, 0, 160}, {0, 15}, {3, 5}, falling, 16, tens, 16},
+    {{"a write above its cap in a falling table", 1, 0, 0, {0}, {0, 0}, {16, 16}, 'w', 0, 1, 11}, {0, 15}, {3, 5}, falling, 16, tens, 16},
+    {{"a write of 0 by a first cap of 0", 1, 0, 0, {0}, {0, 0}, {16, 16}, 'w', 0, 0, 0}, {0, 15}, {3, 5}, first_0, 16, tens, 16},
+    {{"a write of 1 by a first cap of 0", 1, 0, 0, {0}, {0, 0}, {16, 16}, 'w', 0, 0, 1}, {0, 15}, {3, 5}, first_0, 16, tens, 16},
+    {{"a write to a cell of class 16 by a table", 1, 0, 0, {0}, {0, 0}, {16, 16}, 'w', 0, 1, 1}, {2, 16}, {3, 5}, tens, 16, tens, 16},
+    {{"a write to a cell of class 255 by an unfit table", 1, 0, 0, {0}, {0, 0}, {16, 200}, 'w', 0, 1, 1}, {2, 255}, {3, 5}, equal, 16, tens, 16},
+    {{"a write by 15 caps", 1, 0, 0, {0}, {0, 0}, {16, 16}, 'w', 0, 1, 30}, {2, 2}, {3, 5}, tens, 15, tens, 16},
+    {{"a write by 17 caps", 1, 0, 0, {0}, {0, 0}, {16, 16}, 'w', 0, 1, 30}, {2, 2}, {3, 5}, seventeen, 17, tens, 16},
+    {{"a write of session 16 by 15 caps", 9, 1, 2, {0, 3, 4, 1}, {1, 0}, {16, 16}, 'w', 16, 9, 99}, {2, 2}, {3, 5}, tens, 15, tens, 16},
+    {{"a write of session 16 by a table", 9, 1, 2, {0, 3, 4, 1}, {1, 0}, {16, 16}, 'w', 16, 9, 99}, {2, 2}, {3, 5}, tens, 16, tens, 16},
+    {{"a write of phase 9 by a table", 9, 1, 2, {0, 3, 4, 1}, {1, 0}, {16, 16}, 'w', 0, 9, 99}, {2, 2}, {3, 5}, tens, 16, tens, 16},
+    {{"a write of an idle session by a table", 0, 1, 2, {0, 3, 4, 1}, {1, 0}, {16, 16}, 'w', 0, 9, 99}, {2, 2}, {3, 5}, tens, 16, tens, 16},
+    {{"a write to a cell not below n by a table", 1, 0, 0, {0}, {0, 0}, {16, 16}, 'w', 0, 2, 99}, {2, 2}, {3, 5}, tens, 16, tens, 16},
+    {{"a write above its cap to a claimed cell", 1, 0, 0, {0}, {0, 0}, {16, 200}, 'w', 0, 1, 31}, {2, 2}, {3, 5}, tens, 16, tens, 16},
+    {{"a write by a table to a claimed cell", 1, 1, 0, {0, 3, 4, 1}, {1, 0}, {0, 200}, 'w', 0, 1, 30}, {2, 2}, {3, 5}, tens, 16, tens, 16},
+    {{"a full log and a claimed cell written by a table", 1, 32, 0, {0}, {1, 0}, {16, 3}, 'w', 0, 1, 30}, {2, 2}, {3, 5}, tens, 16, tens, 16},
+    {{"a load", 0, 200, 9, {7, 7, 7, 7}, {3, 3}, {1, 2}, 'l', 4, 0, 0}, {2, 2}, {3, 5}, ours, 16, tens, 16},
+    {{"a load of the table in force", 0, 0, 0, {0}, {0, 0}, {16, 16}, 'l', 0, 0, 0}, {2, 2}, {3, 5}, tens, 16, tens, 16},
+    {{"a load over an unfit table", 0, 0, 0, {0}, {0, 0}, {16, 16}, 'l', 0, 0, 0}, {2, 2}, {3, 5}, falling, 16, most, 16},
+    {{"a load of values at their caps", 0, 0, 0, {0}, {0, 0}, {16, 16}, 'l', 0, 0, 0}, {2, 15}, {3, 16}, tens, 16, least, 16},
+    {{"a load of values above their old caps", 0, 0, 0, {0}, {0, 0}, {16, 16}, 'l', 0, 0, 0}, {0, 1}, {10, 20}, least, 16, tens, 16},
+    {{"a load while session 0 runs", 1, 0, 0, {0}, {0, 0}, {16, 16}, 'l', 0, 0, 0}, {2, 2}, {3, 5}, ours, 16, tens, 16},
+    {{"a load while session 15 releases", 4, 1, 0, {0}, {0, 0}, {16, 16}, 'l', 15, 0, 0}, {2, 2}, {3, 5}, ours, 16, tens, 16},
+    {{"a load while session 7 promotes", 2, 1, 0, {0}, {0, 0}, {16, 16}, 'l', 7, 0, 0}, {2, 2}, {3, 5}, ours, 16, tens, 16},
+    {{"a load with phase 7", 7, 0, 0, {0}, {0, 0}, {16, 16}, 'l', 3, 0, 0}, {2, 2}, {3, 5}, ours, 16, tens, 16},
+    {{"a load with phase 255", 255, 0, 0, {0}, {0, 0}, {16, 16}, 'l', 3, 0, 0}, {2, 2}, {3, 5}, ours, 16, tens, 16},
+    {{"a load of an unfit table with phase 16", 16, 0, 0, {0}, {0, 0}, {16, 16}, 'l', 3, 0, 0}, {2, 16}, {3, 5}, ours, 16, equal, 16},
+    {{"a load with a first cap of 0", 0, 0, 0, {0}, {0, 0}, {16, 16}, 'l', 0, 0, 0}, {2, 2}, {3, 5}, ours, 16, first_0, 16},
+    {{"a load with two equal caps", 0, 0, 0, {0}, {0, 0}, {16, 16}, 'l', 0, 0, 0}, {2, 2}, {3, 5}, ours, 16, equal, 16},
+    {{"a load with an equal second cap", 0, 0, 0, {0}, {0, 0}, {16, 16}, 'l', 0, 0, 0}, {2, 2}, {3, 5}, ours, 16, first_equal, 16},
+    {{"a load with an equal last cap", 0, 0, 0, {0}, {0, 0}, {16, 16}, 'l', 0, 0, 0}, {2, 2}, {3, 5}, ours, 16, last_equal, 16},
+    {{"a load with a lower last cap", 0, 0, 0, {0}, {0, 0}, {16, 16}, 'l', 0, 0, 0}, {2, 2}, {3, 5}, ours, 16, last_falls, 16},
+    {{"a load of an unfit table and a class of 16", 0, 0, 0, {0}, {0, 0}, {16, 16}, 'l', 0, 0, 0}, {16, 2}, {3, 5}, ours, 16, falling, 16},
+    {{"a load with a class of 16", 0, 0, 0, {0}, {0, 0}, {16, 16}, 'l', 0, 0, 0}, {2, 16}, {3, 5}, ours, 16, tens, 16},
+    {{"a load with a first value for 17 and a class of 255", 0, 0, 0, {0}, {0, 0}, {16, 16}, 'l', 0, 0, 0}, {2, 255}, {31, 5}, ours, 16, tens, 16},
+    {{"a load with a first class of 16 and a value for 17", 0, 0, 0, {0}, {0, 0}, {16, 16}, 'l', 0, 0, 0}, {16, 2}, {3, 31}, ours, 16, tens, 16},
+    {{"a load with a first value above its new cap", 0, 200, 9, {7, 7, 7, 7}, {3, 3}, {1, 2}, 'l', 4, 0, 0}, {2, 2}, {31, 5}, most, 16, tens, 16},
+    {{"a load with a last value above its new cap", 0, 200, 9, {7, 7, 7, 7}, {3, 3}, {1, 2}, 'l', 4, 0, 0}, {2, 15}, {3, 161}, ours, 16, tens, 16},
+    {{"a load over 15 caps", 0, 0, 0, {0}, {0, 0}, {16, 16}, 'l', 0, 0, 0}, {2, 2}, {3, 5}, ours, 15, tens, 16},
+    {{"a load over 17 caps", 0, 0, 0, {0}, {0, 0}, {16, 16}, 'l', 0, 0, 0}, {2, 2}, {3, 5}, seventeen, 17, tens, 16},
+    {{"a load of 15 caps", 0, 0, 0, {0}, {0, 0}, {16, 16}, 'l', 0, 0, 0}, {2, 2}, {3, 5}, ours, 16, tens, 15},
+    {{"a load of 17 caps", 0, 0, 0, {0}, {0, 0}, {16, 16}, 'l', 0, 0, 0}, {2, 2}, {3, 5}, ours, 16, seventeen, 17},
+    {{"a load of 15 unfit caps with phase 1", 1, 0, 0, {0}, {0, 0}, {16, 16}, 'l', 0, 0, 0}, {16, 2}, {3, 5}, ours, 16, first_0, 15},
+    {{"a load of 0 caps over 0", 9, 0, 0, {0}, {0, 0}, {16, 16}, 'l', 0, 0, 0}, {2, 2}, {3, 5}, ours, 0, tens, 0},
+};
+
 /* What a row lends. */
 static uint32_t values[2], logs[2048];
-static const uint8_t classes[2] = {2, 2};
+static uint8_t classes[2];
 static uint16_t readers[2];
 static uint8_t claimants[2], exclusives[2];
 #define LENT values, 2, classes, 2, readers, 2, claimants, 2, exclusives, 2, logs, 2048
@@ -142,6 +236,7 @@ static rukkanei_session lend(const row *r)
 {
     values[0] = 3;
     values[1] = 5;
+    classes[0] = classes[1] = 2;
     memset(logs, 0, sizeof logs);
     memcpy(logs, r->words, sizeof r->words);
     memcpy(readers, r->readers, sizeof readers);
@@ -201,6 +296,44 @@ static void try_many(const many_row *m)
     print_after(reply.session);
 }
 
+/* One number for all records. */
+static uint32_t sum_of_records(const rukkanei_sessions *sessions)
+{
+    uint32_t sum = 0;
+    for (size_t s = 0; s < RUKKANEI_SESSIONS; s++) {
+        rukkanei_session record = sessions->records[s];
+        sum = ((sum * 31 + record.phase) * 31 + record.count) * 31 + record.next;
+    }
+    return sum;
+}
+
+/* The tables are lent as copies, each at the front of 17 words: prints both sums of all words, and that of all records where the call takes them. */
+static void try_caps(const caps_row *c)
+{
+    rukkanei_session record = lend(&c->lent);
+    uint32_t caps[TABLE_WORDS], new_caps[TABLE_WORDS];
+    memcpy(values, c->values, sizeof values);
+    memcpy(classes, c->classes, sizeof classes);
+    memcpy(caps, c->caps, sizeof caps);
+    memcpy(new_caps, c->new_caps, sizeof new_caps);
+    rukkanei_reply reply;
+    uint32_t records = 0;
+    if (c->lent.call == 'w') {
+        reply = rukkanei_write_with_caps(record, LENT, caps, c->caps_len, c->lent.session, c->lent.cell, c->lent.written);
+    } else {
+        rukkanei_sessions sessions;
+        memset(&sessions, 0, sizeof sessions);
+        sessions.records[c->lent.session] = record;
+        rukkanei_set_up_reply all = c->lent.call == 'u' ? rukkanei_set_up_with_caps(sessions, LENT, caps, c->caps_len)
+                                                        : rukkanei_load_caps(sessions, LENT, caps, c->caps_len, new_caps, c->new_caps_len);
+        reply = (rukkanei_reply){all.number, all.value, all.sessions.records[c->lent.session]};
+        records = sum_of_records(&all.sessions);
+    }
+    printf("%s: %u %u, caps %u, new caps %u, classes %u %u, records %u", c->lent.name, reply.number, reply.value, sum_of(caps, TABLE_WORDS),
+           sum_of(new_caps, TABLE_WORDS), classes[0], classes[1], records);
+    print_after(reply.session);
+}
+
 int main(void)
 {
     for (size_t i = 0; i < sizeof rows / sizeof rows[0]; i++) {
@@ -208,6 +341,9 @@ int main(void)
     }
     for (size_t i = 0; i < sizeof many_rows / sizeof many_rows[0]; i++) {
         try_many(&many_rows[i]);
+    }
+    for (size_t i = 0; i < sizeof caps_rows / sizeof caps_rows[0]; i++) {
+        try_caps(&caps_rows[i]);
     }
     return 0;
 }

@@ -1,5 +1,6 @@
 /* plain_store.h over the proved calls of include/rukkanei.h, so that whatever runs the plain store can run the proved one. A call is passed its
-   session's record alone, and the one handed back is put in its place: the other fifteen are out of its reach. Links with the archive for C. */
+   session's record alone, and the one handed back is put in its place: the other fifteen are out of its reach. Set-up and load are passed all sixteen.
+   Links with the archive for C. */
 #include "plain_store.h"
 #include "rukkanei.h"
 
@@ -43,13 +44,35 @@ static plain_answer answered(plain_session *sessions, uint8_t session, rukkanei_
     return (plain_answer){put_back(sessions, session, reply.session, reply.number), reply.value};
 }
 
-plain_answer plain_set_up(const plain_lent *lent, plain_session *sessions)
+/* All records, as a call that takes the sixteen is passed them. */
+static rukkanei_sessions records_of(const plain_session *sessions)
 {
     rukkanei_sessions all;
     memcpy(&all, sessions, sizeof all);
-    rukkanei_set_up_reply reply = rukkanei_set_up(all, LENT);
+    return all;
+}
+
+/* Puts the sixteen records handed back in their places. */
+static plain_answer answered_for_all(plain_session *sessions, rukkanei_set_up_reply reply)
+{
     memcpy(sessions, &reply.sessions, sizeof reply.sessions);
     return (plain_answer){reply.number, reply.value};
+}
+
+plain_answer plain_set_up(const plain_lent *lent, plain_session *sessions)
+{
+    return answered_for_all(sessions, rukkanei_set_up(records_of(sessions), LENT));
+}
+
+plain_answer plain_set_up_with_caps(const plain_lent *lent, plain_session *sessions, const uint32_t *caps, size_t caps_len)
+{
+    return answered_for_all(sessions, rukkanei_set_up_with_caps(records_of(sessions), LENT, caps, caps_len));
+}
+
+plain_answer plain_load_caps(const plain_lent *lent, plain_session *sessions, uint32_t *caps, size_t caps_len, const uint32_t *new_caps,
+                             size_t new_caps_len)
+{
+    return answered_for_all(sessions, rukkanei_load_caps(records_of(sessions), LENT, caps, caps_len, new_caps, new_caps_len));
 }
 
 plain_answer plain_begin(const plain_lent *lent, plain_session *sessions, uint8_t session)
@@ -77,6 +100,12 @@ plain_many_answer plain_read_many(const plain_lent *lent, plain_session *session
 plain_answer plain_write(const plain_lent *lent, plain_session *sessions, uint8_t session, uint32_t cell, uint32_t value)
 {
     return answered(sessions, session, rukkanei_write(record_of(sessions, session), LENT, session, cell, value));
+}
+
+plain_answer plain_write_with_caps(const plain_lent *lent, plain_session *sessions, const uint32_t *caps, size_t caps_len, uint8_t session,
+                                   uint32_t cell, uint32_t value)
+{
+    return answered(sessions, session, rukkanei_write_with_caps(record_of(sessions, session), LENT, caps, caps_len, session, cell, value));
 }
 
 plain_answer plain_seal(const plain_lent *lent, plain_session *sessions, uint8_t session)

@@ -1,7 +1,7 @@
 //! What the tests share: a store that is set up, and short names for calls.
 #![allow(dead_code)]
 
-use reference::store::{Answer, Buffers, Call, ManyAnswer, Session};
+use reference::store::{Answer, Buffers, Call, ManyAnswer, Session, Table};
 
 /// A store of these classes and values, set up.
 pub fn store(cells: &[(u8, u32)]) -> Buffers {
@@ -27,7 +27,8 @@ pub fn entered(phase: u8, entries: &[[u32; 4]]) -> Buffers {
 
 /// Asserts that every call of session 3 but set-up gets this refusal and leaves everything as before.
 pub fn all_refused(buffers: &Buffers, refusal: u32) {
-    for call in [begin(3), read(3, 0), hold(3, 0), write(3, 0, 1), seal(3), advance(3), abandon(3), peek(3, 0)] {
+    for call in [begin(3), read(3, 0), hold(3, 0), write(3, 0, 1), write_by(3, 0, 1), seal(3), advance(3), abandon(3), peek(3, 0)]
+    {
         let mut after = buffers.clone();
         assert_eq!(after.call(call), number(refusal), "{:?}", call);
         assert_eq!(&after, buffers, "{:?}", call);
@@ -75,7 +76,12 @@ pub fn hold(session: u8, cell: u32) -> Call {
 }
 
 pub fn write(session: u8, cell: u32, value: u32) -> Call {
-    Call::Write { session, cell, value }
+    Call::Write { session, cell, value, table: Table::Ours }
+}
+
+/// A write by the table of caps in force.
+pub fn write_by(session: u8, cell: u32, value: u32) -> Call {
+    Call::Write { session, cell, value, table: Table::InForce }
 }
 
 pub fn seal(session: u8) -> Call {

@@ -3,12 +3,16 @@
 use crate::{close, stop, Run};
 use reference::arbitrary::{self, Numbers, REQUIRED, REQUIRED_FIELDS};
 use reference::boundary::{Fields, Reference, Store};
+use reference::caps;
 use reference::holds;
+use reference::loads;
 use reference::look_ups::{self, LookUps};
 use reference::many_reads;
+use reference::own_caps::{self, LastLoad};
 use reference::random::Random;
 use reference::runs::{self, Next};
-use reference::store::{Answer, Buffers, Call, ManyAnswer, ManyReads, Part, MAX_LIST, SHORT_TARGET, VALUE, WRONG_LIST};
+use reference::store::{Answer, Buffers, Call, ManyAnswer, ManyReads, Part, Table, MAX_LIST, SHORT_TARGET, VALUE, WRONG_LIST};
+use reference::within_caps;
 use reference::written_back;
 use std::fmt::{self, Debug, Display, Formatter};
 use std::process::exit;
@@ -38,6 +42,8 @@ fn linked_fields() -> Vec<Box<dyn Fields>> {
 struct Counted {
     numbers: Numbers,
     look_ups: LookUps,
+    /// The last load on the same buffers.
+    last_load: LastLoad,
 }
 
 impl Display for Counted {
@@ -55,8 +61,11 @@ pub fn compare_calls(run: &Run) {
     while made < run.count {
         let random = Random::for_case(run.seed, case);
         let (mut buffers, focus) = arbitrary::buffers(&random);
+        counted.last_load = LastLoad::default();
         for _ in 0..random.range(1, 6) {
-            let next = if random.percent(16) {
+            let next = if random.percent(arbitrary::loads(&buffers)) {
+                Next::Load(caps::to_load(&random, &buffers))
+            } else if random.percent(16) {
                 Next::Many(many_reads::on_buffers(&random, &buffers, focus))
             } else {
                 Next::One(arbitrary::call(&random, &buffers, focus))
@@ -70,10 +79,10 @@ pub fn compare_calls(run: &Run) {
         println!("reference beside {}: {} calls on {} sets of buffers", store.name(), made, case - run.from);
     }
     print!("{}", counted);
-    let Counted { numbers, look_ups } = counted;
+    let Counted { numbers, look_ups, .. } = counted;
     let of_papers =
-        [numbers.missing(&written_back::REQUIRED), holds::missing_on_buffers(&numbers), look_ups.missing_on_buffers()];
-    close(run, [numbers.missing(&REQUIRED), of_papers.concat()].concat());
+        [numbers.missing(&written_back::REQUIRED), holds::missing_on_buffers(&numbers), own_caps::missing_on_buffers(&numbers)];
+    close(run, [numbers.missing(&REQUIRED), of_papers.concat(), look_ups.missing_on_buffers()].concat());
 }
 
 /// `count` runs, each from a store that is set up.
@@ -84,9 +93,13 @@ pub fn compare_runs(run: &Run) {
     for case in run.cases() {
         let random = Random::for_case(run.seed, case);
         let (shape, mut buffers) = runs::start(&random);
+        counted.last_load = LastLoad::default();
+        let table = if shape.own_caps { Table::InForce } else { Table::Ours };
+        let mut next = Next::One(Call::SetUp { table });
         for _ in 0..random.range(20, 150) {
-            let next = runs::next(&random, &shape, &buffers);
-            compare_next(&mut stores, case, &mut buffers, next, &mut counted);
+            let got = compare_next(&mut stores, case, &mut buffers, next, &mut counted);
+            keeps_caps(case, &got, &buffers);
+            next = runs::next(&random, &shape, &buffers);
             made += 1;
         }
     }
@@ -94,29 +107,55 @@ pub fn compare_runs(run: &Run) {
         println!("reference beside {}: {} calls in {} runs", store.name(), made, run.count);
     }
     print!("{}", counted);
-    let Counted { numbers, look_ups } = counted;
-    let of_papers = [numbers.missing(&written_back::REQUIRED), holds::missing_in_runs(&numbers), look_ups.missing_in_runs()];
-    close(run, [numbers.missing(&runs::REQUIRED), of_papers.concat()].concat());
+    let Counted { numbers, look_ups, .. } = counted;
+    let of_papers =
+        [numbers.missing(&written_back::REQUIRED), holds::missing_in_runs(&numbers), own_caps::missing_in_runs(&numbers)];
+    close(run, [numbers.missing(&runs::REQUIRED), of_papers.concat(), look_ups.missing_in_runs()].concat());
 }
 
-/// One call or many reads on every store, counted.
-fn compare_next(stores: &mut [Box<dyn Store>], case: u64, buffers: &mut Buffers, next: Next, counted: &mut Counted) {
-    let Counted { numbers, look_ups } = counted;
+/// What was got of the store, as cells with their values.
+type Got = Vec<(u32, u32)>;
+
+/// One call, many reads or a load on every store, counted.
+fn compare_next(stores: &mut [Box<dyn Store>], case: u64, buffers: &mut Buffers, next: Next, counted: &mut Counted) -> Got {
+    let Counted { numbers, look_ups, last_load } = counted;
     match next {
         Next::One(call) => {
-            let kinds = [written_back::kinds(buffers, call), holds::kinds(buffers, call)].concat();
+            let of_papers = [written_back::kinds(buffers, call), holds::kinds(buffers, call)];
+            let kinds = [of_papers.concat(), own_caps::kinds(buffers, last_load, call)].concat();
             let look_up = look_ups::of_call(buffers, call);
-            let number = compare_call(stores, case, buffers, call).number;
-            numbers.add(arbitrary::kind(call), number);
-            kinds.into_iter().for_each(|kind| numbers.add(kind, number));
-            look_ups.add(look_up, number);
+            let answer = compare_call(stores, case, buffers, call);
+            numbers.add(arbitrary::kind(call), answer.number);
+            kinds.into_iter().for_each(|kind| numbers.add(kind, answer.number));
+            look_ups.add(look_up, answer.number);
+            within_caps::got(call, answer).into_iter().collect()
         }
         Next::Many(many) => {
             let look_up = look_ups::of_many(buffers, &many);
-            let answer = compare_many(stores, case, buffers, &many);
+            let (answer, words) = compare_many(stores, case, buffers, &many);
             many_reads::count(numbers, &many, answer);
             look_ups.add_many(look_up, answer);
+            many.cells.iter().copied().zip(words).take(answer.count as usize).collect()
         }
+        Next::Load(new_caps) => {
+            let (old, kinds) = (buffers.caps.clone(), loads::kinds(buffers, &new_caps));
+            let number = compare_load(stores, case, buffers, &new_caps).number;
+            numbers.add(loads::LOAD, number);
+            kinds.into_iter().for_each(|kind| numbers.add(kind, number));
+            *last_load = LastLoad::new(old, &new_caps, number);
+            Vec::new()
+        }
+    }
+}
+
+/// In a run every value is within its cap in force: those of the store, of the logs' written entries, and those got.
+fn keeps_caps(case: u64, got: &[(u32, u32)], buffers: &Buffers) {
+    let told = got.iter().find(|(cell, value)| !within_caps::is_within(buffers, *cell, *value));
+    let told =
+        told.map(|(cell, _)| format!("a value above its cap was got of cell {}", cell)).or(within_caps::above_its_cap(buffers));
+    if let Some(told) = told {
+        println!("case {}: {}", case, told);
+        exit(1);
     }
 }
 
@@ -140,7 +179,7 @@ fn compare_call(stores: &mut [Box<dyn Store>], case: u64, buffers: &mut Buffers,
 
 /// Many reads on every store: the answer, every lent word, record and word of the target afterwards, and the word after it. Each store's own
 /// single reads must give the same.
-fn compare_many(stores: &mut [Box<dyn Store>], case: u64, buffers: &mut Buffers, many: &ManyReads) -> ManyAnswer {
+fn compare_many(stores: &mut [Box<dyn Store>], case: u64, buffers: &mut Buffers, many: &ManyReads) -> (ManyAnswer, Vec<u32>) {
     let before = buffers.clone();
     let mut after = many.clone();
     let expected = Reference.read_many(buffers, &mut after);
@@ -153,10 +192,28 @@ fn compare_many(stores: &mut [Box<dyn Store>], case: u64, buffers: &mut Buffers,
                 let name = if single { store.name() + ", single reads" } else { store.name() };
                 println!("case {} differs on {:?} with {} cells", case, many, before.values.len());
                 show("before", &"", &before, Some(many.session));
-                show("reference", &(expected, after.words), buffers, Some(many.session));
+                show("reference", &(expected, &after.words), buffers, Some(many.session));
                 show(&name, &(got, words.words), &other, Some(many.session));
                 exit(1);
             }
+        }
+    }
+    (expected, after.words)
+}
+
+/// A load on every store: the answer, every lent word, both tables and all records afterwards.
+fn compare_load(stores: &mut [Box<dyn Store>], case: u64, buffers: &mut Buffers, new_caps: &[u32]) -> Answer {
+    let before = buffers.clone();
+    let expected = Reference.load_caps(buffers, &mut new_caps.to_vec());
+    for store in stores {
+        let (mut other, mut table) = (before.clone(), new_caps.to_vec());
+        let got = store.load_caps(&mut other, &mut table);
+        if got != expected || other != *buffers || table != new_caps {
+            println!("case {} differs on a load of {:?} with {} cells", case, new_caps, before.values.len());
+            show("before", &"", &before, None);
+            show("reference", &expected, buffers, None);
+            show(&store.name(), &(got, table), &other, None);
+            exit(1);
         }
     }
     expected
@@ -181,9 +238,9 @@ fn single_reads(store: &mut dyn Store, buffers: &mut Buffers, many: &mut ManyRea
     ManyAnswer { number: VALUE, count: length as u32 }
 }
 
-/// Prints the session's record and log, and the locks and values of the cells in it, as far as they are there.
+/// Prints the table in force, the session's record and log, and the locks and values of the cells in it, as far as they are there.
 fn show(name: &str, outcome: &dyn Debug, buffers: &Buffers, session: Option<u8>) {
-    println!("{}: {:?}", name, outcome);
+    println!("{}: {:?}\n  caps {:?}", name, outcome, buffers.caps);
     let session = match session {
         Some(session) => session,
         None => return,
