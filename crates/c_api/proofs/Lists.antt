@@ -13,6 +13,7 @@ use Rattle.model.specs.Isolation as list
 use Rattle.model.specs.Effects.{number, valueOf}
 use Rattle.model.specs.Step.{Outcome, outcome, effect, setUpEffect}
 use Rattle.model.specs.Told.{foundBy}
+use Rattle.model.proofs.Caps.{within-caps-of-code}
 use Rattle.model.proofs.CommitOrder.{in-commit-order-of-code}
 use Rattle.model.proofs.Demand3.{ran-many, demand3-of-code}
 use Rattle.c_api.specs.InNumbers.{NumberOutcome, replied, inNumbers, Heard, heard, Called, none, then, thenMany, thenLoad, Demand3InNumbers}
@@ -69,5 +70,6 @@ demand3-in-numbers φ σ v e actions h τ r =
       events = i .events;
       told = i .told;
       meets = demand3-of-code φ σ (setUpEffect φ .answer) (answered 100 v σ (setUpEffect φ) e) (sym (ap (λ (s : NumberOutcome). s .number) e)) actions (i .events) τ (i .ran);
+      caps = within-caps-of-code φ σ (setUpEffect φ .answer) (answered 100 v σ (setUpEffect φ) e) (sym (ap (λ (s : NumberOutcome). s .number) e)) actions;
       order = in-commit-order-of-code φ σ (setUpEffect φ .answer) (answered 100 v σ (setUpEffect φ) e) (sym (ap (λ (s : NumberOutcome). s .number) e)) actions (i .events) τ (i .ran);
     }

@@ -1,13 +1,14 @@
 -- What a call tells a caller in C: document 01's number and value, the record of its session, and the buffers that it leaves.
 use Prim.Native.Nat.{ℕ, _%_}
 use mathlib.Core.Path.{_≡_}
-use mathlib.Core.List.{List, [], _∷_, map}
+use mathlib.Core.List.{List, [], _∷_, map, reverse}
 use lib.ListN.{length, take}
 use denote.Ref.{now}
 use Rattle.model.specs.Buffers.{Limits, ours, Store, sessionAt, withSession}
 use Rattle.model.specs.Slices.{Slice, Number}
 use Rattle.model.specs.History.{Action, oneCall, manyReads, loadCaps, Event}
 use Rattle.model.specs.History as items
+use Rattle.model.specs.Caps.{WithinCaps}
 use Rattle.model.specs.CommitOrder.{InCommitOrder}
 use Rattle.model.specs.Isolation.{Demand3OfCode}
 use Rattle.model.specs.Effects.{number, valueOf, Part, storeWord, logWord, noWord}
@@ -121,9 +122,10 @@ pub data Called (σ : Store) : List Action → List Heard → Store → Type 0 w
   thenLoad : {ks : List Action} {h : List Heard} {x : Store} → Called σ ks h x → (T : List ℕ) (n v : ℕ) (y : Store) → replied n v y ≡ inNumbers (loadEffect T x)
       → Called σ (loadCaps T ∷ ks) (calledLoad T n ∷ h) y
 
--- what C was told of a list of actions in their order is what it hears of events of which demand 3 holds, and the theorem of the order
+-- what C was told of a list of actions in their order is what it hears of events of which demand 3 holds, the theorem of the order, and the caps
 pub record Demand3InNumbers (σ : Store) (actions : List Action) (h : List Heard) (τ : Store) : Type 0 where
   pub events : List Event
   pub told : h ≡ map heard events
   pub meets : Demand3OfCode σ actions events τ
   pub order : InCommitOrder (σ .lent .values) (items.told [] events) τ
+  pub caps : WithinCaps σ (reverse actions)

@@ -27,7 +27,7 @@ use Rattle.model.specs.Readers.{otherReaders}
 use Rattle.model.specs.Search.{some?, find}
 use Rattle.model.specs.Plans.{guard, known, claimed, readSlot, holdSlot, writeSlot, writeCapped, sealTarget, promotePlan, advanceTarget, plan, admit}
 use Rattle.model.specs.Effects.{number, isLeft, handled, change, changeLogs, recordOf, after, releaseAnswer, answer, logOf}
-use Rattle.model.specs.Step.{sessionOf, planOf, step, answerOf, setUpAnswer, setUp}
+use Rattle.model.specs.Step.{Outcome, outcome, sessionOf, planOf, step, answerOf, setUpAnswer, setUp, setUpEffect}
 use Rattle.model.specs.Told.{Told, began, got, put, held, sealed, moved, ended, ending, foundBy, tells, WhereGot}
 use Rattle.model.proofs.Demand3.{Passed, set-up-passed, set-up-fresh}
 use Rattle.model.proofs.Laws.{find-some, getD-sets-other, log-length, log-same, log-other, length-on, grown-word, grown-apart, appended-cell, marked-words}
@@ -447,3 +447,10 @@ capped-fresh σ p =
 pub within-caps : (σ : Store) → number (setUpAnswer σ) ≡ 100 → (actions : List Action) → WithinCaps (setUp σ) (reverse actions)
 within-caps σ h actions =
     subst (λ (φ : Store). WithinCaps φ (reverse actions)) (sym (set-up-fresh σ h)) (within-from (capped-fresh σ (set-up-passed σ h)) (reverse actions))
+
+-- of what a set-up left that kept its contract and answered 100
+pub within-caps-of-code : (φ σ : Store) (a : Answer) → outcome a σ ≡ setUpEffect φ → number a ≡ 100 → (actions : List Action) → WithinCaps σ (reverse actions)
+unfolding setUpEffect
+within-caps-of-code φ σ a e n actions =
+    let f = ap (λ (o : Outcome). o .answer) e in
+    subst (λ (σ : Store). WithinCaps σ (reverse actions)) (sym (ap (λ (o : Outcome). o .store) e)) (within-caps φ (ap number (sym f) ∙ n) actions)

@@ -31,6 +31,7 @@ pub mod CommitOrder
 pub mod Orders
 pub mod Rounds
 pub mod Cases
+pub mod OwnCaps
 pub mod Twin
 pub mod Caps
 pub mod ReadAgain

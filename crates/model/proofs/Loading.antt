@@ -6,7 +6,7 @@ use mathlib.Core.List.{List}
 use Rattle.model.specs.declared.Answer.{Answer}
 use Rattle.model.specs.declared.Answer.the-variants.{Done, Refused}
 use Rattle.model.specs.Buffers.{Store, hasCaps, passes, allFit, lengthsFit}
-use Rattle.model.specs.Load.{allIdle, allClassed, tableRefusal, loadRefusal, withCaps, loadAnswer, load}
+use Rattle.model.specs.Load.{allIdle, allClassed, loadRefusal, withCaps, loadAnswer, load}
 use Rattle.model.proofs.Tools.{test}
 
 -- what a load answered 100 has tested
@@ -20,7 +20,7 @@ pub record Loaded (T : List ℕ) (σ : Store) : Type 0 where
 -- what holds of the answer and the store, passed or refused
 pub load-cases {ℓ} : (P : Answer → Store → Type ℓ) (T : List ℕ) (σ : Store) → (Loaded T σ → P Done (withCaps T σ))
     → P (Refused 7) σ → P (Refused 2) σ → P (Refused 16) σ → P (Refused 8) σ → P (Refused 17) σ → P (loadAnswer T σ) (load T σ)
-unfolding loadAnswer load loadRefusal tableRefusal
+unfolding loadAnswer load loadRefusal
 load-cases P T σ f r7 r2 r16 r8 r17 =
     test (hasCaps (σ .limits .caps) && hasCaps T && lengthsFit (σ .lent))
     (λ a. test (allIdle (σ .sessions))

@@ -21,6 +21,7 @@ pub mod Holding
 pub mod Rounds
 pub mod Cases
 pub mod SetUpCases
+pub mod OwnCaps
 pub mod Anomalies
 pub mod Words
 pub mod Slices

@@ -23,15 +23,15 @@ unfoldable pub allClassed : List ℕ → Bool
 allClassed [] = true
 allClassed (k ∷ ks) = ltb k 16 && allClassed ks
 
--- what refuses to load the table T, in order: wrong lengths, of either table too, 7; then a session that is not idle 2, a table that does not pass 16, a class byte
--- above 15 8, and a value above its new cap 17; 0 where nothing does
-unfoldable pub tableRefusal : List ℕ → Sessions → List ℕ → List ℕ → ℕ
-tableRefusal T ss vs ks =
-    require (allIdle ss) 2 (require (passes T) 16 (require (allClassed ks) 8 (require (allFit T vs ks) 17 0)))
-
+-- what refuses to load the table T, in order: wrong lengths, of either table too, 7; a session that is not idle 2; a table that does not pass 16; a class byte
+-- above 15 8; a value above its new cap 17; 0 where nothing does
 unfoldable pub loadRefusal : List ℕ → Store → ℕ
 loadRefusal T σ =
-    require (hasCaps (σ .limits .caps) && hasCaps T && lengthsFit (σ .lent)) 7 (tableRefusal T (σ .sessions) (σ .lent .values) (σ .lent .classes))
+    require (hasCaps (σ .limits .caps) && hasCaps T && lengthsFit (σ .lent)) 7
+    (require (allIdle (σ .sessions)) 2
+    (require (passes T) 16
+    (require (allClassed (σ .lent .classes)) 8
+    (require (allFit T (σ .lent .values) (σ .lent .classes)) 17 0))))
 
 -- with the table T in force, and all else as it was
 abbrev pub withCaps : List ℕ → Store → Store

@@ -38,6 +38,16 @@ fn fill_bytes(s: &mut [u8], b: u8)
     }
 }
 
+// Every lock empty, every log word 0.
+fn empty(readers: &mut [u16], claimants: &mut [u8], exclusives: &mut [u8], logs: &mut [u32])
+    ensures { λ _. ⌜ (now (readers .exit) ≡ replicate (length (now (readers .entry))) 0) × (now (claimants .exit) ≡ replicate (length (now (claimants .entry))) 16) × (now (exclusives .exit) ≡ replicate (length (now (exclusives .entry))) 0) × (now (logs .exit) ≡ replicate (length (now (logs .entry))) 0) ⌝ }
+{
+    clear_sets(readers);
+    fill_bytes(claimants, 16);
+    fill_bytes(exclusives, 0);
+    log::clear_words(logs);
+}
+
 // Set-up: all sessions idle, all locks empty, all log words 0. 100, 7 or 8.
 pub fn set_up(
     sessions: Sessions,
@@ -69,10 +79,7 @@ pub fn set_up(
             sessions,
         };
     }
-    clear_sets(readers);
-    fill_bytes(claimants, 16);
-    fill_bytes(exclusives, 0);
-    log::clear_words(logs);
+    empty(readers, claimants, exclusives, logs);
     let idle = model::all_idle();
     Reply {
         answer: Answer::Done,
@@ -124,10 +131,7 @@ pub fn set_up_with_caps(
             sessions,
         };
     }
-    clear_sets(readers);
-    fill_bytes(claimants, 16);
-    fill_bytes(exclusives, 0);
-    log::clear_words(logs);
+    empty(readers, claimants, exclusives, logs);
     let idle = model::all_idle();
     Reply {
         answer: Answer::Done,

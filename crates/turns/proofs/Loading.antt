@@ -7,12 +7,13 @@ use lib.ListN.{length}
 use lib.Dec.{eqb}
 use borrow.Author.Tests.{eq-eqb, ne-eqb, eqb-true}
 use Rattle.model.specs.Buffers.{Buffers, Store, hasCaps, passes, allFit, lengthsMatch, lengthsFit}
-use Rattle.model.specs.Load.{allIdle, allClassed, tableRefusal, loadRefusal, withCaps, loadAnswer, load, loadEffect}
+use Rattle.model.specs.Load.{allIdle, allClassed, loadRefusal, withCaps, loadAnswer, load, loadEffect}
 use Rattle.model.specs.Step.{outcome}
 use Rattle.model.specs.declared.Sessions.{Sessions}
 use Rattle.model.specs.declared.Answer.the-variants.{Done, Refused}
+use Rattle.model.proofs.Tables.{has-caps, has-not}
 use Rattle.model.proofs.Tools.{test, clash, and-false}
-use Rattle.turns.specs.Loads.{Lends}
+use Rattle.turns.specs.Loads.{tableRefusal, Lends}
 use Rattle.turns.proofs.Lengths.{match-is}
 
 -- ---- past 7
@@ -51,13 +52,19 @@ module _ (T : List ℕ) (σ : Store) where
   unfolding loadEffect loadAnswer load loadRefusal
   load-7 a = rw a
 
-  pub load-refused : fit ≡ true → (r : ℕ) → r ≡ tableRefusal T (σ .sessions) (σ .lent .values) (σ .lent .classes) → (r ≡ 0 → ⊥) → outcome (Refused r) σ ≡ loadEffect T σ
-  unfolding loadEffect loadAnswer load loadRefusal
-  load-refused a r e n = rw (a, ← e, ne-eqb r 0 n)
+  -- past 7, r is what the code's tests answered
+  module _ (a : fit ≡ true) (r : ℕ) (e : r ≡ tableRefusal T (σ .sessions) (σ .lent .values) (σ .lent .classes)) where
+    number-is : loadRefusal T σ ≡ r
+    unfolding loadRefusal tableRefusal
+    number-is = rw a (sym e)
 
-  pub load-done : fit ≡ true → (r : ℕ) → r ≡ tableRefusal T (σ .sessions) (σ .lent .values) (σ .lent .classes) → r ≡ 0 → outcome Done (withCaps T σ) ≡ loadEffect T σ
-  unfolding loadEffect loadAnswer load loadRefusal
-  load-done a r e n = rw (a, ← e, eq-eqb r 0 n)
+    pub load-refused : (r ≡ 0 → ⊥) → outcome (Refused r) σ ≡ loadEffect T σ
+    unfolding loadEffect loadAnswer load
+    load-refused n = rw (number-is, ne-eqb r 0 n)
+
+    pub load-done : r ≡ 0 → outcome Done (withCaps T σ) ≡ loadEffect T σ
+    unfolding loadEffect loadAnswer load
+    load-done n = rw (number-is, eq-eqb r 0 n)
 
 -- where the lengths fit the classes are as many as the values
 pub even : (n k r c e w : ℕ) (f : Bool) → f ≡ lengthsMatch n k r c e w → f ≡ true → k ≡ n
@@ -74,12 +81,10 @@ module _ (vs ks : List ℕ) (r c e w : ℕ) (C T : List ℕ) (ss : Sessions) whe
   Refuses n = (B : Buffers) → Lends vs ks r c e w B → outcome (Refused n) (given B) ≡ loadEffect T (given B)
 
   pub caps-7 : (length C ≡ 16 → ⊥) → Refuses 7
-  unfolding hasCaps
-  caps-7 n B l = load-7 T (given B) (rw (ne-eqb (length C) 16 n))
+  caps-7 n B l = load-7 T (given B) (rw (has-not C n))
 
   pub table-7 : (length T ≡ 16 → ⊥) → Refuses 7
-  unfolding hasCaps
-  table-7 n B l = load-7 T (given B) (rw (ne-eqb (length T) 16 n, and-false))
+  table-7 n B l = load-7 T (given B) (rw (has-not T n, and-false))
 
   module _ (f : Bool) (q : f ≡ lengthsMatch (length vs) (length ks) r c e w) where
     is-fit : (B : Buffers) → Lends vs ks r c e w B → f ≡ lengthsFit B
@@ -90,8 +95,7 @@ module _ (vs ks : List ℕ) (r c e w : ℕ) (C T : List ℕ) (ss : Sessions) whe
 
     module _ (a : length C ≡ 16) (b : length T ≡ 16) (g : f ≡ true) (n : ℕ) (o : n ≡ tableRefusal T ss vs ks) where
       fitting : (B : Buffers) → Lends vs ks r c e w B → fit T (given B) ≡ true
-      unfolding hasCaps
-      fitting B l = rw (eq-eqb (length C) 16 a, eq-eqb (length T) 16 b, sym (is-fit B l) ∙ g)
+      fitting B l = rw (has-caps C a, has-caps T b, sym (is-fit B l) ∙ g)
 
       said : (B : Buffers) → Lends vs ks r c e w B → n ≡ tableRefusal T ss (B .values) (B .classes)
       said B l = rw (l .values, l .classes) at o

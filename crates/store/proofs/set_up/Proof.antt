@@ -1,4 +1,4 @@
--- `store::set_up` meets its contract: 7, 8 or 100, each a law of proofs/SetUp.antt, with what the loops leave.
+-- `store::set_up` meets its contract: 7, 8 or 100, each a law of proofs/SetUp.antt, with what `empty` leaves.
 use mathlib.Core.Path.{_≡_, sym, _∙_}
 use mathlib.Core.Bool.{true, _&&_}
 use borrow.Author.Tests.{not-true, not-false}
@@ -35,20 +35,13 @@ returns-2 c = set-8 _ (passed (c .before .before)) ours-pass _ (c .before .all-f
 
 returns-3 : tie.Need-returns-3
 returns-3 c =
-    let w = c .before .before .before in
-    let e = w .before .before .before .before in
-    let d = e .before .before .before .before in
-    let r = d .before .before .before .before in
-    let t = r .before .before in
-    set-done _ (passed (t .before .before)) ours-pass _ (t .before .all-fit .ensures) (not-false _ (t .if2 .left)) _ _ _ _ _ (r .clear-sets .ensures) (d .fill-bytes .ensures) (e .fill-bytes2 .ensures)
-    (w .clear-words .ensures) (c .all-idle .ensures)
+    let l = c .before .before .before .before .before .before .before .before .before .empty .ensures in
+    let t = c .before .before .before .before .before .before .before .before .before .before .before .before .before .before in
+    set-done _ (passed (t .before .before)) ours-pass _ (t .before .all-fit .ensures) (not-false _ (t .if2 .left)) _ _ _ _ _ (l .0) (l .1) (l .2) (l .3) (c .all-idle .ensures)
 
 pub set-up-spec : {M : Type 1} → statement M
 set-up-spec =
     tie.close
     (tie.spec
-    (λ c κs. tt) returns all-fit-requires returns-2 (λ c κs. tt) (λ c κs. tt) (λ c κs. tt) (λ c κs. tt) (λ c κs. tt)
-    (λ c. c .before .before .before .before .before .before .before .before .before .before .before .before .before .before .before .clear-sets .kept .0)
-    (λ c. c .before .before .before .before .before .before .before .before .before .before .before .fill-bytes .kept .0)
-    (λ c. c .before .before .before .before .before .before .before .fill-bytes2 .kept .0) (λ c. c .before .before .before .clear-words .kept .0)
-    returns-3)
+    (λ c κs. tt) returns all-fit-requires returns-2 (λ c κs. tt) (λ c κs. tt) (λ c. c .before .before .before .before .before .before .before .before .before .empty .kept .0) (λ c. c .before .before .before .before .before .before .before .before .before .empty .kept .1 .0) (λ c. c .before .before .before .before .before .before .before .before .before .empty .kept .1 .1 .0)
+    (λ c. c .before .before .before .before .before .before .before .before .before .empty .kept .1 .1 .1 .0) returns-3)

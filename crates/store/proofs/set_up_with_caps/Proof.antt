@@ -1,4 +1,4 @@
--- `store::set_up_with_caps` meets its contract: 7, 16, 8 or 100, each a law of turns' proofs/SetUp.antt, with what the loops leave.
+-- `store::set_up_with_caps` meets its contract: 7, 16, 8 or 100, each a law of turns' proofs/SetUp.antt, with what `empty` leaves.
 use mathlib.Core.Path.{_≡_, sym, _∙_}
 use mathlib.Core.Bool.{true, _&&_}
 use borrow.Author.Tests.{not-true, not-false}
@@ -46,19 +46,15 @@ returns-4 c =
 
 returns-5 : tie.Need-returns-5
 returns-5 c =
-    let w = c .before .before .before in
-    let e = w .before .before .before .before in
-    let d = e .before .before .before .before in
-    let r = d .before .before .before .before in
-    let t = r .before .before in
+    let l = c .before .before .before .before .before .before .before .before .before .empty .ensures in
+    let t = c .before .before .before .before .before .before .before .before .before .before .before .before .before .before in
     let p = t .before .before in
     set-done _ (passed (p .before .before)) (sym (p .before .caps-pass .ensures) ∙ not-false _ (p .if3 .left)) _ (t .before .all-fit-by .ensures) (not-false _ (t .if4 .left)) _ _ _ _ _
-    (r .clear-sets .ensures) (d .fill-bytes .ensures) (e .fill-bytes2 .ensures) (w .clear-words .ensures) (c .all-idle .ensures)
+    (l .0) (l .1) (l .2) (l .3) (c .all-idle .ensures)
 
 pub set-up-with-caps-spec : {M : Type 1} → statement M
 set-up-with-caps-spec =
     tie.close
     (tie.spec
-    returns (λ c κs. tt) returns-2 (λ c κs. tt) returns-3 all-fit-by-requires returns-4 (λ c κs. tt) (λ c κs. tt) (λ c κs. tt) (λ c κs. tt) (λ c κs. tt)
-    (λ c. c .before .before .before .before .before .before .before .before .before .before .before .before .before .before .before .clear-sets .kept .0) (λ c. c .before .before .before .before .before .before .before .before .before .before .before .fill-bytes .kept .0) (λ c. c .before .before .before .before .before .before .before .fill-bytes2 .kept .0) (λ c. c .before .before .before .clear-words .kept .0)
-    returns-5)
+    returns (λ c κs. tt) returns-2 (λ c κs. tt) returns-3 all-fit-by-requires returns-4 (λ c κs. tt) (λ c κs. tt)
+    (λ c. c .before .before .before .before .before .before .before .before .before .empty .kept .0) (λ c. c .before .before .before .before .before .before .before .before .before .empty .kept .1 .0) (λ c. c .before .before .before .before .before .before .before .before .before .empty .kept .1 .1 .0) (λ c. c .before .before .before .before .before .before .before .before .before .empty .kept .1 .1 .1 .0) returns-5)
