@@ -1,14 +1,16 @@
 -- Loading a table of caps in place of the one in force (document 02, Paper 5), while every session is idle.
 use Prim.Native.Nat.{ℕ, zero, suc}
+use mathlib.Core.Path.{_≡_}
 use mathlib.Core.Bool.{Bool, true, _&&_}
 use mathlib.Core.List.{List, [], _∷_}
 use lib.Dec.{ltb, eqb}
 use Rattle.model.specs.Buffers.{Limits, Store, sessionAt, hasCaps, passes, allFit, lengthsFit}
 use Rattle.model.specs.declared.Sessions.{Sessions}
+use Rattle.model.specs.declared.Call.{Call}
 use Rattle.model.specs.declared.Answer.{Answer}
 use Rattle.model.specs.declared.Answer.the-variants.{Done, Refused}
 use Rattle.model.specs.Plans.{require}
-use Rattle.model.specs.Step.{Outcome, outcome}
+use Rattle.model.specs.Step.{Outcome, outcome, step, answerOf}
 
 -- the phase of each of the first m sessions is 0; of all: one above 4 is not idle
 unfoldable pub idleBelow : ℕ → Sessions → Bool
@@ -47,3 +49,11 @@ load T σ = require (eqb (loadRefusal T σ) 0) σ (withCaps T σ)
 -- its answer and all that it leaves
 unfoldable pub loadEffect : List ℕ → Store → Outcome
 loadEffect T σ = outcome (loadAnswer T σ) (load T σ)
+
+-- ---- who reads the table
+
+-- the call k does not: with another one in force it answers the same, and leaves the same but for the table; `table-unread` of model_claims proves it of every call but
+-- a write
+pub record Unread (k : Call) (T : List ℕ) (σ : Store) : Type 0 where
+  pub answer : answerOf k (withCaps T σ) ≡ answerOf k σ
+  pub left : step k (withCaps T σ) ≡ withCaps T (step k σ)

@@ -68,7 +68,7 @@ abbrev lending : List ℕ → List ℕ → List ℕ → ℕ → ℕ → Lending
 lending T v k w n = record { caps = T; values = v; classes = k; words = w; number = n }
 
 -- a store with that table in force, each lock and log word the same, and these records
-abbrev filled : List ℕ → List ℕ → List ℕ → ℕ → ℕ → ℕ → ℕ → ℕ → List Session → Store
+abbrev pub filled : List ℕ → List ℕ → List ℕ → ℕ → ℕ → ℕ → ℕ → ℕ → List Session → Store
 filled T v k words set claimant mark word xs =
     let n = length v in
     record {
@@ -126,7 +126,7 @@ abbrev written : List ℕ → ℕ → ℕ → ℕ → ℕ → List ℕ → Writt
 written T k s v n w = record { caps = T; class = k; writer = s; value = v; number = n; words = w }
 
 -- one cell, of value 0; session 0 runs
-abbrev oneCell : List ℕ → ℕ → Store
+abbrev pub oneCell : List ℕ → ℕ → Store
 oneCell T k = filled T (0 ∷ []) (k ∷ []) 2048 0 16 0 0 (session 1 0 0 ∷ replicate 15 (session 0 0 0))
 
 -- the number, the first words of session 0's log, and the table afterwards

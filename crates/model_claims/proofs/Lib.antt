@@ -11,4 +11,5 @@ pub mod CommitOrderExamples
 pub mod ReadWords
 pub mod ReadClaims
 pub mod PastTheCount
+pub mod TableUnread
 pub mod HoldAsRead

@@ -12,6 +12,8 @@ use Rattle.model.specs.declared.Call.the-variants.{Begin, Read, Write, Seal, Ad
 use Rattle.model.specs.declared.Answer.the-variants.{Done, Value, Moved, Waiting, Refused}
 use Rattle.model.specs.Cases.{state, session, storeWith}
 use Rattle.model.specs.Caps.{GotWithin, WithinCaps}
+use Rattle.model.specs.Load.{withCaps}
+use Rattle.model.specs.OwnCaps.{low, high}
 use Rattle.model.specs.Computing.{computing, counting}
 use Rattle.model.specs.History.{oneCall, manyReads, asActions, event, withFound, readsEvent, Item, item, run, told, history, Name, name, transaction, wrote, valueWritten, cellsWritten, readsBeforeWriting, valuesFound}
 use Rattle.model.specs.Isolation.{All, Commits, snapshotOf, commitOf, ToldAt, CommitsTo, Last, lastCommit, noCommit, Isolated, Holds, firsts, HoldsAtCommit, Demand3}
@@ -250,6 +252,19 @@ got-above-held w = let h : 9 ≤ 8 = w .got .1 .0 in omega arith
 pub got-above-many : WithinCaps (midway 1 9 16 0) (manyReads 1 (1 ∷ 0 ∷ []) 2 ∷ []) → ⊥
 unfolding midway computing counting
 got-above-many w = let h : 9 ≤ 8 = w .got .1 .0 in omega arith
+
+-- no entry in use above its cap; by another table, which does not change what is answered, the same value is within it or above it
+pub logged-above : WithinCaps (midway 1 9 16 0) [] → ⊥
+unfolding midway computing counting
+logged-above w = let h : 9 ≤ 8 = w .logged 1 0 (λ e. omega arith, omega arith) in omega arith
+
+pub got-within-high : GotWithin (withCaps high (midway 1 4 16 0)) (got 0 9)
+unfolding midway computing
+got-within-high = omega arith
+
+pub got-above-low : WithinCaps (withCaps low (midway 1 8 16 0)) (oneCall (Read 1 0) ∷ []) → ⊥
+unfolding midway computing counting
+got-above-low w = let h : 8 ≤ 7 = w .got .1 .0 in omega arith
 
 -- ---- one after the other
 
