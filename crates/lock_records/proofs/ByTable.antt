@@ -25,7 +25,7 @@ use Rattle.turns.proofs.Lengths
 use Rattle.lock_records.specs.declared.Change.{Change}
 use Rattle.lock_records.specs.declared.Turn.{Turn}
 use Rattle.lock_records.specs.Run.{unzipped, lentOn, storeOn, lockIn, countOf, swept, onRun}
-use Rattle.lock_records.specs.Turns.{onlyAnswer, IsTurnUnder}
+use Rattle.lock_records.specs.Turns.{onlyAnswer, IsTurnUnder, IsLoad}
 use Rattle.lock_records.proofs.Changes.{each-length, unzipped-at}
 use Rattle.lock_records.proofs.OnRun.{classed, turned-down-under, taken-under}
 
@@ -72,18 +72,17 @@ module _ (T vs cs W : List ℕ) (ss : Sessions) (m : ℕ) (l : Lock) (s c v : �
           taken-under (Write s c v) vs cs W ss m l s refl r e z G (long-table T h) c
           (λ L o. ap (λ (k : Lock). writePlan T cs (length vs) (logIn W s) x k c v) (sym o ∙ sym (unzipped-at L c))) t vs Ws (g T cs decides) d f
 
--- ---- a table T loaded in the place of one in force, and what is left there
+-- ---- a table T loaded in the place of `caps`, where it leaves T′
 
-module _ (T was left vs cs : List ℕ) (ss : Sessions) (m w : ℕ) (a : Answer) where
-  pub loads-on : ((B : Buffers) → Lends vs cs m m m w B → outcome a (record { lent = B; limits = record { caps = left }; sessions = ss }) ≡ loadEffect T (record { lent = B; limits = record { caps = was }; sessions = ss }))
-      → (L : List Lock) (logs : List ℕ) → length L ≡ m → length logs ≡ w
-      → outcome a (storeOn (record { caps = left }) vs cs L logs ss) ≡ loadEffect T (storeOn (record { caps = was }) vs cs L logs ss)
-  loads-on f L logs q i =
-      f (lentOn vs cs L logs) (record {
-        values = refl;
-        classes = refl;
-        readers = sym q ∙ sym (each-length (λ l. l .readers) L);
-        claimants = sym q ∙ sym (each-length (λ l. l .claimant) L);
-        exclusives = sym q ∙ sym (each-length (λ l. l .exclusive) L);
-        logs = sym i;
-      })
+pub loads-on : (T caps T′ vs cs : List ℕ) (ss : Sessions) (m w : ℕ) (a : Answer)
+    → ((B : Buffers) → Lends vs cs m m m w B → outcome a (record { lent = B; limits = record { caps = T′ }; sessions = ss }) ≡ loadEffect T (record { lent = B; limits = record { caps = caps }; sessions = ss }))
+    → IsLoad T caps T′ vs cs m w ss (record { answer = a; sessions = ss })
+loads-on T caps T′ vs cs ss m w a f L logs q i =
+    f (lentOn vs cs L logs) (record {
+      values = refl;
+      classes = refl;
+      readers = sym q ∙ sym (each-length (λ l. l .readers) L);
+      claimants = sym q ∙ sym (each-length (λ l. l .claimant) L);
+      exclusives = sym q ∙ sym (each-length (λ l. l .exclusive) L);
+      logs = sym i;
+    })

@@ -22,7 +22,7 @@ use Rattle.turns.specs.AnyCall.{cellFor}
 use Rattle.lock_records.specs.declared.Change.the-variants.{Keep}
 use Rattle.lock_records.specs.declared.Turn.{Turn}
 use Rattle.lock_records.specs.Run.{storeOn, lockIn, sweptBy, ChangeFits}
-use Rattle.lock_records.specs.Lent.{byTable, leftTable}
+use Rattle.lock_records.specs.Lent.{byTable}
 
 -- ---- the cell whose lock a call may need
 
@@ -66,6 +66,13 @@ IsSetUpTurn G values classes m logs sessions logs′ r =
     → outcome (r .reply .answer) (storeOn G values classes (sweptBy logs′ (r .change) L) logs′ (r .reply .sessions))
     ≡ setUpEffect (storeOn G values classes L logs sessions))
 
+-- r is the reply of a load of the table T, which leaves T′ in the place of the one in force: m locks, w words of logs
+abbrev pub IsLoad : List ℕ → List ℕ → List ℕ → List ℕ → List ℕ → ℕ → ℕ → Sessions → Reply → Type 0
+IsLoad T caps T′ values classes m w sessions r =
+    (L : List Lock) (logs : List ℕ) → length L ≡ m → length logs ≡ w
+    → outcome (r .answer) (storeOn (record { caps = T′ }) values classes L logs (r .sessions))
+    ≡ loadEffect T (storeOn (record { caps = caps }) values classes L logs sessions)
+
 -- a peek's plan, and its part, whatever the limits are
 abbrev pub IsPeekPlan : ℕ → ℕ → ℕ → List ℕ → Sessions → ℕ → ℕ → Plan → Type 0
 IsPeekPlan n k m logs sessions s c p =
@@ -96,6 +103,4 @@ SetsUpTurnBy caps values classes m logs sessions r =
 
 abbrev pub LoadsOnRun : Slice → Slice → Slice → Slice → ℕ → ℕ → Sessions → Reply → Type 0
 LoadsOnRun caps table values classes m w sessions r =
-    (L : List Lock) (logs : List ℕ) → length L ≡ m → length logs ≡ w
-    → outcome (r .answer) (storeOn (leftTable caps) (now (values .entry)) (now (classes .entry)) L logs (r .sessions))
-    ≡ loadEffect (now (table .entry)) (storeOn (byTable caps) (now (values .entry)) (now (classes .entry)) L logs sessions)
+    IsLoad (now (table .entry)) (now (caps .entry)) (now (caps .exit)) (now (values .entry)) (now (classes .entry)) m w sessions r
