@@ -5,9 +5,11 @@ use mathlib.Core.Path.{_≡_, refl, sym, ap, _∙_}
 use mathlib.Core.List.{List, [], _∷_}
 use Prim.Native.Nat.{ℕ}
 use Rattle.model.specs.Buffers.{Locks, Limits, Store}
+use Rattle.model.specs.Load.{loadEffect}
 use Rattle.model.specs.Step.{Outcome, outcome, effect, setUpEffect, planOf}
 use Rattle.model.specs.declared.Lock.{Lock}
 use Rattle.model.specs.declared.Sessions.{Sessions}
+use Rattle.model.specs.declared.Answer.{Answer}
 use Rattle.model.specs.declared.Call.{Call}
 use Rattle.lock_records.specs.Run.{unzipped, storeOn}
 use Rattle.lock_records.specs.Forms.{zipped, OutcomeIn}
@@ -61,6 +63,16 @@ pub set-ups-agree : (G : Limits) (vs cs : List ℕ) (L : List Lock) (W : List �
     → outcome (y .answer) (storeOn G (y .values) cs (y .locks) (y .logs) (y .sessions)) ≡ setUpEffect (storeOn G vs cs L W ss)
     → y ≡ record { answer = x .answer; values = x .values; locks = zipped (x .locks .readers) (x .locks .claimants) (x .locks .exclusives); logs = x .logs; sessions = x .sessions }
 set-ups-agree G vs cs L W ss x y e f = agrees G cs x y (f ∙ sym e)
+
+-- a load: the same answer, and the same table and records left
+pub loads-agree : (T : List ℕ) (G : Limits) (vs cs : List ℕ) (L : List Lock) (W : List ℕ) (ss : Sessions) (a b : Answer) (X Y : Limits) (rs ts : Sessions)
+    → outcome a (storeOf X vs cs (unzipped L .readers) (unzipped L .claimants) (unzipped L .exclusives) W rs)
+    ≡ loadEffect T (storeOf G vs cs (unzipped L .readers) (unzipped L .claimants) (unzipped L .exclusives) W ss)
+    → outcome b (storeOn Y vs cs L W ts) ≡ loadEffect T (storeOn G vs cs L W ss)
+    → (b ≡ a) × ((Y ≡ X) × (ts ≡ rs))
+loads-agree T G vs cs L W ss a b X Y rs ts e f =
+    let same = f ∙ sym e in
+    (ap (λ (o : Outcome). o .answer) same, (ap (λ (o : Outcome). o .store .limits) same, ap (λ (o : Outcome). o .store .sessions) same))
 
 -- a peek goes by the plan, and the plans are the same
 pub plans-agree : (k : Call) (G : Limits) (vs cs : List ℕ) (L : List Lock) (W : List ℕ) (ss : Sessions)

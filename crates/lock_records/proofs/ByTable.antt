@@ -24,7 +24,7 @@ use Rattle.turns.specs.Loads.{Lends}
 use Rattle.turns.proofs.Lengths
 use Rattle.lock_records.specs.declared.Change.{Change}
 use Rattle.lock_records.specs.declared.Turn.{Turn}
-use Rattle.lock_records.specs.Run.{unzipped, lentOn, storeOn, lockIn, countOf, swept, onRun}
+use Rattle.lock_records.specs.Run.{unzipped, lentOn, storeOn, countOf, swept, onRun}
 use Rattle.lock_records.specs.Turns.{onlyAnswer, IsTurnUnder, IsLoad}
 use Rattle.lock_records.proofs.Changes.{each-length, unzipped-at}
 use Rattle.lock_records.proofs.OnRun.{classed, turned-down-under, taken-under}

@@ -5,7 +5,7 @@
 --     goes, gets   what f is passed, and what it gives.        Walk     what a walk shows.        exits    the end of each.        meets    a walk, taken to the contract
 --     meets-one, meets-two     by the walk for that many numbers
 -- Assumes `Given`.
-use mathlib.Core.Path.{_≡_, refl}
+use mathlib.Core.Path.{refl}
 use Prim.Native.Nat.{ℕ, _+_}
 use mathlib.Core.List.{List, [], _∷_}
 use lib.ListN.{length}

@@ -6,7 +6,7 @@
 --     Walk         what a walk shows.        exits    the end of each.        meets    a walk, taken to the contract
 --     meets-one, meets-two, meets-three    by the walk for that many numbers
 -- Assumes `Given`.
-use mathlib.Core.Path.{_≡_, refl}
+use mathlib.Core.Path.{refl}
 use Prim.Native.Nat.{ℕ, _+_, _<_, _^_}
 use mathlib.Core.List.{List, [], _∷_}
 use lib.Dec.{T, ltb}

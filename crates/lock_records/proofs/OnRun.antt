@@ -18,7 +18,6 @@ use Rattle.model.specs.declared.Answer.the-variants.{Refused}
 use Rattle.model.specs.declared.Plan.{Plan}
 use Rattle.model.specs.declared.Plan.the-variants.{Refuse}
 use Rattle.model.specs.declared.Call.{Call}
-use Rattle.model.specs.declared.Call.the-variants.{Begin, Read, Write, Seal, Advance, Abandon, Peek}
 use Rattle.model.proofs.Tables.{goes-fits, goes-plan}
 use Rattle.locks.specs.Changes.{ChangeFits as Fits}
 use Rattle.calls.specs.Pieces.{admission}

@@ -1,14 +1,12 @@
 -- The calls that leave the run, the values and the logs as they are, of every such list of the lengths given: begin's reply; a peek's plan, number and part.
 use mathlib.Core.Path.{_≡_, refl, ap, _∙_}
-use mathlib.Core.Bool.{Bool}
-use mathlib.Core.Option.{Option, none, some}
 use mathlib.Core.List.{List, []}
 use Prim.Native.Nat.{ℕ, _+_, _*_, _≤_}
 use borrow.Rule.Slice.PartAt.{slPart}
 use borrow.Rule.Slice.Shared.{bySize}
 use base.Fml.{GName}
 use denote.Ref.{RefT}
-use lib.Dec.{ltb, eqb}
+use lib.Dec.{eqb}
 use lib.ListN.{length, getD, set, replicate, length-replicate}
 use Rattle.model.specs.Buffers.{Limits, ours, Store, size, free, idle, sessionAt, withSession, logIn, lengthsMatch}
 use Rattle.model.specs.Plans.{guard, peekPlan, plan}
@@ -23,8 +21,7 @@ use Rattle.model.specs.declared.Change.the-variants.{Keep}
 use Rattle.model.specs.declared.Plan.{Plan}
 use Rattle.model.specs.declared.Plan.the-variants.{Refuse, Start, ShowStore, ShowLog}
 use Rattle.model.specs.declared.Call.the-variants.{Begin, Peek}
-use Rattle.model.proofs.Tools.{split}
-use Rattle.locks.proofs.Tags.{Passed, passed}
+use Rattle.locks.proofs.Tags.{Passed}
 use Rattle.calls.specs.Pieces.{admission}
 use Rattle.turns.proofs.Lengths
 use Rattle.turns.proofs.Guards.{begin-keeps}

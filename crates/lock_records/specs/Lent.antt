@@ -33,26 +33,32 @@ abbrev pub afterwards : Limits → Slice → Slice → List Lock → Slice → S
 afterwards G values classes L logs ss = storeOn G (now (values .exit)) (now (classes .exit)) L (now (logs .exit)) ss
 
 -- the call k answers and leaves what the model says under the limits G, of a run L that it makes M
-abbrev pub TakesUnder : Limits → Call → Slice → Slice → List Lock → List Lock → Slice → Sessions → Reply → Type 0
-TakesUnder G k values classes L M logs ss r = outcome (r .answer) (afterwards G values classes M logs (r .sessions)) ≡ effect k (before G values classes L logs ss)
+abbrev pub TakesRunUnder : Limits → Call → Slice → Slice → List Lock → List Lock → Slice → Sessions → Reply → Type 0
+TakesRunUnder G k values classes L M logs ss r = outcome (r .answer) (afterwards G values classes M logs (r .sessions)) ≡ effect k (before G values classes L logs ss)
 
--- a call that is handed no table, of a lent run: whatever the limits are, where it goes by them
+-- the same of a call that is handed no table, whatever the limits are, where it goes by them: of a run, and of a lent run
+abbrev pub TakesRun : Call → Slice → Slice → List Lock → List Lock → Slice → Sessions → Reply → Type 0
+TakesRun k values classes L M logs ss r = (G : Limits) → GoesBy k G → TakesRunUnder G k values classes L M logs ss r
+
 abbrev pub Takes : Call → Slice → Slice → LockSlice → Slice → Sessions → Reply → Type 0
-Takes k values classes locks logs ss r = (G : Limits) → GoesBy k G → TakesUnder G k values classes (now (locks .entry)) (now (locks .exit)) logs ss r
+Takes k values classes locks logs ss r = TakesRun k values classes (now (locks .entry)) (now (locks .exit)) logs ss r
 
--- one that is handed a table
+-- and of one that is handed a table
 abbrev pub TakesBy : Slice → Call → Slice → Slice → LockSlice → Slice → Sessions → Reply → Type 0
-TakesBy caps k values classes locks logs ss r = TakesUnder (byTable caps) k values classes (now (locks .entry)) (now (locks .exit)) logs ss r
+TakesBy caps k values classes locks logs ss r = TakesRunUnder (byTable caps) k values classes (now (locks .entry)) (now (locks .exit)) logs ss r
 
 -- set-up, by our caps and by a table
-abbrev pub SetsUpUnder : Limits → Slice → Slice → List Lock → List Lock → Slice → Sessions → Reply → Type 0
-SetsUpUnder G values classes L M logs ss r = outcome (r .answer) (afterwards G values classes M logs (r .sessions)) ≡ setUpEffect (before G values classes L logs ss)
+abbrev pub SetsUpRunUnder : Limits → Slice → Slice → List Lock → List Lock → Slice → Sessions → Reply → Type 0
+SetsUpRunUnder G values classes L M logs ss r = outcome (r .answer) (afterwards G values classes M logs (r .sessions)) ≡ setUpEffect (before G values classes L logs ss)
+
+abbrev pub SetsUpRun : Slice → Slice → List Lock → List Lock → Slice → Sessions → Reply → Type 0
+SetsUpRun values classes L M logs ss r = SetsUpRunUnder ours values classes L M logs ss r
 
 abbrev pub SetsUp : Slice → Slice → LockSlice → Slice → Sessions → Reply → Type 0
-SetsUp values classes locks logs ss r = SetsUpUnder ours values classes (now (locks .entry)) (now (locks .exit)) logs ss r
+SetsUp values classes locks logs ss r = SetsUpRun values classes (now (locks .entry)) (now (locks .exit)) logs ss r
 
 abbrev pub SetsUpBy : Slice → Slice → Slice → LockSlice → Slice → Sessions → Reply → Type 0
-SetsUpBy caps values classes locks logs ss r = SetsUpUnder (byTable caps) values classes (now (locks .entry)) (now (locks .exit)) logs ss r
+SetsUpBy caps values classes locks logs ss r = SetsUpRunUnder (byTable caps) values classes (now (locks .entry)) (now (locks .exit)) logs ss r
 
 -- a table loaded in the place of the one in force
 abbrev pub Loads : Slice → Slice → Slice → Slice → LockSlice → Slice → Sessions → Reply → Type 0
