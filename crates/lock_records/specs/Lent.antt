@@ -18,12 +18,12 @@ use Rattle.lock_records.specs.Run.{storeOn}
 abbrev pub LockSlice : Type 0
 LockSlice = Both (RefT (List Lock)) (RefT (List Lock))
 
--- the table in force, as it is passed and as it is left
-abbrev pub byTable : Slice → Limits
-byTable caps = record { caps = now (caps .entry) }
+-- a lent table as the limits, before the call and after it
+abbrev pub capsBefore : Slice → Limits
+capsBefore caps = record { caps = now (caps .entry) }
 
-abbrev pub leftTable : Slice → Limits
-leftTable caps = record { caps = now (caps .exit) }
+abbrev pub capsAfter : Slice → Limits
+capsAfter caps = record { caps = now (caps .exit) }
 
 -- the store that the slices and a run are before the call, and after it, with these records, under the limits G
 abbrev pub before : Limits → Slice → Slice → List Lock → Slice → Sessions → Store
@@ -45,7 +45,7 @@ Takes k values classes locks logs ss r = TakesRun k values classes (now (locks .
 
 -- and of one that is handed a table
 abbrev pub TakesBy : Slice → Call → Slice → Slice → LockSlice → Slice → Sessions → Reply → Type 0
-TakesBy caps k values classes locks logs ss r = TakesRunUnder (byTable caps) k values classes (now (locks .entry)) (now (locks .exit)) logs ss r
+TakesBy caps k values classes locks logs ss r = TakesRunUnder (capsBefore caps) k values classes (now (locks .entry)) (now (locks .exit)) logs ss r
 
 -- set-up, by our caps and by a table
 abbrev pub SetsUpRunUnder : Limits → Slice → Slice → List Lock → List Lock → Slice → Sessions → Reply → Type 0
@@ -58,13 +58,13 @@ abbrev pub SetsUp : Slice → Slice → LockSlice → Slice → Sessions → Rep
 SetsUp values classes locks logs ss r = SetsUpRun values classes (now (locks .entry)) (now (locks .exit)) logs ss r
 
 abbrev pub SetsUpBy : Slice → Slice → Slice → LockSlice → Slice → Sessions → Reply → Type 0
-SetsUpBy caps values classes locks logs ss r = SetsUpRunUnder (byTable caps) values classes (now (locks .entry)) (now (locks .exit)) logs ss r
+SetsUpBy caps values classes locks logs ss r = SetsUpRunUnder (capsBefore caps) values classes (now (locks .entry)) (now (locks .exit)) logs ss r
 
 -- a table loaded in the place of the one in force
 abbrev pub Loads : Slice → Slice → Slice → Slice → LockSlice → Slice → Sessions → Reply → Type 0
 Loads caps table values classes locks logs ss r =
-    outcome (r .answer) (afterwards (leftTable caps) values classes (now (locks .exit)) logs (r .sessions))
-    ≡ loadEffect (now (table .entry)) (before (byTable caps) values classes (now (locks .entry)) logs ss)
+    outcome (r .answer) (afterwards (capsAfter caps) values classes (now (locks .exit)) logs (r .sessions))
+    ≡ loadEffect (now (table .entry)) (before (capsBefore caps) values classes (now (locks .entry)) logs ss)
 
 -- a peek's part, whatever the limits are
 abbrev pub HandsBack : ℕ → ℕ → Slice → Slice → List Lock → Slice → Sessions → RefT (List ℕ) → Type 0

@@ -22,7 +22,7 @@ use Rattle.turns.specs.AnyCall.{cellFor}
 use Rattle.lock_records.specs.declared.Change.the-variants.{Keep}
 use Rattle.lock_records.specs.declared.Turn.{Turn}
 use Rattle.lock_records.specs.Run.{storeOn, lockIn, sweptBy, ChangeFits}
-use Rattle.lock_records.specs.Lent.{byTable}
+use Rattle.lock_records.specs.Lent.{capsBefore}
 
 -- ---- the cell whose lock a call may need
 
@@ -91,7 +91,7 @@ TakesOnRun k values classes m l logs sessions r =
 
 abbrev pub WritesOnRun : Slice → ℕ → ℕ → ℕ → Slice → Slice → ℕ → Lock → Slice → Sessions → Turn → Type 0
 WritesOnRun caps s c v values classes m l logs sessions r =
-    IsTurnUnder (byTable caps) (Write s c v) c (now (values .entry)) (now (classes .entry)) m l (now (logs .entry)) sessions (now (values .exit)) (now (logs .exit)) r
+    IsTurnUnder (capsBefore caps) (Write s c v) c (now (values .entry)) (now (classes .entry)) m l (now (logs .entry)) sessions (now (values .exit)) (now (logs .exit)) r
 
 abbrev pub SetsUpTurn : Slice → Slice → ℕ → Slice → Sessions → Turn → Type 0
 SetsUpTurn values classes m logs sessions r =
@@ -99,7 +99,7 @@ SetsUpTurn values classes m logs sessions r =
 
 abbrev pub SetsUpTurnBy : Slice → Slice → Slice → ℕ → Slice → Sessions → Turn → Type 0
 SetsUpTurnBy caps values classes m logs sessions r =
-    IsSetUpTurn (byTable caps) (now (values .entry)) (now (classes .entry)) m (now (logs .entry)) sessions (now (logs .exit)) r
+    IsSetUpTurn (capsBefore caps) (now (values .entry)) (now (classes .entry)) m (now (logs .entry)) sessions (now (logs .exit)) r
 
 abbrev pub LoadsOnRun : Slice → Slice → Slice → Slice → ℕ → ℕ → Sessions → Reply → Type 0
 LoadsOnRun caps table values classes m w sessions r =
