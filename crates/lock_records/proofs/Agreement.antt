@@ -4,19 +4,22 @@
 use mathlib.Core.Path.{_≡_, refl, sym, ap, _∙_}
 use mathlib.Core.List.{List, [], _∷_}
 use Prim.Native.Nat.{ℕ}
-use Rattle.model.specs.Buffers.{Locks, Store}
+use Rattle.model.specs.Buffers.{Locks, Limits, Store}
+use Rattle.model.specs.Load.{loadEffect}
 use Rattle.model.specs.Step.{Outcome, outcome, effect, setUpEffect, planOf}
 use Rattle.model.specs.declared.Lock.{Lock}
 use Rattle.model.specs.declared.Sessions.{Sessions}
+use Rattle.model.specs.declared.Answer.{Answer}
 use Rattle.model.specs.declared.Call.{Call}
 use Rattle.lock_records.specs.Run.{unzipped, storeOn}
 use Rattle.lock_records.specs.Forms.{zipped, OutcomeIn}
 
--- the store that three lists are
-abbrev pub storeOf : List ℕ → List ℕ → List ℕ → List ℕ → List ℕ → List ℕ → Sessions → Store
-storeOf values classes readers claimants exclusives logs sessions =
+-- the store that three lists are, under the limits G
+abbrev pub storeOf : Limits → List ℕ → List ℕ → List ℕ → List ℕ → List ℕ → List ℕ → Sessions → Store
+storeOf G values classes readers claimants exclusives logs sessions =
     record {
       lent = record { values = values; classes = classes; locks = record { readers = readers; claimants = claimants; exclusives = exclusives }; logs = logs };
+      limits = G;
       sessions = sessions;
     }
 
@@ -32,8 +35,8 @@ unzipped-injective L M e = sym (zipped-unzipped L) ∙ ap (λ (K : Locks). zippe
 -- ---- one call, on three lists and on records
 
 -- x is what the number slices are left with, of a store whose three lists are the run L unzipped; y is what the run is left with
-module _ (cs : List ℕ) (x : OutcomeIn Locks) (y : OutcomeIn (List Lock)) (same : outcome (y .answer) (storeOn (y .values) cs (y .locks) (y .logs) (y .sessions))
-    ≡ outcome (x .answer) (storeOf (x .values) cs (x .locks .readers) (x .locks .claimants) (x .locks .exclusives) (x .logs) (x .sessions))) where
+module _ (G : Limits) (cs : List ℕ) (x : OutcomeIn Locks) (y : OutcomeIn (List Lock)) (same : outcome (y .answer) (storeOn G (y .values) cs (y .locks) (y .logs) (y .sessions))
+    ≡ outcome (x .answer) (storeOf G (x .values) cs (x .locks .readers) (x .locks .claimants) (x .locks .exclusives) (x .logs) (x .sessions))) where
   -- the same answer, values, logs and records; and the records are the lists zipped
   agrees : y ≡ record { answer = x .answer; values = x .values; locks = zipped (x .locks .readers) (x .locks .claimants) (x .locks .exclusives); logs = x .logs; sessions = x .sessions }
   agrees =
@@ -46,22 +49,32 @@ module _ (cs : List ℕ) (x : OutcomeIn Locks) (y : OutcomeIn (List Lock)) (same
       rw (← a, ← v, ← w, ← s, ← k)
 
 -- a call, by the contracts of the two forms
-pub calls-agree : (k : Call) (vs cs : List ℕ) (L : List Lock) (W : List ℕ) (ss : Sessions) (x : OutcomeIn Locks) (y : OutcomeIn (List Lock))
-    → outcome (x .answer) (storeOf (x .values) cs (x .locks .readers) (x .locks .claimants) (x .locks .exclusives) (x .logs) (x .sessions))
-    ≡ effect k (storeOf vs cs (unzipped L .readers) (unzipped L .claimants) (unzipped L .exclusives) W ss)
-    → outcome (y .answer) (storeOn (y .values) cs (y .locks) (y .logs) (y .sessions)) ≡ effect k (storeOn vs cs L W ss)
+pub calls-agree : (k : Call) (G : Limits) (vs cs : List ℕ) (L : List Lock) (W : List ℕ) (ss : Sessions) (x : OutcomeIn Locks) (y : OutcomeIn (List Lock))
+    → outcome (x .answer) (storeOf G (x .values) cs (x .locks .readers) (x .locks .claimants) (x .locks .exclusives) (x .logs) (x .sessions))
+    ≡ effect k (storeOf G vs cs (unzipped L .readers) (unzipped L .claimants) (unzipped L .exclusives) W ss)
+    → outcome (y .answer) (storeOn G (y .values) cs (y .locks) (y .logs) (y .sessions)) ≡ effect k (storeOn G vs cs L W ss)
     → y ≡ record { answer = x .answer; values = x .values; locks = zipped (x .locks .readers) (x .locks .claimants) (x .locks .exclusives); logs = x .logs; sessions = x .sessions }
-calls-agree k vs cs L W ss x y e f = agrees cs x y (f ∙ sym e)
+calls-agree k G vs cs L W ss x y e f = agrees G cs x y (f ∙ sym e)
 
 -- set-up
-pub set-ups-agree : (vs cs : List ℕ) (L : List Lock) (W : List ℕ) (ss : Sessions) (x : OutcomeIn Locks) (y : OutcomeIn (List Lock))
-    → outcome (x .answer) (storeOf (x .values) cs (x .locks .readers) (x .locks .claimants) (x .locks .exclusives) (x .logs) (x .sessions))
-    ≡ setUpEffect (storeOf vs cs (unzipped L .readers) (unzipped L .claimants) (unzipped L .exclusives) W ss)
-    → outcome (y .answer) (storeOn (y .values) cs (y .locks) (y .logs) (y .sessions)) ≡ setUpEffect (storeOn vs cs L W ss)
+pub set-ups-agree : (G : Limits) (vs cs : List ℕ) (L : List Lock) (W : List ℕ) (ss : Sessions) (x : OutcomeIn Locks) (y : OutcomeIn (List Lock))
+    → outcome (x .answer) (storeOf G (x .values) cs (x .locks .readers) (x .locks .claimants) (x .locks .exclusives) (x .logs) (x .sessions))
+    ≡ setUpEffect (storeOf G vs cs (unzipped L .readers) (unzipped L .claimants) (unzipped L .exclusives) W ss)
+    → outcome (y .answer) (storeOn G (y .values) cs (y .locks) (y .logs) (y .sessions)) ≡ setUpEffect (storeOn G vs cs L W ss)
     → y ≡ record { answer = x .answer; values = x .values; locks = zipped (x .locks .readers) (x .locks .claimants) (x .locks .exclusives); logs = x .logs; sessions = x .sessions }
-set-ups-agree vs cs L W ss x y e f = agrees cs x y (f ∙ sym e)
+set-ups-agree G vs cs L W ss x y e f = agrees G cs x y (f ∙ sym e)
+
+-- a load: the same answer, and the same table and records left
+pub loads-agree : (T : List ℕ) (G : Limits) (vs cs : List ℕ) (L : List Lock) (W : List ℕ) (ss : Sessions) (a b : Answer) (X Y : Limits) (rs ts : Sessions)
+    → outcome a (storeOf X vs cs (unzipped L .readers) (unzipped L .claimants) (unzipped L .exclusives) W rs)
+    ≡ loadEffect T (storeOf G vs cs (unzipped L .readers) (unzipped L .claimants) (unzipped L .exclusives) W ss)
+    → outcome b (storeOn Y vs cs L W ts) ≡ loadEffect T (storeOn G vs cs L W ss)
+    → (b ≡ a) × ((Y ≡ X) × (ts ≡ rs))
+loads-agree T G vs cs L W ss a b X Y rs ts e f =
+    let same = f ∙ sym e in
+    (ap (λ (o : Outcome). o .answer) same, (ap (λ (o : Outcome). o .store .limits) same, ap (λ (o : Outcome). o .store .sessions) same))
 
 -- a peek goes by the plan, and the plans are the same
-pub plans-agree : (k : Call) (vs cs : List ℕ) (L : List Lock) (W : List ℕ) (ss : Sessions)
-    → planOf k (storeOn vs cs L W ss) ≡ planOf k (storeOf vs cs (unzipped L .readers) (unzipped L .claimants) (unzipped L .exclusives) W ss)
-plans-agree k vs cs L W ss = refl
+pub plans-agree : (k : Call) (G : Limits) (vs cs : List ℕ) (L : List Lock) (W : List ℕ) (ss : Sessions)
+    → planOf k (storeOn G vs cs L W ss) ≡ planOf k (storeOf G vs cs (unzipped L .readers) (unzipped L .claimants) (unzipped L .exclusives) W ss)
+plans-agree k G vs cs L W ss = refl

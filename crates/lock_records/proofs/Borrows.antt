@@ -3,8 +3,10 @@
 --     κsOf, qsOf   the lifetimes and the shares as a signature has them.        argsOf, atOf   the arguments and their values, before the numbers.        borrowed     the way back
 --     Nums, numsAt     the numbers behind, of widths ws, and their values.        Passes   the machine values of all.        Fitting  the numbers fit
 --     Classes, Tokens    what classes own, and the tokens
+--     Leaves       what a call leaves, as its contract says it of lists
 --     Sound        what the machine values owe: the records are well formed, and each slice has room
 -- Assumes nothing.
+use mathlib.Core.Path.{_≡_}
 use Prim.Native.Nat.{ℕ}
 use mathlib.Core.List.{List, [], _∷_}
 use lib.ListN.{length}
@@ -19,8 +21,13 @@ use denote.Laws.{Is, Ises, Are, valss}
 use denote.Builtin.{u8, u32}
 use denote.Ref.{RefT, now}
 use denote.Slice.{ShrSlice, Room, sliceVal, slice-vals}
+use Rattle.model.specs.Buffers.{Limits}
+use Rattle.model.specs.Step.{outcome, effect, GoesBy}
 use Rattle.model.specs.declared.Lock.{Lock}
 use Rattle.model.specs.declared.Sessions.{Sessions}
+use Rattle.model.specs.declared.Reply.{Reply}
+use Rattle.model.specs.declared.Call.{Call}
+use Rattle.lock_records.specs.Run.{storeOn}
 use Rattle.lock_records.proofs.Numbers.{rows, spell}
 use Rattle.lock_records.proofs.Row.{R, RS, low-s}
 
@@ -85,6 +92,10 @@ Classes b = ShrSlice (named 0) (b .κ₁) u8 .own (b .x₁) (slice-vals (b .x₁
 
 abbrev pub Tokens : {M : Type 1} (𝓤 : URA M) → Borrows → Item 𝓤
 Tokens 𝓤 b = ‵ (flft (b .κ₀) (b .q₀)) ⊛ (‵ (flft (b .κ₁) (b .q₁)) ⊛ (‵ (flft (b .κ₂) (b .q₂)) ⊛ (‵ (flft (b .κ₃) (b .q₃)) ⊛ ‵ ftrue)))
+
+-- the call k on values vs, classes cs, the run L, logs W and records ss replies r and leaves vs′, L′ and W′: whatever the limits are, where it goes by them
+abbrev pub Leaves : Call → List ℕ → List ℕ → List Lock → List ℕ → Sessions → Reply → List ℕ → List Lock → List ℕ → Type 0
+Leaves k vs cs L W ss r vs′ L′ W′ = (G : Limits) → GoesBy k G → outcome (r .answer) (storeOn G vs′ cs L′ W′ (r .sessions)) ≡ effect k (storeOn G vs cs L W ss)
 
 -- ---- with numbers of widths ws behind
 

@@ -22,13 +22,11 @@ use denote.Steps.{nothing, owned, heard}
 use denote.Triple.Statement.{Contract}
 use denote.Triple.Clauses.{ensured, lasts}
 use denote.Triple.Spec.{tripleOf}
-use Rattle.model.specs.Step.{outcome, effect}
 use Rattle.model.specs.declared.Lock.{Lock}
 use Rattle.model.specs.declared.Reply.{Reply}
 use Rattle.model.specs.declared.Call.{Call}
-use Rattle.lock_records.specs.Run.{storeOn}
 use Rattle.lock_records.proofs.Row.{R, RS, low-s, makes-s, RA, RK, makes-k}
-use Rattle.lock_records.proofs.Borrows.{Borrows, κsOf, qsOf, Sound, Classes, Tokens}
+use Rattle.lock_records.proofs.Borrows.{Borrows, κsOf, qsOf, Leaves, Sound, Classes, Tokens}
 use Rattle.lock_records.proofs.step as step
 
 -- a reply, and the last lists of values, run and logs
@@ -50,7 +48,7 @@ module _ {M : Type 1} (𝓤 : URA M) (H : Heap 𝓤) (A : Atoms 𝓤) (mem : Mem
     st-to = ((κsOf b, qsOf b, tt, (c .call, (b .ss, (b .x₀, (b .x₁, (b .x, (b .x₃, tt)))))), (c .val ∷ [], (low-s (b .ss) ∷ [], (slice-vals (b .x₀), (slice-vals (b .x₁), (slice-vals (b .x), (slice-vals (b .x₃), tt))))))), tt)
 
     abbrev pub Says : Final → Type 0
-    Says p = (outcome (p .0 .answer) (storeOn (p .1 .0) (now (b .x₁)) (p .1 .1 .0) (p .1 .1 .1) (p .0 .sessions)) ≡ effect (c .call) (storeOn (now (b .x₀)) (now (b .x₁)) (now (b .x)) (now (b .x₃)) (b .ss)))
+    Says p = (Leaves (c .call) (now (b .x₀)) (now (b .x₁)) (now (b .x)) (now (b .x₃)) (b .ss) (p .0) (p .1 .0) (p .1 .1 .0) (p .1 .1 .1))
         × ((length (p .1 .0) ≡ length (now (b .x₀))) × ((length (p .1 .1 .0) ≡ length (now (b .x))) × (length (p .1 .1 .1) ≡ length (now (b .x₃)))))
 
     abbrev pub st-gives : Val → Item 𝓤
@@ -67,8 +65,8 @@ module _ {M : Type 1} (𝓤 : URA M) (H : Heap 𝓤) (A : Atoms 𝓤) (mem : Mem
         qed W (raw (Step .post st-to v) ∷ []) ∵ updating ! $
         use1 W (later (some (λ (r : Reply). (Tokens 𝓤 b ⊛ ‵ (RA .own r (v ∷ []))) ⊛ raw (ensured 𝓤 H A step.ended (step.clauses 𝓤 H A mem run) (κsOf b) (c .call, (b .ss, (b .x₀, (b .x₁, (b .x, (b .x₃, tt)))))) tt r)))) (id⊢ 𝓤 _) $ await ! tt $ pick ! (λ r. split ! $ move ! (1 ∷ []) $
         use1 W (some (λ (ws : Unit {0} × (Unit {0} × (List ℕ × (Unit {0} × (List Lock × (List ℕ × Unit {0})))))). ‵ (lasts step.ended (κsOf b) (c .call, (b .ss, (b .x₀, (b .x₁, (b .x, (b .x₃, tt)))))) ws)
-        ⊛ raw (fact 𝓤 (outcome (r .answer) (storeOn (ws .1 .1 .0) (now (b .x₁)) (ws .1 .1 .1 .1 .0) (ws .1 .1 .1 .1 .1 .0) (r .sessions)) ≡ effect (c .call) (storeOn (now (b .x₀)) (now (b .x₁)) (now (b .x)) (now (b .x₃)) (b .ss)))))) (id⊢ 𝓤 _) $ pick ! (λ ws. split ! $ move ! (1 ∷ []) $
-        heard ! (outcome (r .answer) (storeOn (ws .1 .1 .0) (now (b .x₁)) (ws .1 .1 .1 .1 .0) (ws .1 .1 .1 .1 .1 .0) (r .sessions)) ≡ effect (c .call) (storeOn (now (b .x₀)) (now (b .x₁)) (now (b .x)) (now (b .x₃)) (b .ss))) (λ is.
+        ⊛ raw (fact 𝓤 (Leaves (c .call) (now (b .x₀)) (now (b .x₁)) (now (b .x)) (now (b .x₃)) (b .ss) r (ws .1 .1 .0) (ws .1 .1 .1 .1 .0) (ws .1 .1 .1 .1 .1 .0))))) (id⊢ 𝓤 _) $ pick ! (λ ws. split ! $ move ! (1 ∷ []) $
+        heard ! (Leaves (c .call) (now (b .x₀)) (now (b .x₁)) (now (b .x)) (now (b .x₃)) (b .ss) r (ws .1 .1 .0) (ws .1 .1 .1 .1 .0) (ws .1 .1 .1 .1 .1 .0)) (λ is.
         fsplit ! $ drop ! $ fsplit ! $ drop ! $ fsplit ! $ fsplit ! $ move ! (1 ∷ []) $ feqL ! (λ e₀. move ! (1 ∷ []) $ fsplit ! $ drop ! $ fsplit ! $ fsplit ! $ move ! (1 ∷ []) $ feqL ! (λ e. move ! (1 ∷ []) $ fsplit ! $ fsplit ! $ move ! (1 ∷ []) $ feqL ! (λ e₃.
         -- [what says logs' last list; true; what says locks'; what says values'; the tokens and the reply]
         move ! (4 ∷ []) $ split ! $ keep ! (1 ∷ 0 ∷ 5 ∷ 4 ∷ 2 ∷ []) $ at-once ! $

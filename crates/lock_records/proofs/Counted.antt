@@ -5,7 +5,7 @@
 --     goes, gets   what f is passed, and what it gives.        Walk     what a walk shows.        exits    the end of each.        meets    a walk, taken to the contract
 --     meets-one, meets-two     by the walk for that many numbers
 -- Assumes `Given`.
-use mathlib.Core.Path.{_≡_, refl}
+use mathlib.Core.Path.{refl}
 use Prim.Native.Nat.{ℕ, _+_}
 use mathlib.Core.List.{List, [], _∷_}
 use lib.ListN.{length}
@@ -39,16 +39,14 @@ use denote.Triple.Spec.{Meets, tripleOf}
 use denote.Triple.Statement.{Contract, Triple}
 use denote.Triple.Walked.{says, Stays, stay-none, stay-none-slice, hasOf, walkOf, goes-none, goes-none-slice, ends-at, walked, walk-meets}
 use denote.Exit.{yes}
-use Rattle.model.specs.Step.{outcome, effect}
 use Rattle.model.specs.declared.Sessions.{Sessions}
 use Rattle.model.specs.declared.Reply.{Reply}
 use Rattle.model.specs.declared.Call.{Call}
 use Rattle.model.proofs.Sessions.Laws as S′
 use Rattle.model.proofs.Reply.Laws as A′
-use Rattle.lock_records.specs.Run.{storeOn}
 use Rattle.lock_records.specs.Turns.{IsReply}
 use Rattle.lock_records.proofs.Row.{R, RS, low-s, tells-s, makes-s, typed-s, RA, typed-a}
-use Rattle.lock_records.proofs.Borrows.{Borrows, κsOf, qsOf, argsOf, atOf, borrowed, Nums, numsAt, Passes, Fitting, Sound, Classes, Tokens}
+use Rattle.lock_records.proofs.Borrows.{Borrows, κsOf, qsOf, argsOf, atOf, borrowed, Nums, numsAt, Passes, Fitting, Leaves, Sound, Classes, Tokens}
 use Rattle.lock_records.proofs.Numbers.{hold, lent, inLocals, copies, numbers, stays, rows, spell, tell, last, fit, go, had, passed}
 use Rattle.lock_records.proofs.Leave.{full, leave}
 use Rattle.lock_records.proofs.Short.{allocates, var, sets}
@@ -109,8 +107,7 @@ module _ (ws : List Width) where
   clauses k 𝓤 κs a = record {
     ghost = Unit {0};
     requires = λ g. emp 𝓤;
-    ensures = λ g r e. fact 𝓤 (outcome (r .answer) (storeOn (now (a .1 .0)) (now (a .1 .1 .0)) (now (a .1 .1 .1 .0)) (now (a .1 .1 .1 .1 .0)) (r .sessions))
-        ≡ effect (k 4 κs (a .1 .1 .1 .1 .1)) (storeOn (now (a .1 .0)) (now (a .1 .1 .0)) (now (a .1 .1 .1 .0)) (now (a .1 .1 .1 .1 .0)) (a .0)));
+    ensures = λ g r e. fact 𝓤 (Leaves (k 4 κs (a .1 .1 .1 .1 .1)) (now (a .1 .0)) (now (a .1 .1 .0)) (now (a .1 .1 .1 .0)) (now (a .1 .1 .1 .1 .0)) (a .0) r (now (a .1 .0)) (now (a .1 .1 .1 .0)) (now (a .1 .1 .1 .1 .0)));
   }
 
   module _ (b : Borrows) (ns : Nums ws b) where
@@ -183,7 +180,7 @@ module _ {M : Type 1} (𝓤 : URA M) (H : Heap 𝓤) (A : Atoms 𝓤) (W : Given
     exits r v f =
         qed W (Ends r v) ∵
         suffices ! _ (ends-at 𝓤 H A (ended ws) (stayed ws) (clauses ws k 𝓤) W ((κs, qsOf b, tt, argsOf b ns, at ws b ns), tt) v r (tt, (tt, (tt, (tt, (tt, last 4 κs ws ns))))) (tt, (tt, (tt, (tt, (tt, fit 4 κs ws ns)))))) $
-        says ! (f (now (b .x₀)) (now (b .x₁)) (now (b .x)) refl refl refl) $
+        says ! (λ G g. f G g (now (b .x₀)) (now (b .x₁)) (now (b .x)) refl refl refl) $
         move ! (1 ∷ []) $ move ! (3 ∷ 0 ∷ []) $ join ! $ move ! (3 ∷ 0 ∷ []) $ join ! $ move ! (3 ∷ 0 ∷ []) $ join ! $ frame ! $
         -- [the reply; logs; locks; classes; values]
         use0 W (‵ (hasOf κs (numbers 4 ws) (all yes (numbers 4 ws)) (stays 4 ws) ns (last 4 κs ws ns) (numsAt ws b ns))) (had 4 𝓤 H A W κs ws ns are) $

@@ -6,7 +6,7 @@
 --     Walk         what a walk shows.        exits    the end of each.        meets    a walk, taken to the contract
 --     meets-one, meets-two, meets-three    by the walk for that many numbers
 -- Assumes `Given`.
-use mathlib.Core.Path.{_≡_, refl}
+use mathlib.Core.Path.{refl}
 use Prim.Native.Nat.{ℕ, _+_, _<_, _^_}
 use mathlib.Core.List.{List, [], _∷_}
 use lib.Dec.{T, ltb}
@@ -42,7 +42,6 @@ use denote.Triple.Spec.{Meets}
 use denote.Triple.Statement.{Triple}
 use denote.Triple.Walked.{says, Stays, stay-none, gave-slice, stay-none-slice, hasOf, walkOf, goes-none, goes-gave-slice, goes-none-slice, ends-at, walked, walk-meets}
 use denote.Exit.{yes}
-use Rattle.model.specs.Step.{outcome, effect}
 use Rattle.model.specs.declared.Sessions.{Sessions}
 use Rattle.model.specs.declared.Call.{Call}
 use Rattle.model.specs.declared.Call.the-variants.{Write}
@@ -50,9 +49,8 @@ use Rattle.model.proofs.Sessions.Laws as S′
 use Rattle.model.proofs.Reply.Laws as A′
 use Rattle.model.proofs.Call.Laws as K′
 use Rattle.model.proofs.Lock.Laws as T′
-use Rattle.lock_records.specs.Run.{storeOn}
 use Rattle.lock_records.proofs.Row.{R, RS, low-s, tells-s, makes-s, typed-s, RA, typed-a, RK, low-k, typed-k, write-is}
-use Rattle.lock_records.proofs.Borrows.{Borrows, κsOf, qsOf, argsOf, atOf, borrowed, Nums, numsAt, Passes, Fitting, Sound, Classes, Tokens}
+use Rattle.lock_records.proofs.Borrows.{Borrows, κsOf, qsOf, argsOf, atOf, borrowed, Nums, numsAt, Passes, Fitting, Leaves, Sound, Classes, Tokens}
 use Rattle.lock_records.proofs.Numbers.{hold, lent, inLocals, copies, numbers, stays, rows, spell, tell, last, fit, go, had}
 use Rattle.lock_records.proofs.Leave.{full, leave}
 use Rattle.lock_records.proofs.Short.{allocates, var, sets, relends}
@@ -113,8 +111,7 @@ module _ (ws : List Width) where
   clauses k 𝓤 κs a = record {
     ghost = Unit {0};
     requires = λ g. emp 𝓤;
-    ensures = λ g r e. fact 𝓤 (outcome (r .answer) (storeOn (now (e .1 .0)) (now (a .1 .1 .0)) (now (e .1 .1 .1 .0)) (now (e .1 .1 .1 .1 .0)) (r .sessions))
-        ≡ effect (k κs (a .1 .1 .1 .1 .1)) (storeOn (now (a .1 .0)) (now (a .1 .1 .0)) (now (a .1 .1 .1 .0)) (now (a .1 .1 .1 .1 .0)) (a .0)));
+    ensures = λ g r e. fact 𝓤 (Leaves (k κs (a .1 .1 .1 .1 .1)) (now (a .1 .0)) (now (a .1 .1 .0)) (now (a .1 .1 .1 .0)) (now (a .1 .1 .1 .1 .0)) (a .0) r (now (e .1 .0)) (now (e .1 .1 .1 .0)) (now (e .1 .1 .1 .1 .0)));
   }
 
   module _ (b : Borrows) (ns : Nums ws b) where

@@ -11,6 +11,7 @@ pub mod Filled
 pub mod Counted
 pub mod Changes
 pub mod OnRun
+pub mod ByTable
 pub mod Replies
 pub mod Cells
 pub mod SetUps

@@ -1,12 +1,13 @@
 -- A call on every run of the length given, with the lock given: refused by 7 or 1, or its turn put back, with its change carried out on the run.
 use mathlib.Core.Path.{_≡_, refl, sym, ap, _∙_}
+use mathlib.Core.Bool.{true}
 use mathlib.Core.List.{List}
 use Prim.Native.Nat.{ℕ, _%_, _<_, _≤_}
 use native.Mathlib.Omega.{arith}
 use borrow.Author.Tests.{ne-eqb}
 use lib.ListN.{length, getD, set, replicate, length-replicate}
-use Rattle.model.specs.Buffers.{free, idle, sessionAt, withSession, logIn, lockAt, lengthsMatch}
-use Rattle.model.specs.Plans.{plan}
+use Rattle.model.specs.Buffers.{Limits, ours, free, idle, sessionAt, withSession, logIn, lockAt, lengthsMatch}
+use Rattle.model.specs.Plans.{plan, tableFits}
 use Rattle.model.specs.Step.{planOf, sessionOf}
 use Rattle.model.specs.Turns.{TurnEffect, leaves, turnOf, changed}
 use Rattle.model.specs.declared.Session.{Session}
@@ -14,9 +15,10 @@ use Rattle.model.specs.declared.Sessions.{Sessions}
 use Rattle.model.specs.declared.Lock.{Lock}
 use Rattle.model.specs.declared.Turn.{Turn as CallTurn}
 use Rattle.model.specs.declared.Answer.the-variants.{Refused}
+use Rattle.model.specs.declared.Plan.{Plan}
 use Rattle.model.specs.declared.Plan.the-variants.{Refuse}
 use Rattle.model.specs.declared.Call.{Call}
-use Rattle.model.specs.declared.Call.the-variants.{Begin, Read, Write, Seal, Advance, Abandon, Peek}
+use Rattle.model.proofs.Tables.{goes-fits, goes-plan}
 use Rattle.locks.specs.Changes.{ChangeFits as Fits}
 use Rattle.calls.specs.Pieces.{admission}
 use Rattle.turns.specs.AnyCall.{cellFor, planWith}
@@ -27,11 +29,11 @@ use Rattle.turns.proofs.Lengths.{Admitted, plan-refused}
 use Rattle.turns.proofs.Logs.{log-long}
 use Rattle.turns.proofs.InLogs.{left, still}
 use Rattle.turns.proofs.AnyCall.{one-lock}
-use Rattle.turns.proofs.Whole.{planIn, takes}
+use Rattle.turns.proofs.Whole.{planUnder, planIn, takes-under}
 use Rattle.lock_records.specs.declared.Change.{Change}
 use Rattle.lock_records.specs.declared.Turn.{Turn}
 use Rattle.lock_records.specs.Run.{unzipped, lentOn, storeOn, lockIn, countOf, swept, sweptBy, onRun}
-use Rattle.lock_records.specs.Turns.{lookOf, onlyAnswer, IsTurn}
+use Rattle.lock_records.specs.Turns.{lookOf, onlyAnswer, IsTurnUnder, IsTurn}
 use Rattle.lock_records.proofs.Changes.{each-length, unzipped-at, changes, change-fits}
 
 -- ---- refusals 7 and 1, by the number r that the code's test answered of n values, k classes, m locks and the logs W
@@ -41,8 +43,8 @@ module _ (n k m : ℕ) (W : List ℕ) (s r : ℕ) (e : r ≡ admission (lengthsM
     fits : r ≡ admission (lengthsMatch (length vs) (length cs) (length (unzipped L .readers)) (length (unzipped L .claimants)) (length (unzipped L .exclusives)) (length W)) s
     fits = rw (i, j, each-length (λ l. l .readers) L, each-length (λ l. l .claimant) L, each-length (λ l. l .exclusive) L, q) e
 
-    pub refuses : (c : Call) → s ≡ sessionOf c → (r ≡ 0 → ⊥) → (ss : Sessions) → Refuse r ≡ planOf c (storeOn vs cs L W ss)
-    refuses c o h ss = plan-refused (lentOn vs cs L W) s r fits c o h (storeOn vs cs L W ss) refl
+    pub refuses : (c : Call) → s ≡ sessionOf c → (r ≡ 0 → ⊥) → (G : Limits) → tableFits c G ≡ true → (ss : Sessions) → Refuse r ≡ planOf c (storeOn G vs cs L W ss)
+    refuses c o h G f ss = plan-refused (lentOn vs cs L W) s r fits c o h (storeOn G vs cs L W ss) f refl
 
     pub admits : r ≡ 0 → Admitted (lentOn vs cs L W) s
     admits z = Lengths.admitted (lentOn vs cs L W) s r fits z
@@ -98,9 +100,13 @@ module _ (call : Call) (ss : Sessions) (n k m : ℕ) (W : List ℕ) (s : ℕ) (i
 
 module _ (k : Call) (vs cs W : List ℕ) (ss : Sessions) (m : ℕ) (l : Lock) (s : ℕ) (i : s ≡ sessionOf k) (r : ℕ)
     (e : r ≡ admission (lengthsMatch (length vs) (length cs) m m m (length W)) s) where
-  pub turned-down : (r ≡ 0 → ⊥) → (t : Turn) → t ≡ onlyAnswer ss (Refused r) → IsTurn k vs cs m l W ss vs W t
+  pub turned-down-under : (G : Limits) → tableFits k G ≡ true → (r ≡ 0 → ⊥) → (t : Turn) → t ≡ onlyAnswer ss (Refused r) → (c : ℕ) → IsTurnUnder G k c vs cs m l W ss vs W t
   unfolding countOf swept
-  turned-down n t f = rw f (tt, λ L q g. Lengths.refuses k (storeOn vs cs L W ss) r (refuses (length vs) (length cs) m W s r e vs cs L refl refl q k i n ss))
+  turned-down-under G g n t f c =
+      rw f (tt, λ L q h. Lengths.refuses k (storeOn G vs cs L W ss) r (refuses (length vs) (length cs) m W s r e vs cs L refl refl q k i n G g ss))
+
+  pub turned-down : (r ≡ 0 → ⊥) → (t : Turn) → t ≡ onlyAnswer ss (Refused r) → IsTurn k vs cs m l W ss vs W t
+  turned-down n t f G g = turned-down-under G (goes-fits k G g) n t f (lookOf k ss (length vs) (length cs) m W)
 
   module _ (z : r ≡ 0) where
     abbrev x : Session
@@ -112,6 +118,35 @@ module _ (k : Call) (vs cs W : List ℕ) (ss : Sessions) (m : ℕ) (l : Lock) (s
     long : length W ≡ 2048
     long = words (length vs) (length cs) m W s r e z
 
+    -- what is decided under the limits G with the lock l, which is that of cell c; t is its turn, which left the values vs′ and the logs Ws
+    module _ (G : Limits) (g : tableFits k G ≡ true) (c : ℕ)
+        (w : (L : List Lock) → lockIn L c ≡ l → plan k (length vs) cs G (logIn W s) x (λ _. l) ≡ planUnder G k (lentOn vs cs L W) (logIn W s) x) (t : CallTurn) (vs′ Ws : List ℕ)
+        (h : leaves (t .answer) vs′ Ws (t .session) (t .change) ≡ inLogs s W (turnOf (plan k (length vs) cs G (logIn W s) x (λ _. l)) vs (logIn W s) x)) where
+      can-change : Fits (t .change) s (logIn Ws s) (x .count) (length vs)
+      can-change =
+          let d = log-fits (length vs) (length cs) m W s r e z (logIn W s) refl in
+          rw (left s W own long _ _ _ _ _ _ _ _ h, ap (λ (f : TurnEffect). f .change) h) (call-fits (length vs) (logIn W s) x s vs own (d .0) (d .1) cs G (λ _. l) k _ refl)
+
+      kept : length Ws ≡ 2048
+      kept = still s W own long _ _ _ _ _ _ _ _ h
+
+      swept-run : (L : List Lock) → length L ≡ m → unzipped (sweptBy Ws (onRun (t .change) s (x .count)) L) ≡ changed (t .change) (logIn Ws s) (x .count) s (unzipped L)
+      swept-run L q =
+          let f = few (length vs) (length cs) m W s r e z in let u = locked (length vs) (length cs) m W s r e z in
+          changes (t .change) Ws s (x .count) L (omega arith)
+
+      pub taken-under : (d : Change) → d ≡ onRun (t .change) s (x .count)
+          → IsTurnUnder G k c vs cs m l W ss vs′ Ws (record { reply = record { answer = t .answer; sessions = record { records = set (ss .records) s (t .session) } }; change = d })
+      unfolding withSession
+      taken-under d f =
+          rw f (
+            change-fits (t .change) Ws (logIn Ws s) s (x .count) (length vs) own (log-long Ws s kept own (logIn Ws s) refl) kept can-change,
+            λ L q o.
+                rw (mine ss s (sessionOf k) own i) at
+                (takes-under G k (lentOn vs cs L W) x s i (admits (length vs) (length cs) m W s r e vs cs L refl refl q z) _ (w L o) (t .answer) vs′ Ws (t .session) (t .change) h (logIn Ws s) refl g
+                (unzipped (sweptBy Ws (onRun (t .change) s (x .count)) L)) (swept-run L q) ss (is-mine ss s (sessionOf k) own i)),
+          )
+
     -- the lock that was looked up is the one that the plan reads
     with-lock : (L : List Lock) → lockIn L (lookOf k ss (length vs) (length cs) m W) ≡ l → planWith k (length vs) cs (logIn W s) x l ≡ planIn k (lentOn vs cs L W) (logIn W s) x
     with-lock L g =
@@ -119,30 +154,11 @@ module _ (k : Call) (vs cs W : List ℕ) (ss : Sessions) (m : ℕ) (l : Lock) (s
         let h : l ≡ lockAt (unzipped L) (cellFor k (length vs) (logIn W s) x) = sym g ∙ sym (unzipped-at L _) ∙ ap (lockAt (unzipped L)) there in
         rw h (one-lock k (length vs) cs (logIn W s) x (lockAt (unzipped L)))
 
-    -- t is the turn, which left the values vs′ and the logs Ws
-    module _ (t : CallTurn) (vs′ Ws : List ℕ)
-        (h : leaves (t .answer) vs′ Ws (t .session) (t .change) ≡ inLogs s W (turnOf (planWith k (length vs) cs (logIn W s) x l) vs (logIn W s) x)) where
-      can-change : Fits (t .change) s (logIn Ws s) (x .count) (length vs)
-      can-change =
-          let d = log-fits (length vs) (length cs) m W s r e z (logIn W s) refl in
-          rw (left s W own long _ _ _ _ _ _ _ _ h, ap (λ (f : TurnEffect). f .change) h) (call-fits (length vs) (logIn W s) x s vs own (d .0) (d .1) cs (λ c. l) k _ refl)
-
-      kept : length Ws ≡ 2048
-      kept = still s W own long _ _ _ _ _ _ _ _ h
-
-      swept-run : (L : List Lock) → length L ≡ m → unzipped (sweptBy Ws (onRun (t .change) s (x .count)) L) ≡ changed (t .change) (logIn Ws s) (x .count) s (unzipped L)
-      swept-run L q =
-          let f = few (length vs) (length cs) m W s r e z in let w = locked (length vs) (length cs) m W s r e z in
-          changes (t .change) Ws s (x .count) L (omega arith)
-
-      pub taken : (d : Change) → d ≡ onRun (t .change) s (x .count)
-          → IsTurn k vs cs m l W ss vs′ Ws (record { reply = record { answer = t .answer; sessions = record { records = set (ss .records) s (t .session) } }; change = d })
-      unfolding withSession
-      taken d f =
-          rw f (
-            change-fits (t .change) Ws (logIn Ws s) s (x .count) (length vs) own (log-long Ws s kept own (logIn Ws s) refl) kept can-change,
-            λ L q g.
-                rw (mine ss s (sessionOf k) own i) at
-                (takes k (lentOn vs cs L W) x s i (admits (length vs) (length cs) m W s r e vs cs L refl refl q z) _ (with-lock L g) (t .answer) vs′ Ws (t .session) (t .change) h (logIn Ws s) refl
-                (unzipped (sweptBy Ws (onRun (t .change) s (x .count)) L)) (swept-run L q) ss (is-mine ss s (sessionOf k) own i)),
-          )
+    pub taken : (t : CallTurn) (vs′ Ws : List ℕ)
+        → leaves (t .answer) vs′ Ws (t .session) (t .change) ≡ inLogs s W (turnOf (planWith k (length vs) cs (logIn W s) x l) vs (logIn W s) x)
+        → (d : Change) → d ≡ onRun (t .change) s (x .count)
+        → IsTurn k vs cs m l W ss vs′ Ws (record { reply = record { answer = t .answer; sessions = record { records = set (ss .records) s (t .session) } }; change = d })
+    taken t vs′ Ws h d f G g =
+        let by : (lock : ℕ → Lock) → plan k (length vs) cs ours (logIn W s) x lock ≡ plan k (length vs) cs G (logIn W s) x lock = goes-plan k G g (length vs) cs (logIn W s) x in
+        taken-under G (goes-fits k G g) (lookOf k ss (length vs) (length cs) m W) (λ L o. sym (by (λ _. l)) ∙ with-lock L o ∙ by (lockAt (unzipped L)))
+        t vs′ Ws (h ∙ ap (λ (p : Plan). inLogs s W (turnOf p vs (logIn W s) x)) (by (λ _. l))) d f

@@ -4,7 +4,7 @@ use Prim.Native.Nat.{ℕ, zero, suc, _≤_, _<_}
 use mathlib.Core.Bool.{cond}
 use mathlib.Core.List.{List, [], _∷_}
 use lib.ListN.{length, getD, set}
-use Rattle.model.specs.Buffers.{Locks, Buffers, Store, free, logIn, cellAt, publishesIn, join, leave, vacate, withdraw, claim, acquire}
+use Rattle.model.specs.Buffers.{Locks, Buffers, Limits, Store, free, logIn, cellAt, publishesIn, join, leave, vacate, withdraw, claim, acquire}
 use Rattle.model.specs.declared.Lock.{Lock}
 use Rattle.model.specs.declared.Sessions.{Sessions}
 use Rattle.model.specs.declared.Change.{Change as LockChange}
@@ -24,12 +24,12 @@ abbrev pub unzipped : List Lock → Locks
 unzipped ls =
     record { readers = each (λ l. l .readers) ls; claimants = each (λ l. l .claimant) ls; exclusives = each (λ l. l .exclusive) ls }
 
--- the lent buffers whose locks are a run, and the store
+-- the lent buffers whose locks are a run, and the store under the limits G
 abbrev pub lentOn : List ℕ → List ℕ → List Lock → List ℕ → Buffers
 lentOn values classes locks logs = record { values = values; classes = classes; locks = unzipped locks; logs = logs }
 
-abbrev pub storeOn : List ℕ → List ℕ → List Lock → List ℕ → Sessions → Store
-storeOn values classes locks logs sessions = record { lent = lentOn values classes locks logs; sessions = sessions }
+abbrev pub storeOn : Limits → List ℕ → List ℕ → List Lock → List ℕ → Sessions → Store
+storeOn G values classes locks logs sessions = record { lent = lentOn values classes locks logs; limits = G; sessions = sessions }
 
 -- ---- what a call does to the run
 

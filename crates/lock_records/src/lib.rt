@@ -7,8 +7,8 @@ ghost use Rattle.model.specs.Buffers.{logIn, cellAt};
 ghost use Rattle.model.specs.declared.Call.the-variants.{Begin, Read, Write, Seal, Advance, Abandon, Peek, Hold};
 ghost use Rattle.lock_records.specs.declared.Change.the-variants.{Leave};
 ghost use Rattle.lock_records.specs.Run.{lockIn, countOf, cellOf, changeOf, changedAt, sweptBy, SessionFits, ChangeFits, onRun};
-ghost use Rattle.lock_records.specs.Turns.{onlyAnswer, lookOf, IsReply, IsPeekPlan, IsPeekPart, TakesOnRun, SetsUpTurn};
-ghost use Rattle.lock_records.specs.Lent.{Takes, SetsUp, HandsBack};
+ghost use Rattle.lock_records.specs.Turns.{onlyAnswer, lookOf, IsReply, IsPeekPlan, IsPeekPart, TakesOnRun, WritesOnRun, SetsUpTurn, SetsUpTurnBy, LoadsOnRun};
+ghost use Rattle.lock_records.specs.Lent.{Takes, TakesBy, SetsUp, SetsUpBy, Loads, HandsBack};
 use model::Answer;
 use model::Call;
 use model::Lock;
@@ -197,6 +197,42 @@ fn set_up_turn(
     }
 }
 
+// The same by a table.
+fn set_up_turn_by(
+    sessions: Sessions,
+    values: &[u32],
+    classes: &[u8],
+    locks: usize,
+    logs: &mut [u32],
+    caps: &[u32],
+) -> Turn
+    ensures { λ r. ⌜ SetsUpTurnBy caps values classes locks logs sessions r ⌝ }
+{
+    if caps.len() != 16 {
+        return only_answer(sessions, Answer::Refused(7));
+    }
+    let n = values.len();
+    if !calls::lengths_fit(n, classes.len(), locks, locks, locks, logs.len()) {
+        return only_answer(sessions, Answer::Refused(7));
+    }
+    if !calls::caps_pass(caps) {
+        return only_answer(sessions, Answer::Refused(16));
+    }
+    if !calls::all_fit_by(caps, values, classes) {
+        return only_answer(sessions, Answer::Refused(8));
+    }
+    log::clear_words(logs);
+    let idle = model::all_idle();
+    let reply = Reply {
+        answer: Answer::Done,
+        sessions: idle,
+    };
+    Turn {
+        reply,
+        change: Change::Clear(n as u32),
+    }
+}
+
 // ---- a call, but for the run
 
 // The cell whose lock a call may need; 0 where it needs none, and where it is refused by 7 or 1.
@@ -270,6 +306,86 @@ fn take_turn(
         reply,
         change: on_run(change, session, x.count),
     }
+}
+
+// A write by a table: refusals 7, also of the table, and 1, then its turn with the lock of its cell, with the record put back.
+fn write_turn(
+    mut sessions: Sessions,
+    values: &[u32],
+    classes: &[u8],
+    locks: usize,
+    l: Lock,
+    logs: &mut [u32],
+    caps: &[u32],
+    session: u8,
+    cell: u32,
+    value: u32,
+) -> Turn
+    ensures { λ r. ⌜ WritesOnRun caps session cell value values classes locks l logs sessions r ⌝ }
+{
+    if caps.len() != 16 {
+        return only_answer(sessions, Answer::Refused(7));
+    }
+    let refusal = calls::admit(
+        values.len(),
+        classes.len(),
+        locks,
+        locks,
+        locks,
+        logs.len(),
+        session,
+    );
+    if refusal != 0 {
+        return only_answer(sessions, Answer::Refused(refusal));
+    }
+    let i = session as usize;
+    let x = sessions.records[i];
+    let p = calls::write_plan_by(
+        caps,
+        log::of_session(logs, session),
+        classes,
+        x,
+        cell,
+        value,
+    );
+    let t = turns::write(values, logs, x, l, session, cell, value, p);
+    let y = t.session;
+    let answer = t.answer;
+    let change = t.change;
+    sessions.records[i] = y;
+    let reply = Reply { answer, sessions };
+    Turn {
+        reply,
+        change: on_run(change, session, x.count),
+    }
+}
+
+// ---- a table loaded: of run and logs it is told the counts
+
+// The table in the place of the one in force.
+fn load_turn(
+    sessions: Sessions,
+    values: &[u32],
+    classes: &[u8],
+    locks: usize,
+    logs: usize,
+    caps: &mut [u32],
+    table: &[u32],
+) -> Reply
+    ensures { λ r. ⌜ LoadsOnRun caps table values classes locks logs sessions r ⌝ }
+{
+    let answer = turns::load_caps(
+        sessions,
+        values,
+        classes,
+        locks,
+        locks,
+        locks,
+        logs,
+        caps,
+        table,
+    );
+    Reply { answer, sessions }
 }
 
 // ---- the calls that leave all that is lent as it is: of the run they are told the count
@@ -389,6 +505,45 @@ pub fn set_up(
     t.reply
 }
 
+// Set-up by a table of the caller's own. 100, 7, 16 or 8.
+pub fn set_up_with_caps(
+    sessions: Sessions,
+    values: &[u32],
+    classes: &[u8],
+    locks: &mut [Lock],
+    logs: &mut [u32],
+    caps: &[u32],
+) -> Reply
+    ensures { λ r. ⌜ SetsUpBy caps values classes locks logs sessions r ⌝ }
+{
+    let t = set_up_turn_by(sessions, values, classes, locks.len(), logs, caps);
+    sweep(locks, logs, t.change);
+    t.reply
+}
+
+// A table in the place of the one in force, while every session is idle. 100, 7, 2, 16, 8 or 17.
+pub fn load_caps(
+    sessions: Sessions,
+    values: &[u32],
+    classes: &[u8],
+    locks: &[Lock],
+    logs: &[u32],
+    caps: &mut [u32],
+    table: &[u32],
+) -> Reply
+    ensures { λ r. ⌜ Loads caps table values classes locks logs sessions r ⌝ }
+{
+    load_turn(
+        sessions,
+        values,
+        classes,
+        locks.len(),
+        logs.len(),
+        caps,
+        table,
+    )
+}
+
 // Any call of a list.
 pub fn step(
     call: Call,
@@ -500,6 +655,37 @@ pub fn write(
         locks,
         logs,
     )
+}
+
+// Write by the table that is handed in, also one that does not pass: 7 where it has not 16 caps, 8 and 4 by it.
+pub fn write_with_caps(
+    sessions: Sessions,
+    values: &[u32],
+    classes: &[u8],
+    locks: &mut [Lock],
+    logs: &mut [u32],
+    caps: &[u32],
+    session: u8,
+    cell: u32,
+    value: u32,
+) -> Reply
+    ensures { λ r. ⌜ TakesBy caps (Write session cell value) values classes locks logs sessions r ⌝ }
+{
+    let l = lock_at(locks, cell as usize);
+    let t = write_turn(
+        sessions,
+        values,
+        classes,
+        locks.len(),
+        l,
+        logs,
+        caps,
+        session,
+        cell,
+        value,
+    );
+    sweep(locks, logs, t.change);
+    t.reply
 }
 
 // Seal: running only. The session leaves the readers of each cell entered that it does not publish. 105 where it publishes none, else 102.

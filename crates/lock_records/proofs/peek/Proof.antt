@@ -116,7 +116,7 @@ module _ {M : Type 1} (𝓤 : URA M) (H : Heap 𝓤) (A : Atoms 𝓤) (W : Given
   exits r v f =
       qed W (‵ (Part r v) ∷ (‵ (flft κ₀ q₀) ⊛ ‵ ftrue) ∷ ‵ Values ∷ ‵ Logs ∷ ‵ (flft κ₂ q₂) ∷ ‵ (flft κ₁ q₁) ∷ ‵ Locks ∷ ‵ Classes ∷ []) ∵
       suffices ! _ (ends-at 𝓤 H A peek.ended stayed (peek.clauses 𝓤 H A mem run) W (((κ₀, (κ₁, (κ₂, tt))), (q₀, (q₁, (q₂, tt))), tt, a, at), tt) v r (tt, (tt, (tt, (tt, (tt, (tt, (tt, tt))))))) (tt, (tt, (tt, (tt, (tt, (tt, (tt, tt)))))))) $
-      says ! (f (now x₁) (now x) refl refl) $
+      says ! (λ G. f G (now x₁) (now x) refl refl) $
       move ! (1 ∷ []) $ split ! $ move ! (5 ∷ 1 ∷ []) $ join ! $ move ! (5 ∷ 0 ∷ []) $ join ! $ move ! (1 ∷ 0 ∷ []) $ join ! $ frame ! $
       -- [the part; values; logs; locks; classes]
       nothing ! $ owned ! u32 (Is u32) (uint-makes 𝓤 H A W w32) c _ (refl, fc) $ fjoin ! $ owned ! u8 (Is u8) (uint-makes 𝓤 H A W w8) s _ (refl, fs) $ fjoin ! $ move ! (3 ∷ 0 ∷ []) $ fjoin ! $ move ! (3 ∷ 0 ∷ []) $ fjoin ! $ move ! (3 ∷ 0 ∷ []) $ fjoin ! $ move ! (2 ∷ 0 ∷ []) $ fjoin ! $

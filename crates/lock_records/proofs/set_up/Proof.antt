@@ -35,6 +35,7 @@ use denote.Triple.Statement.{Contract, Triple}
 use denote.Triple.Table.{entered, cited}
 use denote.Triple.Walked.{says, Stays, stay-none, stay-slice, stay-none-slice, walkOf, goes-none, goes-slice, goes-none-slice, Walks, ends-at, walked, walk-meets}
 use denote.Exit.{yes}
+use Rattle.model.specs.Buffers.{ours}
 use Rattle.model.specs.Step.{outcome}
 use Rattle.model.specs.declared.Lock.{Lock}
 use Rattle.model.specs.declared.Sessions.{Sessions}
@@ -111,7 +112,7 @@ module _ {M : Type 1} (𝓤 : URA M) (H : Heap 𝓤) (A : Atoms 𝓤) (W : Given
   to ν δ = (((κ₀, (κ₁, (ν ∷ [], tt))), (q₀, (q₁, (fullShare, tt))), tt, (ss, (x₀, (x₁, (n, (ref-at b₃ o₃ δ logs, tt))))), (low-s ss ∷ [], (slice-vals x₀, (slice-vals x₁, (vint w64 n ∷ [], (s₃ ∷ [], tt)))))), tt)
 
   abbrev Says : List ℕ → Turn → Type 0
-  Says ws t = IsSetUpTurn (now x₀) (now x₁) n logs ss ws t
+  Says ws t = IsSetUpTurn ours (now x₀) (now x₁) n logs ss ws t
 
   abbrev gives : Val → List ℕ → Item 𝓤
   gives v ws = some (λ (t : Turn). given (Says ws t) (‵ (RU .own t (v ∷ [])) ⊛ (‵ (flft κ₀ q₀) ⊛ ‵ (flft κ₁ q₁))))
@@ -144,7 +145,7 @@ module _ {M : Type 1} (𝓤 : URA M) (H : Heap 𝓤) (A : Atoms 𝓤) (W : Given
   exits t v p zs ws f len put len₃ =
       qed W (‵ (Locks zs) ∷ ‵ (flft κ₂ q₂) ∷ ‵ (Logs ws) ∷ ‵ (flft κ₃ q₃) ∷ ‵ (flft κ₀ q₀) ∷ ‵ (flft κ₁ q₁) ∷ ‵ Classes ∷ ‵ Values ∷ []) ∵
       suffices ! _ (ends-at 𝓤 H A set-up.ended stayed (set-up.clauses 𝓤 H A mem run) W (((κ₀, (κ₁, (κ₂, (κ₃, tt)))), (q₀, (q₁, (q₂, (q₃, tt)))), tt, a, at), tt) (low-a (t .reply)) (t .reply) (tt, (tt, (tt, (zs, (ws, tt))))) (tt, (tt, (tt, (len, (len₃, tt)))))) $
-      says ! (ap (λ (us : List Lock). outcome (t .reply .answer) (storeOn (now x₀) (now x₁) us ws (t .reply .sessions))) put ∙ f .1 ys refl) $
+      says ! (ap (λ (us : List Lock). outcome (t .reply .answer) (storeOn ours (now x₀) (now x₁) us ws (t .reply .sessions))) put ∙ f .1 ys refl) $
       nothing ! $ move ! (4 ∷ 0 ∷ []) $ join ! $ move ! (2 ∷ 0 ∷ []) $ join ! $ move ! (4 ∷ 0 ∷ []) $ join ! $ move ! (3 ∷ 0 ∷ []) $ join ! $ frame ! $
       -- [locks; logs; classes; values]
       nothing ! $ move ! (2 ∷ 0 ∷ []) $ fjoin ! $ move ! (1 ∷ 0 ∷ []) $ fjoin ! $ move ! (1 ∷ 0 ∷ []) $ fjoin ! $ move ! (1 ∷ 0 ∷ []) $ fjoin ! $

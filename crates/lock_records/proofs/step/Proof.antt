@@ -35,6 +35,7 @@ use denote.Triple.Statement.{Contract, Triple}
 use denote.Triple.Table.{entered, cited}
 use denote.Triple.Walked.{says, Stays, stay-none, stay-slice, gave-slice, stay-none-slice, walkOf, goes-none, goes-slice, goes-gave-slice, goes-none-slice, Walks, ends-at, walked, walk-meets}
 use denote.Exit.{yes}
+use Rattle.model.specs.Buffers.{ours}
 use Rattle.model.specs.Step.{outcome}
 use Rattle.model.specs.declared.Lock.{Lock}
 use Rattle.model.specs.declared.Sessions.{Sessions}
@@ -42,6 +43,7 @@ use Rattle.model.specs.declared.Call.{Call}
 use Rattle.lock_records.specs.declared.Turn.{Turn}
 use Rattle.lock_records.specs.Run.{storeOn, lockIn, sweptBy}
 use Rattle.lock_records.specs.Turns.{lookOf, IsTurn}
+use Rattle.model.proofs.Tables.{goes-by-ours}
 use Rattle.lock_records.proofs.Turn.Laws as U′
 use Rattle.lock_records.proofs.Row.{R, makes, typed-at, RS, low-s, tells-s, makes-s, typed-s, RA, low-a, makes-a, typed-a, RU, typed-u, turn-is, reply-is, change-is, RK, low-k, tells-k, makes-k, typed-k}
 use Rattle.lock_records.proofs.Leave.{full, leave}
@@ -191,7 +193,7 @@ module _ {M : Type 1} (𝓤 : URA M) (H : Heap 𝓤) (A : Atoms 𝓤) (W : Given
   exits r r-is t v p vs zs ws f len₀ len put len₃ =
       qed W (‵ (Locks zs) ∷ ‵ (flft κ₂ q₂) ∷ ‵ (Logs ws) ∷ ‵ (flft κ₃ q₃) ∷ ‵ (flft κ₀ q₀) ∷ ‵ (flft κ₁ q₁) ∷ ‵ (finally u32 (x₀ .name) vs) ∷ ‵ Classes ∷ []) ∵
       suffices ! _ (ends-at 𝓤 H A step.ended stayed (step.clauses 𝓤 H A mem run) W (((κ₀, (κ₁, (κ₂, (κ₃, tt)))), (q₀, (q₁, (q₂, (q₃, tt)))), tt, a, at), tt) (low-a (t .reply)) (t .reply) (tt, (tt, (vs, (tt, (zs, (ws, tt)))))) (tt, (tt, (len₀, (tt, (len, (len₃, tt))))))) $
-      says ! (ap (λ (us : List Lock). outcome (t .reply .answer) (storeOn vs (now x₁) us ws (t .reply .sessions))) put ∙ f .1 ys refl r-is) $
+      says ! (λ G g. ap (λ (us : List Lock). outcome (t .reply .answer) (storeOn G vs (now x₁) us ws (t .reply .sessions))) put ∙ f G g .1 ys refl r-is) $
       nothing ! $ move ! (4 ∷ 0 ∷ []) $ join ! $ move ! (2 ∷ 0 ∷ []) $ join ! $ move ! (4 ∷ 0 ∷ []) $ join ! $ move ! (3 ∷ 0 ∷ []) $ join ! $ frame ! $
       -- [locks; logs; what says values' last list; classes]
       nothing ! $ move ! (2 ∷ 0 ∷ []) $ fjoin ! $ move ! (1 ∷ 0 ∷ []) $ fjoin ! $ move ! (2 ∷ 0 ∷ []) $ fjoin ! $ move ! (1 ∷ 0 ∷ []) $ fjoin ! $
@@ -242,8 +244,9 @@ module _ {M : Type 1} (𝓤 : URA M) (H : Heap 𝓤) (A : Atoms 𝓤) (W : Given
         relends ! 49 refl refl 15 refl (tt, tt) refl refl 13 refl (tt, (tt, (record { fits = room .0 }, tt))) $
         relends ! 47 refl refl 11 refl (tt, tt) refl refl 9 refl (tt, (tt, (record { fits = room₃ .0 }, tt))) $
         let gd = change-is (tv .0) u p in
-        lent-both ! fm (Sweep 𝓤 H A mem run) known-sweep R κ₂ q₂ b o n γ ys refl room u32 κ₃ q₃ b₃ o₃ k γ₃ ws len₃ room₃ (sw-gives 𝓤 H A mem run W b o n ys b₃ o₃ k ws (tv .0 .change) gd (f .0 .0)) (sw-to 𝓤 H A mem run W b o n ys b₃ o₃ k ws (tv .0 .change) gd (f .0 .0))
-        (sw-goes 𝓤 H A mem run W b o n ys b₃ o₃ k ws (tv .0 .change) gd (f .0 .0)) (sw-gets 𝓤 H A mem run W b o n ys b₃ o₃ k ws (tv .0 .change) gd (f .0 .0) refl)
+        let fit = f .0 ours (goes-by-ours call) .0 in
+        lent-both ! fm (Sweep 𝓤 H A mem run) known-sweep R κ₂ q₂ b o n γ ys refl room u32 κ₃ q₃ b₃ o₃ k γ₃ ws len₃ room₃ (sw-gives 𝓤 H A mem run W b o n ys b₃ o₃ k ws (tv .0 .change) gd fit) (sw-to 𝓤 H A mem run W b o n ys b₃ o₃ k ws (tv .0 .change) gd fit)
+        (sw-goes 𝓤 H A mem run W b o n ys b₃ o₃ k ws (tv .0 .change) gd fit) (sw-gets 𝓤 H A mem run W b o n ys b₃ o₃ k ws (tv .0 .change) gd fit refl)
         (λ ν δ δ₂ i j l. and-then ! (var ! 11 refl) (and-then ! (var ! 7 refl) (and-then ! (load ! (from ! (fld ! refl (stop !))) (look-in ! 39 (sub ! 1 refl (whole !)))) (no-more !)))) (λ u′ zs len. move ! (4 ∷ []) $ learn ! (λ put. peeks ! unit (Is unit) (shows 𝓤 H A unit) tt (u′ ∷ []) (λ pu.
         land ! (from ! (stop !)) (init ! 17 refl (nothing-lawful 𝓤 H A W .typed tt (u′ ∷ []) pu .0)) $ drop ! $
         sets ! (of-opd ! (load ! (from ! (fld ! refl (stop !))) (look-in ! 40 (sub ! 0 refl (whole !))))) 58 refl (typed-a 𝓤 H A W (tv .0 .reply) (low-a (tv .0 .reply)) (reply-is (tv .0) u p)) $
