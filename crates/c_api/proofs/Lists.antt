@@ -50,7 +50,6 @@ answered-all σ (thenMany {x = x} r s cs target o e) =
       told = cc;
       ran = ran-many (i .ran) s cs target o e;
     }
-
 answered-all σ (thenLoad {x = x} r T n v y e) =
     let i = answered-all σ r in
     let n′ : n ≡ number (loadEffect T x .answer) = ap (λ (s : NumberOutcome). s .number) e in

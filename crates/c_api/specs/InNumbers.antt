@@ -5,7 +5,7 @@ use mathlib.Core.List.{List, [], _∷_, map, reverse}
 use lib.ListN.{length, take}
 use denote.Ref.{now}
 use Rattle.model.specs.Buffers.{Limits, ours, Store, sessionAt, withSession}
-use Rattle.model.specs.Slices.{Slice, Number}
+use Rattle.model.specs.Slices.{Slice, Number, capsBefore, capsAfter}
 use Rattle.model.specs.History.{Action, oneCall, manyReads, loadCaps, Event}
 use Rattle.model.specs.History as items
 use Rattle.model.specs.Caps.{WithinCaps}
@@ -20,7 +20,7 @@ use Rattle.model.specs.declared.Call.{Call}
 use Rattle.model.specs.declared.Session.{Session}
 use Rattle.model.specs.declared.Sessions.{Sessions}
 use Rattle.model.specs.declared.SessionReply.{SessionReply}
-use Rattle.store.specs.Lent.{before, afterwards, capsBefore, capsAfter}
+use Rattle.store.specs.Lent.{before, afterwards}
 use Rattle.c_api.specs.declared.NumberReply.{NumberReply}
 use Rattle.c_api.specs.declared.SetUpReply.{SetUpReply}
 

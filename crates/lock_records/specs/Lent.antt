@@ -11,19 +11,12 @@ use Rattle.model.specs.declared.Lock.{Lock}
 use Rattle.model.specs.declared.Sessions.{Sessions}
 use Rattle.model.specs.declared.Reply.{Reply}
 use Rattle.model.specs.declared.Call.{Call}
-use Rattle.model.specs.Slices.{Slice, IsPart}
+use Rattle.model.specs.Slices.{Slice, capsBefore, capsAfter, IsPart}
 use Rattle.lock_records.specs.Run.{storeOn}
 
 -- a lent run, as it is passed and as it is left
 abbrev pub LockSlice : Type 0
 LockSlice = Both (RefT (List Lock)) (RefT (List Lock))
-
--- a lent table as the limits, before the call and after it
-abbrev pub capsBefore : Slice → Limits
-capsBefore caps = record { caps = now (caps .entry) }
-
-abbrev pub capsAfter : Slice → Limits
-capsAfter caps = record { caps = now (caps .exit) }
 
 -- the store that the slices and a run are before the call, and after it, with these records, under the limits G
 abbrev pub before : Limits → Slice → Slice → List Lock → Slice → Sessions → Store

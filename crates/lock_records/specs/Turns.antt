@@ -8,7 +8,7 @@ use denote.Ref.{RefT, now}
 use Rattle.model.specs.Buffers.{Limits, ours, sessionAt, logIn, lengthsMatch}
 use Rattle.model.specs.Load.{loadEffect}
 use Rattle.model.specs.Plans.{require}
-use Rattle.model.specs.Slices.{Slice, IsPart}
+use Rattle.model.specs.Slices.{Slice, capsBefore, IsPart}
 use Rattle.model.specs.Step.{outcome, effect, setUpEffect, planOf, sessionOf, peekShows, GoesBy}
 use Rattle.model.specs.declared.Sessions.{Sessions}
 use Rattle.model.specs.declared.Lock.{Lock}
@@ -22,7 +22,6 @@ use Rattle.turns.specs.AnyCall.{cellFor}
 use Rattle.lock_records.specs.declared.Change.the-variants.{Keep}
 use Rattle.lock_records.specs.declared.Turn.{Turn}
 use Rattle.lock_records.specs.Run.{storeOn, lockIn, sweptBy, ChangeFits}
-use Rattle.lock_records.specs.Lent.{capsBefore}
 
 -- ---- the cell whose lock a call may need
 

@@ -4,7 +4,7 @@ use mathlib.Core.Path.{_≡_}
 use Prim.Native.Nat.{ℕ, _%_}
 use mathlib.Core.List.{List}
 use denote.Ref.{RefT, now}
-use Rattle.model.specs.Slices.{Slice, IsPart}
+use Rattle.model.specs.Slices.{Slice, capsBefore, capsAfter, IsPart}
 use Rattle.model.specs.Buffers.{Buffers, Limits, ours, Store, sessionAt}
 use Rattle.model.specs.Step.{outcome, planOf, effect, setUpEffect, peekShows, TakesUnder, GoesBy, TakesRecord}
 use Rattle.model.specs.Load.{loadEffect}
@@ -41,13 +41,6 @@ before G values classes readers claimants exclusives logs ss = record { lent = l
 
 abbrev pub afterwards : Limits → Slice → Slice → Slice → Slice → Slice → Slice → Sessions → Store
 afterwards G values classes readers claimants exclusives logs ss = record { lent = lentAfter values classes readers claimants exclusives logs; limits = G; sessions = ss }
-
--- a lent table as the limits, before the call and after it
-abbrev pub capsBefore : Slice → Limits
-capsBefore caps = record { caps = now (caps .entry) }
-
-abbrev pub capsAfter : Slice → Limits
-capsAfter caps = record { caps = now (caps .exit) }
 
 -- the call k, handed the record x of its session, answers and leaves what the model says
 abbrev pub TakesOne : Call → Slice → Slice → Slice → Slice → Slice → Slice → Session → SessionReply → Type 0
