@@ -1,11 +1,9 @@
--- A table that the caller hands in: its length as the model tests it, a write's turn by it on every run of the length given, and one loaded.
+-- A table that the caller hands in: a write's turn by it on every run of the length given, and one loaded.
 use mathlib.Core.Path.{_≡_, refl, sym, ap, _∙_}
-use mathlib.Core.Bool.{true, false}
 use mathlib.Core.List.{List}
 use Prim.Native.Nat.{ℕ}
-use borrow.Author.Tests.{eq-eqb, ne-eqb}
 use lib.ListN.{length, getD, set}
-use Rattle.model.specs.Buffers.{Buffers, Limits, hasCaps, free, idle, logIn, lengthsMatch}
+use Rattle.model.specs.Buffers.{Buffers, Limits, free, idle, logIn, lengthsMatch}
 use Rattle.model.specs.Load.{loadEffect}
 use Rattle.model.specs.Plans.{plan, writePlan}
 use Rattle.model.specs.Step.{outcome, planOf}
@@ -26,16 +24,9 @@ use Rattle.lock_records.specs.declared.Change.{Change}
 use Rattle.lock_records.specs.declared.Turn.{Turn}
 use Rattle.lock_records.specs.Run.{unzipped, lentOn, storeOn, countOf, swept, onRun}
 use Rattle.lock_records.specs.Turns.{onlyAnswer, IsTurnUnder, IsLoad}
+use Rattle.model.proofs.Tables.{has-caps, has-not}
 use Rattle.lock_records.proofs.Changes.{each-length, unzipped-at}
 use Rattle.lock_records.proofs.OnRun.{classed, turned-down-under, taken-under}
-
-pub long-table : (T : List ℕ) → length T ≡ 16 → hasCaps T ≡ true
-unfolding hasCaps
-long-table T h = eq-eqb (length T) 16 h
-
-pub wrong-table : (T : List ℕ) → (length T ≡ 16 → ⊥) → hasCaps T ≡ false
-unfolding hasCaps
-wrong-table T h = ne-eqb (length T) 16 h
 
 -- ---- the write of v to cell c by session s, with the lock l of c
 
@@ -45,11 +36,11 @@ module _ (T vs cs W : List ℕ) (ss : Sessions) (m : ℕ) (l : Lock) (s c v : �
 
   pub write-7 : (length T ≡ 16 → ⊥) → (t : Turn) → t ≡ onlyAnswer ss (Refused 7) → IsTurnUnder G (Write s c v) c vs cs m l W ss vs W t
   unfolding countOf swept planOf
-  write-7 h t f = rw f (tt, λ L q o. Lengths.refuses (Write s c v) (storeOn G vs cs L W ss) 7 (rw (wrong-table T h)))
+  write-7 h t f = rw f (tt, λ L q o. Lengths.refuses (Write s c v) (storeOn G vs cs L W ss) 7 (rw (has-not T h)))
 
   module _ (h : length T ≡ 16) (r : ℕ) (e : r ≡ admission (lengthsMatch (length vs) (length cs) m m m (length W)) s) where
     pub write-refuses : (r ≡ 0 → ⊥) → (t : Turn) → t ≡ onlyAnswer ss (Refused r) → IsTurnUnder G (Write s c v) c vs cs m l W ss vs W t
-    write-refuses n t f = turned-down-under (Write s c v) vs cs W ss m l s refl r e G (long-table T h) n t f c
+    write-refuses n t f = turned-down-under (Write s c v) vs cs W ss m l s refl r e G (has-caps T h) n t f c
 
     -- p is what was decided of the session's log, as the code has it
     module _ (z : r ≡ 0) (log : List ℕ) (w : log ≡ logIn W s) (p : Plan) (d : p ≡ writePlan T cs (length cs) log (getD (ss .records) s idle) free c v) where
@@ -69,7 +60,7 @@ module _ (T vs cs W : List ℕ) (ss : Sessions) (m : ℕ) (l : Lock) (s c v : �
           → IsTurnUnder G (Write s c v) c vs cs m l W ss vs Ws (record { reply = record { answer = t .answer; sessions = record { records = set (ss .records) s (t .session) } }; change = d })
       unfolding plan
       writes t Ws g d f =
-          taken-under (Write s c v) vs cs W ss m l s refl r e z G (long-table T h) c
+          taken-under (Write s c v) vs cs W ss m l s refl r e z G (has-caps T h) c
           (λ L o. ap (λ (k : Lock). writePlan T cs (length vs) (logIn W s) x k c v) (sym o ∙ sym (unzipped-at L c))) t vs Ws (g T cs decides) d f
 
 -- ---- a table T loaded in the place of `caps`, where it leaves T′
