@@ -18,8 +18,8 @@ use Rattle.model.specs.declared.Answer.{Answer}
 use Rattle.model.specs.declared.Answer.the-variants.{Moved, Committed, Refused}
 use Rattle.model.specs.declared.Plan.{Plan}
 use Rattle.model.specs.declared.Plan.the-variants.{Refuse, Start, Tell, Enter, Update, EnterUpdate, Mark, EnterMark, RollBack, Cancel, CommitReads, BeginPromotion, Wait, Acquire, Publish, Release, ShowStore, ShowLog}
-use Rattle.model.specs.Buffers.{Locks, Buffers, Store, idle, running, sessionAt, withSession, withEntry, moveTo, word, cellAt, entryAt, slotIn, entryOf, lookIn, targetIn, currentOf, appended, withDirty, withHeld, updated, marked, lockAt, onLock, join, cap, hasCaps, fits, allFit, lengthsFit, fresh, logIn, onLog, size}
-use Rattle.model.specs.Caps.{capOf, EachGotWithin, InUse, EntryWithin, WithinCaps}
+use Rattle.model.specs.Buffers.{Locks, Buffers, Limits, Store, idle, running, sessionAt, withSession, withEntry, moveTo, word, cellAt, entryAt, slotIn, entryOf, lookIn, targetIn, currentOf, appended, withDirty, withHeld, updated, marked, lockAt, onLock, join, cap, hasCaps, fits, allFit, lengthsFit, fresh, logIn, onLog, size}
+use Rattle.model.specs.Caps.{capOf, EachGotWithin, InUse, EntryWithin, Passing, WithinCaps}
 use Rattle.model.specs.History.{Action, oneCall, manyReads, loadCaps, tellsOf, leaves, eventOf, run}
 use Rattle.model.specs.Isolation.{All}
 use Rattle.model.specs.Load.{idleBelow, allIdle, withCaps}
@@ -343,32 +343,38 @@ module _ {σ : Store} (I : Capped σ) where
   unfolding answerOf step
   tells-within k = keep k .1
 
--- ---- no call changes a cap
+-- ---- no call changes the limits, or a class: no cap
 
-caps-after : (s : ℕ) (p : Plan) (σ : Store) → capOf (after s p σ) ≡ capOf σ
+kept-after : (s : ℕ) (p : Plan) (σ : Store) → (after s p σ .limits ≡ σ .limits) × (after s p σ .lent .classes ≡ σ .lent .classes)
 unfolding after
-caps-after s (Refuse k) σ = refl
-caps-after s Start σ = refl
-caps-after s (Tell v) σ = refl
-caps-after s (Enter c) σ = refl
-caps-after s (Update k v) σ = refl
-caps-after s (EnterUpdate c v) σ = refl
-caps-after s (Mark k v) σ = refl
-caps-after s (EnterMark c) σ = refl
-caps-after s RollBack σ = refl
-caps-after s Cancel σ = refl
-caps-after s CommitReads σ = refl
-caps-after s BeginPromotion σ = refl
-caps-after s (Wait c) σ = refl
-caps-after s (Acquire c) σ = refl
-caps-after s (Publish c v) σ = refl
-caps-after s (Release c) σ = refl
-caps-after s (ShowStore c) σ = refl
-caps-after s (ShowLog k) σ = refl
+kept-after s (Refuse k) σ = (refl, refl)
+kept-after s Start σ = (refl, refl)
+kept-after s (Tell v) σ = (refl, refl)
+kept-after s (Enter c) σ = (refl, refl)
+kept-after s (Update k v) σ = (refl, refl)
+kept-after s (EnterUpdate c v) σ = (refl, refl)
+kept-after s (Mark k v) σ = (refl, refl)
+kept-after s (EnterMark c) σ = (refl, refl)
+kept-after s RollBack σ = (refl, refl)
+kept-after s Cancel σ = (refl, refl)
+kept-after s CommitReads σ = (refl, refl)
+kept-after s BeginPromotion σ = (refl, refl)
+kept-after s (Wait c) σ = (refl, refl)
+kept-after s (Acquire c) σ = (refl, refl)
+kept-after s (Publish c v) σ = (refl, refl)
+kept-after s (Release c) σ = (refl, refl)
+kept-after s (ShowStore c) σ = (refl, refl)
+kept-after s (ShowLog k) σ = (refl, refl)
+
+limits-step : (k : Call) (σ : Store) → step k σ .limits ≡ σ .limits
+unfolding step
+limits-step k σ = kept-after (sessionOf k) (planOf k σ) σ .0
 
 caps-step : (k : Call) (σ : Store) → capOf (step k σ) ≡ capOf σ
 unfolding step
-caps-step k σ = caps-after (sessionOf k) (planOf k σ) σ
+caps-step k σ =
+    let e = kept-after (sessionOf k) (planOf k σ) σ in
+    ap {B = ℕ → ℕ} (λ (G : Limits) (c : ℕ). cap (G .caps) (getD (step k σ .lent .classes) c 0)) (e .0) ∙ ap {B = ℕ → ℕ} (λ (ks : List ℕ) (c : ℕ). cap (σ .limits .caps) (getD ks c 0)) (e .1)
 
 -- ---- what set-up and a load tested
 
@@ -418,10 +424,20 @@ within-action {σ} I (oneCall k) = subst (λ (ws : List Told). Within ws (step k
 within-action {σ} I (manyReads s cs words) = kept-by-reads (λ ws _ τ. Within ws τ) s (λ ws _ τ _ w c. within-call ws τ w (Read s c)) cs words σ (I, tt) (I, tt) (I, tt)
 within-action {σ} I (loadCaps T) = (load-cases (λ _ τ. Capped τ) T σ (capped-load T σ I) I I I I I, tt)
 
+passing-action : (σ : Store) → Passing σ → (k : Action) → Passing (leaves k σ)
+passing-action σ p (oneCall k) = rw (limits-step k σ) p
+passing-action σ p (manyReads s cs words) = kept-by-reads (λ _ _ τ. Passing τ) s (λ _ _ τ _ q c. rw (limits-step (Read s c) τ) q) cs words σ p p p
+passing-action σ p (loadCaps T) = load-cases (λ _ τ. Passing τ) T σ (λ l. (both-r (hasCaps (σ .limits .caps)) (hasCaps T) (both-l (hasCaps (σ .limits .caps) && hasCaps T) (lengthsFit (σ .lent)) (l .lengths)), l .table)) p p p p p
+
 -- ---- every list of actions
 
 -- from any store with the invariant
-module _ {σ : Store} (I : Capped σ) where
+module _ {σ : Store} (I : Capped σ) (fit : Passing σ) where
+  passing-run : (ks : List Action) → Passing (run σ ks)
+  unfolding run
+  passing-run [] = fit
+  passing-run (k ∷ ks) = passing-action (run σ ks) (passing-run ks) k
+
   pub capped-run : (ks : List Action) → Capped (run σ ks)
   unfolding run
   capped-run [] = I
@@ -432,7 +448,7 @@ module _ {σ : Store} (I : Capped σ) where
   got-within (k ∷ ks) = (got-within ks, unfold run in within-action (capped-run ks) k .1)
 
   pub within-from : (ks : List Action) → WithinCaps σ ks
-  within-from ks = record { stored = capped-run ks .stored; got = got-within ks; logged = capped-run ks .logged }
+  within-from ks = record { table = passing-run ks; stored = capped-run ks .stored; got = got-within ks; logged = capped-run ks .logged }
 
 pub capped-fresh : (σ : Store) → Passed σ → Capped (fresh (σ .limits) (σ .lent))
 unfolding fresh
@@ -446,7 +462,7 @@ capped-fresh σ p =
 -- any store that set-up answers 100, with whatever table passed, and any list of actions from what it leaves
 pub within-caps : (σ : Store) → number (setUpAnswer σ) ≡ 100 → (actions : List Action) → WithinCaps (setUp σ) (reverse actions)
 within-caps σ h actions =
-    subst (λ (φ : Store). WithinCaps φ (reverse actions)) (sym (set-up-fresh σ h)) (within-from (capped-fresh σ (set-up-passed σ h)) (reverse actions))
+    subst (λ (φ : Store). WithinCaps φ (reverse actions)) (sym (set-up-fresh σ h)) (let p = set-up-passed σ h in within-from (capped-fresh σ p) (unfold fresh in (both-l (hasCaps (σ .limits .caps)) _ (p .lengths), p .table)) (reverse actions))
 
 -- of what a set-up left that kept its contract and answered 100
 pub within-caps-of-code : (φ σ : Store) (a : Answer) → outcome a σ ≡ setUpEffect φ → number a ≡ 100 → (actions : List Action) → WithinCaps σ (reverse actions)

@@ -1,11 +1,12 @@
 -- The caps, beside demand 3: of every list of actions, loads of other tables among them, no value in the store, none that a read or a hold is answered, and no
--- present value in the log of an open transaction, written or not, is above its cell's cap in the table in force (document 02, Paper 5).
+-- present value in the log of an open transaction, written or not, is above its cell's cap in the table in force, which passes (document 02, Paper 5).
 use Prim.Native.Nat.{ℕ, _≤_, _<_}
 use mathlib.Core.Path.{_≡_}
+use mathlib.Core.Bool.{true}
 use mathlib.Core.List.{List, [], _∷_}
 use lib.ListN.{getD}
 use Rattle.model.specs.declared.Session.{Session}
-use Rattle.model.specs.Buffers.{Store, cap, cellAt, entryAt}
+use Rattle.model.specs.Buffers.{Store, cap, hasCaps, passes, cellAt, entryAt}
 use Rattle.model.specs.Effects.{recordOf, logOf}
 use Rattle.model.specs.History.{Action, eventOf, tellsOf, run}
 use Rattle.model.specs.Isolation.{All}
@@ -32,8 +33,13 @@ InUse x k = (x .phase ≡ 0 → ⊥) × (k < x .count)
 abbrev pub EntryWithin : (ℕ → ℕ) → List ℕ → ℕ → Type 0
 EntryWithin bound log k = entryAt log k .current ≤ bound (cellAt log k)
 
+-- the table in force has 16 caps, and passes
+abbrev pub Passing : Store → Type 0
+Passing σ = (hasCaps (σ .limits .caps) ≡ true) × (passes (σ .limits .caps) ≡ true)
+
 -- of a list of actions, the newest first, from the store σ; `within-caps` proves it of what a set-up answered 100 left
 pub record WithinCaps (σ : Store) (ks : List Action) : Type 0 where
+  pub table : Passing (run σ ks)
   pub stored : (c : ℕ) → getD (run σ ks .lent .values) c 0 ≤ capOf (run σ ks) c
   pub got : EachGotWithin σ ks
   pub logged : (s k : ℕ) → InUse (recordOf (run σ ks) s) k → EntryWithin (capOf (run σ ks)) (logOf (run σ ks) s) k
