@@ -4,7 +4,7 @@ use mathlib.Core.Path.{_≡_}
 use mathlib.Core.Bool.{Bool, true, _&&_}
 use mathlib.Core.List.{List, [], _∷_}
 use lib.Dec.{ltb, eqb}
-use Rattle.model.specs.Buffers.{Limits, Store, sessionAt, hasCaps, passes, allFit, lengthsFit}
+use Rattle.model.specs.Buffers.{Store, sessionAt, hasCaps, passes, allFit, lengthsFit}
 use Rattle.model.specs.declared.Sessions.{Sessions}
 use Rattle.model.specs.declared.Call.{Call}
 use Rattle.model.specs.declared.Answer.{Answer}

@@ -1,6 +1,6 @@
 -- What a call decides (document 01, "The steps" and "When a call is turned down"): a plan, which holds every test that turns a call down or chooses what it does.
 -- Refusals in their order: 7 in `tableFits`, 7 and 1 in `admit`, 9 and 2 in `guard`, 3 in `known`, 8 in `writePlan`, 4 in `writeCapped`, 14 in `peekSlot`, 5 and 6 in `newCell`;
--- 10 to 13 are the fields'; 15, and 13 of a list, are of many reads (ManyReads.antt).
+-- 10 to 13 are the fields'; 15, and 13 of a list, are of many reads (ManyReads.antt); 16 is of set-up and a load, 17 of a load (Step.antt, Load.antt).
 use Prim.Native.Nat.{ℕ}
 use mathlib.Core.Bool.{Bool, true, cond, not, _&&_, _||_}
 use mathlib.Core.Option.{Option, none, some}
