@@ -366,7 +366,7 @@ kept-after s (Release c) σ = (refl, refl)
 kept-after s (ShowStore c) σ = (refl, refl)
 kept-after s (ShowLog k) σ = (refl, refl)
 
-limits-step : (k : Call) (σ : Store) → step k σ .limits ≡ σ .limits
+pub limits-step : (k : Call) (σ : Store) → step k σ .limits ≡ σ .limits
 unfolding step
 limits-step k σ = kept-after (sessionOf k) (planOf k σ) σ .0
 
