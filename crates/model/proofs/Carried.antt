@@ -74,7 +74,7 @@ module _ (s : ℕ) (σ : Store) (low : s < 16) (long : length (σ .lent .logs) �
   carries Cancel = rw (same-log s (σ .lent .logs))
   carries CommitReads = rw (same-log s (σ .lent .logs))
   carries BeginPromotion = rw (same-log s (σ .lent .logs))
-  carries (Wait c) = rw (same-log s (σ .lent .logs), same-record (σ .sessions) s)
+  carries (Wait c k) = rw (same-log s (σ .lent .logs), same-record (σ .sessions) s)
   carries (Acquire c) = rw (same-log s (σ .lent .logs))
   carries (Publish c v) = rw (same-log s (σ .lent .logs))
   carries (Release c) = rw (same-log s (σ .lent .logs))

@@ -166,7 +166,7 @@ steps =
     -- a held cell is promoted, published with its present value, whatever the store has, and released
     ∷ case (state (session 2 2 0) (entry 1 5 5 2 ++ entry 0 8 4 1) (cells 3 5) (cells 2 2) (cells 1 16) (cells 0 0)) (Advance 1) 103 0
     (state (session 2 2 1) (entry 1 5 5 2 ++ entry 0 8 4 1) (cells 3 5) (cells 2 2) (cells 1 16) (cells 1 0))
-    ∷ case (state (session 2 1 0) (entry 1 5 5 2) (cells 3 5) (cells 0 6) (cells 16 16) (cells 0 0)) (Advance 1) 104 0
+    ∷ case (state (session 2 1 0) (entry 1 5 5 2) (cells 3 5) (cells 0 6) (cells 16 16) (cells 0 0)) (Advance 1) 104 1
     (state (session 2 1 0) (entry 1 5 5 2) (cells 3 5) (cells 0 6) (cells 16 1) (cells 0 0))
     ∷ case (state (session 3 1 0) (entry 0 8 8 2) (cells 3 5) (cells 2 0) (cells 1 16) (cells 1 0)) (Advance 1) 103 0
     (state (session 4 1 0) (entry 0 8 8 2) (cells 8 5) (cells 2 0) (cells 1 16) (cells 1 0))
@@ -180,9 +180,19 @@ steps =
     ∷ case (state (session 4 2 0) (entry 0 8 8 1 ++ entry 1 5 6 1) (cells 3 6) (cells 4 2) (cells 4 1) (cells 1 1)) (Advance 1) 105 0
     (state (session 0 0 0) (entry 0 8 8 1 ++ entry 1 5 6 1) (cells 3 6) (cells 4 0) (cells 4 16) (cells 1 0))
     -- advance, phase 2: claimant, and waiting while anybody else reads, the own bit left aside; next, mark and readers stay
-    ∷ case (state (session 2 1 0) (entry 0 8 4 1) (cells 3 5) (cells 6 6) (cells 16 9) (cells 0 1)) (Advance 1) 104 0
+    ∷ case (state (session 2 1 0) (entry 0 8 4 1) (cells 3 5) (cells 6 6) (cells 16 9) (cells 0 1)) (Advance 1) 104 1
     (state (session 2 1 0) (entry 0 8 4 1) (cells 3 5) (cells 6 6) (cells 1 9) (cells 0 1))
-    ∷ unchanged (state (session 2 1 0) (entry 0 8 4 1) (cells 3 5) (cells 4 6) (cells 1 9) (cells 1 1)) (Advance 1) 104 0
+    ∷ unchanged (state (session 2 1 0) (entry 0 8 4 1) (cells 3 5) (cells 4 6) (cells 1 9) (cells 1 1)) (Advance 1) 104 1
+    -- the value is how many: of that cell's readers, whatever the log and the other cell have; two, and two of a set without the own bit
+    ∷ case (state (session 2 3 1) (entry 0 8 4 1 ++ entry 1 5 6 1 ++ entry 1 5 7 1) (cells 3 5) (cells 15 11) (cells 16 16) (cells 0 0)) (Advance 1) 104 2
+    (state (session 2 3 1) (entry 0 8 4 1 ++ entry 1 5 6 1 ++ entry 1 5 7 1) (cells 3 5) (cells 15 11) (cells 16 1) (cells 0 0))
+    ∷ case (state (session 2 1 0) (entry 0 8 4 1) (cells 3 5) (cells 9 2) (cells 16 16) (cells 0 0)) (Advance 1) 104 2
+    (state (session 2 1 0) (entry 0 8 4 1) (cells 3 5) (cells 9 2) (cells 1 16) (cells 0 0))
+    -- fifteen, with the own bit in the set and without it, of a middle session and of the first and the last
+    ∷ unchanged (state (session 2 1 0) (entry 0 8 4 1) (cells 3 5) (cells 65535 6) (cells 7 16) (cells 0 0)) (Advance 7) 104 15
+    ∷ unchanged (state (session 2 1 0) (entry 0 8 4 1) (cells 3 5) (cells 65407 6) (cells 7 16) (cells 0 0)) (Advance 7) 104 15
+    ∷ unchanged (state (session 2 1 0) (entry 1 8 4 1) (cells 3 5) (cells 1 65534) (cells 16 0) (cells 0 0)) (Advance 0) 104 15
+    ∷ unchanged (state (session 2 1 0) (entry 1 8 4 1) (cells 3 5) (cells 1 32767) (cells 16 15) (cells 0 0)) (Advance 15) 104 15
     -- promoted: claimant with mark 1; the lowest cell first, next one above it; after the last phase 3, next 0
     ∷ case (state (session 2 2 0) (entry 1 5 6 1 ++ entry 0 8 4 1) (cells 3 5) (cells 2 6) (cells 16 9) (cells 0 0)) (Advance 1) 103 0
     (state (session 2 2 1) (entry 1 5 6 1 ++ entry 0 8 4 1) (cells 3 5) (cells 2 6) (cells 1 9) (cells 1 0))

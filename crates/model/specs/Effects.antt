@@ -21,17 +21,17 @@ number Done = 100
 number (Value v) = 101
 number Sealed = 102
 number Moved = 103
-number Waiting = 104
+number (Waiting k) = 104
 number Committed = 105
 number (Refused k) = k
 
--- 0 except with 101
+-- 0 except with 101 and 104 (document 02, Paper 6)
 abbrev pub valueOf : Answer → ℕ
 valueOf Done = 0
 valueOf (Value v) = v
 valueOf Sealed = 0
 valueOf Moved = 0
-valueOf Waiting = 0
+valueOf (Waiting k) = k
 valueOf Committed = 0
 valueOf (Refused k) = 0
 
@@ -139,8 +139,8 @@ planEffect s Cancel σ = does Done (putRecord s idle (onLocks (rolledBack (logOf
 planEffect s CommitReads σ = does Committed (putRecord s idle (onLocks (readsDropped (logOf σ s) (recordOf σ s .count) s) σ))
 planEffect s BeginPromotion σ =
     does Sealed (putRecord s (moveTo 2 0 (recordOf σ s)) (onLocks (readsDropped (logOf σ s) (recordOf σ s .count) s) σ))
--- advance, phase 2: where others read, the session becomes claimant and waits; else claimant with mark 1, and the cell is handled
-planEffect s (Wait c) σ = does Waiting (onLocks (onLock c (claim s)) σ)
+-- advance, phase 2: where k others read, the session becomes claimant and waits, told how many; else claimant with mark 1, and the cell is handled
+planEffect s (Wait c k) σ = does (Waiting k) (onLocks (onLock c (claim s)) σ)
 planEffect s (Acquire c) σ = does Moved (putRecord s (handled (logOf σ s) c (recordOf σ s)) (onLocks (onLock c (acquire s)) σ))
 -- advance, phase 3: the present value is put in the store; the cell is handled
 planEffect s (Publish c v) σ = does Moved (putRecord s (handled (logOf σ s) c (recordOf σ s)) (onValues (λ vs. set vs c v) σ))

@@ -10,7 +10,7 @@ unfoldable pub skewHeld : Row
 skewHeld =
     twoCells
     (Begin 0 ∷ Begin 1 ∷ Hold 0 0 ∷ Hold 0 1 ∷ Hold 1 0 ∷ Hold 1 1 ∷ Write 0 0 1 ∷ Write 1 1 2 ∷ Seal 0 ∷ Seal 1 ∷ Advance 0 ∷ Advance 1 ∷ replicate 6 (Advance 0))
-    (Done ∷ Done ∷ Value 3 ∷ Value 5 ∷ Value 3 ∷ Value 5 ∷ Done ∷ Done ∷ Sealed ∷ Sealed ∷ Waiting ∷ Refused 6 ∷ Moved ∷ Moved ∷ Moved ∷ Moved ∷ Moved ∷ Committed ∷ [])
+    (Done ∷ Done ∷ Value 3 ∷ Value 5 ∷ Value 3 ∷ Value 5 ∷ Done ∷ Done ∷ Sealed ∷ Sealed ∷ Waiting 1 ∷ Refused 6 ∷ Moved ∷ Moved ∷ Moved ∷ Moved ∷ Moved ∷ Committed ∷ [])
     (1 ∷ 5 ∷ [])
 
 -- or 1 comes after, and reads what 0 left
@@ -60,19 +60,19 @@ writeThenHold =
 unfoldable pub readThenHold : Row
 readThenHold =
     twoCells (Begin 0 ∷ Begin 1 ∷ Read 0 0 ∷ Read 0 1 ∷ Hold 0 1 ∷ Write 1 0 4 ∷ Write 1 1 6 ∷ Seal 0 ∷ Seal 1 ∷ Advance 1 ∷ Advance 1 ∷ Advance 0 ∷ [])
-    (Done ∷ Done ∷ Value 3 ∷ Value 5 ∷ Value 5 ∷ Done ∷ Done ∷ Sealed ∷ Sealed ∷ Moved ∷ Waiting ∷ Refused 6 ∷ []) (3 ∷ 5 ∷ [])
+    (Done ∷ Done ∷ Value 3 ∷ Value 5 ∷ Value 5 ∷ Done ∷ Done ∷ Sealed ∷ Sealed ∷ Moved ∷ Waiting 1 ∷ Refused 6 ∷ []) (3 ∷ 5 ∷ [])
 
 -- two holders of one cell: one is rolled back, though neither writes
 unfoldable pub twoHolders : Row
 twoHolders =
     twoCells (Begin 0 ∷ Begin 1 ∷ Hold 0 0 ∷ Hold 1 0 ∷ Seal 0 ∷ Seal 1 ∷ Advance 0 ∷ Advance 1 ∷ Advance 0 ∷ [])
-    (Done ∷ Done ∷ Value 3 ∷ Value 3 ∷ Sealed ∷ Sealed ∷ Waiting ∷ Refused 6 ∷ Moved ∷ []) (3 ∷ 5 ∷ [])
+    (Done ∷ Done ∷ Value 3 ∷ Value 3 ∷ Sealed ∷ Sealed ∷ Waiting 1 ∷ Refused 6 ∷ Moved ∷ []) (3 ∷ 5 ∷ [])
 
 -- a hold of a claimed cell is 6
 unfoldable pub holdPastClaim : Row
 holdPastClaim =
     twoCells (Begin 0 ∷ Begin 1 ∷ Read 1 0 ∷ Hold 0 0 ∷ Seal 0 ∷ Advance 0 ∷ Begin 2 ∷ Hold 2 1 ∷ Hold 2 0 ∷ [])
-    (Done ∷ Done ∷ Value 3 ∷ Value 3 ∷ Sealed ∷ Waiting ∷ Done ∷ Value 5 ∷ Refused 6 ∷ []) (3 ∷ 5 ∷ [])
+    (Done ∷ Done ∷ Value 3 ∷ Value 3 ∷ Sealed ∷ Waiting 1 ∷ Done ∷ Value 5 ∷ Refused 6 ∷ []) (3 ∷ 5 ∷ [])
 
 unfoldable pub holding : List Row
 holding =

@@ -1,14 +1,18 @@
 -- Who may be in another's way at a cell, beside demand 3: a session that runs, or one that publishes the cell. So past its seal a session is in nobody's way at a cell
--- that it does not publish, one that it wrote back and did not hold among them (document 02, Papers 2 and 4).
-use Prim.Native.Nat.{ℕ, _<_}
+-- that it does not publish, one that it wrote back and did not hold among them (document 02, Papers 2 and 4); and how many they are, for whom a session waits (Paper 6).
+use Prim.Native.Nat.{ℕ, _<_, _≤_}
 use mathlib.Core.Path.{_≡_}
 use mathlib.Core.Logic.{_⊎_}
-use mathlib.Core.Bool.{Bool, true, false}
-use Rattle.model.specs.declared.Call.the-variants.{Seal}
+use mathlib.Core.Bool.{Bool, true, false, not, _&&_, _||_}
+use mathlib.Core.Option.{Option, some}
+use lib.Dec.{eqb}
+use Rattle.model.specs.declared.Call.the-variants.{Seal, Advance}
 use Rattle.model.specs.declared.Answer.{Answer}
-use Rattle.model.specs.Buffers.{Store, size, publishesIn, lockAt}
-use Rattle.model.specs.Effects.{number, recordOf, logOf}
-use Rattle.model.specs.Readers.{member}
+use Rattle.model.specs.declared.Lock.{Lock}
+use Rattle.model.specs.Search.{some?, tally}
+use Rattle.model.specs.Buffers.{Store, size, slotIn, publishesIn, targetIn, lockAt}
+use Rattle.model.specs.Effects.{number, valueOf, recordOf, logOf}
+use Rattle.model.specs.Readers.{member, otherReaders}
 use Rattle.model.specs.Step.{step, answerOf}
 
 -- cell c publishes, in the log of session s
@@ -33,3 +37,35 @@ SealTaken a = (number a ≡ 102) ⊎ (number a ≡ 105)
 -- such a seal leaves its session a reader of no cell that it does not publish; `seal-lets-go` proves it of what a list of actions leaves
 abbrev pub SealLetsGo : Store → ℕ → Type 0
 SealLetsGo σ s = let τ = step (Seal s) σ in SealTaken (answerOf (Seal s) σ) → (c : ℕ) → c < size (τ .lent) → publishesCell τ s c ≡ false → isReader τ s c ≡ false
+
+-- ---- how many (document 02, Paper 6)
+
+-- what the promotion step promises of a lock l with any content, answering session s: with 104 comes the number of other readers, which is 1 or more
+abbrev pub TellsOthers : Lock → ℕ → Answer → Type 0
+TellsOthers l s a = number a ≡ 104 → (valueOf a ≡ otherReaders s (l .readers)) × (0 < valueOf a)
+
+-- the cell that an advance of session s handles: the lowest that publishes, not below next
+abbrev pub dueIn : Store → ℕ → Option ℕ
+dueIn σ s = targetIn (logOf σ s) (recordOf σ s .count) (recordOf σ s .next)
+
+-- so of an advance on any store: it is a cell's lock that it promised this of; `waits-for-others` proves it
+abbrev pub WaitsForOthers : Store → ℕ → Type 0
+WaitsForOthers σ s =
+    let a = answerOf (Advance s) σ in
+    number a ≡ 104 → (c : ℕ) × (dueIn σ s ≡ some c) × TellsOthers (lockAt (σ .lent .locks) c) s a
+
+-- session t is in the way at cell c: it runs with the cell in its log, or promotes with it among those that it publishes
+abbrev pub isInTheWay : Store → ℕ → ℕ → Bool
+isInTheWay σ c t =
+    let x = recordOf σ t in
+    (eqb (x .phase) 1 && some? (slotIn (logOf σ t) (x .count) c)) || (eqb (x .phase) 2 && publishesCell σ t c)
+
+-- how many of the sessions other than s are
+unfoldable pub othersInTheWay : Store → ℕ → ℕ → ℕ
+othersInTheWay σ s c = tally (λ t. not (eqb t s) && isInTheWay σ c t) 16
+
+-- an advance of session s answered 104 tells just that number, 1 to 15; `waits-for-those` proves it of what a list of actions leaves
+abbrev pub WaitsForThose : Store → ℕ → Type 0
+WaitsForThose σ s =
+    let a = answerOf (Advance s) σ in
+    number a ≡ 104 → (c : ℕ) × (dueIn σ s ≡ some c) × (valueOf a ≡ othersInTheWay σ s c) × (0 < valueOf a) × (valueOf a ≤ 15)

@@ -67,7 +67,7 @@ listing =
       values = 3 ∷ 5 ∷ [];
       classes = 2 ∷ 2 ∷ [];
       calls = Begin 0 ∷ Begin 1 ∷ Read 0 0 ∷ Read 1 0 ∷ Write 0 0 4 ∷ Write 1 0 2 ∷ Seal 0 ∷ Seal 1 ∷ Advance 0 ∷ Advance 1 ∷ Advance 0 ∷ Advance 0 ∷ Advance 0 ∷ [];
-      answers = Done ∷ Done ∷ Value 3 ∷ Value 3 ∷ Done ∷ Done ∷ Sealed ∷ Sealed ∷ Waiting ∷ Refused 6 ∷ Moved ∷ Moved ∷ Committed ∷ [];
+      answers = Done ∷ Done ∷ Value 3 ∷ Value 3 ∷ Done ∷ Done ∷ Sealed ∷ Sealed ∷ Waiting 1 ∷ Refused 6 ∷ Moved ∷ Moved ∷ Committed ∷ [];
       ends = 4 ∷ 5 ∷ [];
     }
 
@@ -91,7 +91,7 @@ skewUnsealed =
       values = 3 ∷ 5 ∷ [];
       classes = 2 ∷ 2 ∷ [];
       calls = Begin 0 ∷ Begin 1 ∷ Read 0 0 ∷ Read 0 1 ∷ Read 1 0 ∷ Read 1 1 ∷ Write 0 0 1 ∷ Write 1 1 2 ∷ Seal 0 ∷ Advance 0 ∷ [];
-      answers = Done ∷ Done ∷ Value 3 ∷ Value 5 ∷ Value 3 ∷ Value 5 ∷ Done ∷ Done ∷ Sealed ∷ Waiting ∷ [];
+      answers = Done ∷ Done ∷ Value 3 ∷ Value 5 ∷ Value 3 ∷ Value 5 ∷ Done ∷ Done ∷ Sealed ∷ Waiting 1 ∷ [];
       ends = 3 ∷ 5 ∷ [];
     }
 
@@ -102,7 +102,7 @@ readPastClaim =
       values = 3 ∷ 5 ∷ [];
       classes = 2 ∷ 2 ∷ [];
       calls = Begin 0 ∷ Begin 1 ∷ Read 0 0 ∷ Read 1 0 ∷ Write 0 0 4 ∷ Write 1 0 2 ∷ Seal 0 ∷ Seal 1 ∷ Advance 0 ∷ Begin 2 ∷ Read 2 0 ∷ [];
-      answers = Done ∷ Done ∷ Value 3 ∷ Value 3 ∷ Done ∷ Done ∷ Sealed ∷ Sealed ∷ Waiting ∷ Done ∷ Refused 6 ∷ [];
+      answers = Done ∷ Done ∷ Value 3 ∷ Value 3 ∷ Done ∷ Done ∷ Sealed ∷ Sealed ∷ Waiting 1 ∷ Done ∷ Refused 6 ∷ [];
       ends = 3 ∷ 5 ∷ [];
     }
 
@@ -144,7 +144,7 @@ unpromoted =
       values = 3 ∷ 5 ∷ [];
       classes = 2 ∷ 2 ∷ [];
       calls = Begin 0 ∷ Begin 1 ∷ Write 0 0 4 ∷ Write 0 1 6 ∷ Read 1 1 ∷ Seal 0 ∷ Advance 0 ∷ Advance 0 ∷ [];
-      answers = Done ∷ Done ∷ Done ∷ Done ∷ Value 5 ∷ Sealed ∷ Moved ∷ Waiting ∷ [];
+      answers = Done ∷ Done ∷ Done ∷ Done ∷ Value 5 ∷ Sealed ∷ Moved ∷ Waiting 1 ∷ [];
       ends = 3 ∷ 5 ∷ [];
     }
 
@@ -198,7 +198,7 @@ changedMeanwhile =
 unfoldable pub backUnsealed : Row
 backUnsealed =
     twoCells (Begin 0 ∷ Begin 1 ∷ Write 0 0 3 ∷ Write 1 0 4 ∷ Seal 1 ∷ Advance 1 ∷ Seal 0 ∷ Advance 1 ∷ [])
-    (Done ∷ Done ∷ Done ∷ Done ∷ Sealed ∷ Waiting ∷ Committed ∷ Moved ∷ []) (3 ∷ 5 ∷ [])
+    (Done ∷ Done ∷ Done ∷ Done ∷ Sealed ∷ Waiting 1 ∷ Committed ∷ Moved ∷ []) (3 ∷ 5 ∷ [])
 
 -- the value found is the one that the last commit left, not the starting one
 unfoldable pub foundLater : Row

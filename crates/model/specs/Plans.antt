@@ -85,10 +85,10 @@ sealTarget (some c) = BeginPromotion
 unfoldable pub sealPlan : ℕ → List ℕ → Session → Plan
 sealPlan n log x = guard n log x (eqb (x .phase) 1) (sealTarget (targetIn log (x .count) 0))
 
--- advance in phase 2: a claimant other than the session rolls it back; with other readers it waits; else the lock is acquired
+-- advance in phase 2: a claimant other than the session rolls it back; with other readers it waits for so many (document 02, Paper 6); else the lock is acquired
 unfoldable pub promotePlan : ℕ → ℕ → Lock → Plan
 promotePlan s c l =
-    cond (claimed l && not (eqb (l .claimant) s)) RollBack (cond (eqb (otherReaders s (l .readers)) 0) (Acquire c) (Wait c))
+    cond (claimed l && not (eqb (l .claimant) s)) RollBack (cond (eqb (otherReaders s (l .readers)) 0) (Acquire c) (Wait c (otherReaders s (l .readers))))
 
 -- advance at the lowest cell that publishes, not below next, where there is one: where not, `guard` has refused by 9
 unfoldable pub advanceTarget : ℕ → List ℕ → Session → (ℕ → Lock) → Option ℕ → Plan

@@ -33,7 +33,7 @@ tellings =
     -- the newest first: the end, and before it the seal
     ∷ telling (Seal 1) Sealed (sealed ∷ []) ∷ telling (Seal 1) Committed (ended ∷ sealed ∷ []) ∷ telling (Seal 1) (Refused 2) []
     ∷ telling (Seal 1) (Refused 6) (ended ∷ [])
-    ∷ telling (Advance 1) Moved (moved ∷ []) ∷ telling (Advance 1) Waiting [] ∷ telling (Advance 1) Committed (ended ∷ [])
+    ∷ telling (Advance 1) Moved (moved ∷ []) ∷ telling (Advance 1) (Waiting 1) [] ∷ telling (Advance 1) Committed (ended ∷ [])
     ∷ telling (Advance 1) (Refused 6) (ended ∷ []) ∷ telling (Advance 1) (Refused 2) []
     ∷ telling (Abandon 1) Done (ended ∷ []) ∷ telling (Abandon 1) (Refused 2) [] ∷ telling (Abandon 1) (Refused 6) (ended ∷ [])
     -- a peek gets nothing as read does
@@ -146,7 +146,7 @@ rows =
     (word true false true 0 4 (read 0 3 ∷ []) 0 0 false)
     -- 104 does not count towards the commit, nor does an answer 103 after it change it; another session's calls are not its own
     ∷ row (event (Begin 0) Done ∷ event (Begin 1) Done ∷ withFound 3 (event (Write 0 0 4) Done) ∷ withFound 5 (event (Write 1 1 2) Done) ∷ withFound 5 (event (Write 0 1 6) Done) ∷ event (Seal 0) Sealed
-    ∷ event (Advance 0) Waiting ∷ event (Advance 0) Moved ∷ event (Advance 1) Moved ∷ event (Advance 0) Moved ∷ event (Advance 0) Moved ∷ []) (name 1 0)
+    ∷ event (Advance 0) (Waiting 1) ∷ event (Advance 0) Moved ∷ event (Advance 1) Moved ∷ event (Advance 0) Moved ∷ event (Advance 0) Moved ∷ []) (name 1 0)
     (word true true true 4 6 [] 6 10 true)
     -- cells are counted, not writes
     ∷ row (event (Begin 0) Done ∷ withFound 3 (event (Write 0 0 4) Done) ∷ withFound 3 (event (Write 0 0 6) Done) ∷ event (Seal 0) Sealed ∷ event (Advance 0) Moved ∷ []) (name 1 0)
@@ -178,7 +178,7 @@ rows =
     -- a refused hold holds nothing, and one that is answered 6 ends it
     ∷ row (event (Begin 0) Done ∷ event (Hold 0 0) (Refused 5) ∷ event (Hold 0 1) (Refused 6) ∷ withFound 3 (event (Hold 0 0) (Value 3)) ∷ []) (name 1 0) nothing
     -- sealed, and not committed
-    ∷ row (event (Begin 0) Done ∷ withFound 5 (event (Write 0 1 4) Done) ∷ event (Seal 0) (Refused 9) ∷ event (Seal 0) Sealed ∷ event (Advance 0) Waiting ∷ []) (name 1 0)
+    ∷ row (event (Begin 0) Done ∷ withFound 5 (event (Write 0 1 4) Done) ∷ event (Seal 0) (Refused 9) ∷ event (Seal 0) Sealed ∷ event (Advance 0) (Waiting 1) ∷ []) (name 1 0)
     (word true false true 0 4 [] 4 0 false)
     -- nothing written: the commit is the seal
     ∷ row (event (Begin 0) Done ∷ event (Read 0 1) (Value 5) ∷ event (Seal 0) Committed ∷ []) (name 1 0) (word false false false 0 0 (read 1 5 ∷ []) 3 3 true)

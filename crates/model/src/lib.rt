@@ -64,7 +64,8 @@ pub enum Answer {
     Value(u32),
     Sealed,
     Moved,
-    Waiting,
+    // the number of other readers
+    Waiting(u32),
     Committed,
     Refused(u8),
 }
@@ -79,13 +80,13 @@ impl Answer {
             Answer::Value(_) => 101,
             Answer::Sealed => 102,
             Answer::Moved => 103,
-            Answer::Waiting => 104,
+            Answer::Waiting(_) => 104,
             Answer::Committed => 105,
             Answer::Refused(k) => k,
         }
     }
 
-    // The value: 0 except with 101.
+    // The value: 0 except with 101 and 104.
     pub fn value(self) -> u32
         ensures { λ r. ⌜ r ≡ valueOf self ⌝ }
     {
@@ -94,7 +95,7 @@ impl Answer {
             Answer::Value(v) => v,
             Answer::Sealed => 0,
             Answer::Moved => 0,
-            Answer::Waiting => 0,
+            Answer::Waiting(k) => k,
             Answer::Committed => 0,
             Answer::Refused(_) => 0,
         }
@@ -120,8 +121,8 @@ pub enum Plan {
     Cancel,
     CommitReads,
     BeginPromotion,
-    // the cell of an advance; with Publish the value that it gets
-    Wait(u32),
+    // the cell of an advance; with Wait the number of other readers, with Publish the value that it gets
+    Wait(u32, u32),
     Acquire(u32),
     Publish(u32, u32),
     Release(u32),

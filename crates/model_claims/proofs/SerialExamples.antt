@@ -89,7 +89,7 @@ record Computed : Type 0 where
   serial-open : noneOpen (told [] (made inTurn)) ≡ true
   serial-values : serial (setUp given .lent .values) (made inTurn) .values ≡ 4 ∷ 5 ∷ []
   other-list : oneAtATime (made atOnce) ≡ false
-  other-answers : answers atOnce ≡ Done ∷ Done ∷ Value 3 ∷ Value 3 ∷ Done ∷ Done ∷ Sealed ∷ Sealed ∷ Waiting ∷ Refused 6 ∷ Moved ∷ Moved ∷ Committed ∷ []
+  other-answers : answers atOnce ≡ Done ∷ Done ∷ Value 3 ∷ Value 3 ∷ Done ∷ Done ∷ Sealed ∷ Sealed ∷ Waiting 1 ∷ Refused 6 ∷ Moved ∷ Moved ∷ Committed ∷ []
 
 computed : Computed
 unfolding given made inTurn atOnce answers noneOpen beginsIf oneAtATime serialStep serial computing counting

@@ -81,7 +81,7 @@ onward = asActions (Begin 1 ∷ Read 1 0 ∷ Seal 0 ∷ Advance 0 ∷ Seal 1 ∷
 abbrev pub toldAfter : ℕ → List Item
 toldAfter v = history (toldWith v) started (reverse onward)
 
-pub onward-answers : map {B = Answer} (λ (e : Event). e .answer) (events started (reverse onward)) ≡ reverse (Done ∷ Value 3 ∷ Sealed ∷ Waiting ∷ Committed ∷ Moved ∷ Moved ∷ Committed ∷ [])
+pub onward-answers : map {B = Answer} (λ (e : Event). e .answer) (events started (reverse onward)) ≡ reverse (Done ∷ Value 3 ∷ Sealed ∷ Waiting 1 ∷ Committed ∷ Moved ∷ Moved ∷ Committed ∷ [])
 unfolding started onward computing counting
 onward-answers = refl
 

@@ -17,13 +17,13 @@ returns-4 : tie.Need-returns-4
 returns-4 c = ap valueOf (sym (c .enum-told3 .given .1))
 
 returns-5 : tie.Need-returns-5
-returns-5 c = ap valueOf (sym (c .enum-told4 .given .1))
+returns-5 c = ap valueOf (sym (c .before .self2 .given .1))
 
 returns-6 : tie.Need-returns-6
-returns-6 c = ap valueOf (sym (c .enum-told5 .given .1))
+returns-6 c = ap valueOf (sym (c .enum-told4 .given .1))
 
 returns-7 : tie.Need-returns-7
-returns-7 c = ap valueOf (sym (c .enum-told6 .given .1))
+returns-7 c = ap valueOf (sym (c .enum-told5 .given .1))
 
 pub value-spec : {M : Type 1} → statement M
 value-spec =
