@@ -85,9 +85,9 @@ module _ (vs log : List ℕ) (x : Session) (p : Plan) where
     turn-sealed h k = rw (h, k)
 
   module _ (c : ℕ) where
-    pub turn-waiting : p ≡ Wait c → leaves say.Waiting vs log x (to.Claim c) ≡ turnOf p vs log x
+    pub turn-waiting : (k : ℕ) → p ≡ Wait c k → leaves (say.Waiting k) vs log x (to.Claim c) ≡ turnOf p vs log x
     unfolding turnOf
-    turn-waiting h = rw h
+    turn-waiting k h = rw h
 
     module _ (more : Bool) (m : more ≡ isLeft log c x) (d : Handled) (i : d ≡ handledBy more x c) where
       pub turn-acquired : p ≡ Acquire c → leaves say.Moved vs log (d .session) (to.Acquire c) ≡ turnOf p vs log x

@@ -13,12 +13,16 @@ use Rattle.model.specs.Search.{some?, below}
 use Rattle.model.specs.Readers.{otherReaders}
 use Rattle.model.specs.Buffers.{idle, moveTo, cellAt, entryAt, slotIn, targetIn, cap}
 use Rattle.model.specs.Plans.{claimed, newCell, sealTarget, promotePlan, known, entriesFit, recordFits, guard, readSlot, readPlan, holdSlot, holdPlan, writeSlot, writeCapped, writePlan, sealPlan, peekSlot, peekPlan}
-use Rattle.model.specs.Effects.{isLeft, handled, releaseAnswer}
+use Rattle.model.specs.Effects.{number, isLeft, handled, releaseAnswer}
+use Rattle.model.specs.InTheWay.{TellsOthers}
 use Rattle.model.specs.declared.Session.{Session}
 use Rattle.model.specs.declared.Lock.{Lock}
-use Rattle.model.specs.declared.Answer.the-variants.{Moved, Committed}
+use Rattle.model.specs.declared.Answer.{Answer}
+use Rattle.model.specs.declared.Answer.the-variants as say
+use Rattle.model.specs.declared.Answer.the-variants.{Moved, Waiting, Committed}
 use Rattle.model.specs.declared.Plan.{Plan}
 use Rattle.model.specs.declared.Plan.the-variants.{Refuse, Start, Tell, Enter, Update, EnterUpdate, Mark, EnterMark, RollBack, CommitReads, BeginPromotion, Wait, Acquire, Publish, Release, ShowStore, ShowLog}
+use Rattle.model.proofs.Sets.{others-most}
 use Rattle.model.proofs.Passing.{Entries, entries-of, record-entries}
 use Rattle.model.proofs.Tools.{test, clash, and-false}
 use Rattle.log.specs.Slots.{found, targetSlot, isMore}
@@ -316,13 +320,25 @@ module _ (l : Lock) (s : ℕ) where
     promote-loses h = rw (sym e ∙ h)
 
     module _ (h : b ≡ false) (a : Bool) (f : a ≡ eqb (otherReaders s (l .readers)) 0) where
-      pub promote-waits : a ≡ false → Wait c ≡ promotePlan s c l
+      pub promote-waits : a ≡ false → (k : ℕ) → k ≡ otherReaders s (l .readers) → Wait c k ≡ promotePlan s c l
       unfolding promotePlan
-      promote-waits g = rw (sym e ∙ h, sym f ∙ g)
+      promote-waits g k q = rw (sym e ∙ h, sym f ∙ g, q)
 
       pub promote-acquires : a ≡ true → Acquire c ≡ promotePlan s c l
       unfolding promotePlan
       promote-acquires g = rw (sym e ∙ h, sym f ∙ g)
+
+  -- what the promotion step tells of the others: nothing with 6 and 103; how many with 104
+  pub tells-lost : (a : Answer) → a ≡ say.Refused 6 → TellsOthers l s a
+  tells-lost a e h = let f = ap number e in absurd (omega (arith, f, h))
+
+  pub tells-acquired : TellsOthers l s Moved
+  tells-acquired h = absurd (omega (arith, h))
+
+  pub tells-others : s < 16 → (a : Bool) → a ≡ eqb (otherReaders s (l .readers)) 0 → a ≡ false → (k : ℕ) → k ≡ otherReaders s (l .readers) → TellsOthers l s (Waiting k)
+  tells-others lt a f g k q h =
+      let n = eqb-false (otherReaders s (l .readers)) 0 (sym f ∙ g) in
+      (q, omega (arith, q, n), λ r. omega (arith, q, others-most 15 s (l .readers) (omega arith) r))
 
 -- d is the cell of entry k
 module _ (log : List ℕ) (x : Session) (l : Lock) (s k d : ℕ) (e : d ≡ cellAt log k) where

@@ -8,7 +8,8 @@ use lib.Dec.{leb, ltb, eqb}
 use lib.ListN.{length}
 use denote.Ref.{now}
 use Rattle.model.specs.Slices.{Slice}
-use Rattle.model.specs.Turns.{TakesTurn}
+use Rattle.model.specs.Effects.{isLeft}
+use Rattle.model.specs.Turns.{leaves, turnOf, TakesTurn}
 use Rattle.model.specs.declared.Turn.{Turn}
 use Rattle.model.specs.Buffers.{idle, free, moveTo, cellAt, entryAt}
 use Rattle.model.specs.Plans.{require, entriesFit, writePlan, promotePlan}
@@ -70,6 +71,11 @@ advanceOn log x l s k =
 unfoldable pub duePlan : ℕ → List ℕ → Session → Lock → Due → Plan
 duePlan s log x l (Refused r) = Refuse r
 duePlan s log x l (Slot k more) = advanceOn log x l s k
+
+-- the promotion step at cell c with the lock l, whatever the values and the log are: more is whether a cell that publishes is left above c
+abbrev pub Promotes : Session → Lock → ℕ → ℕ → Bool → Turn → Type 0
+Promotes x l s c more r =
+    (vs log : List ℕ) → more ≡ isLeft log c x → leaves (r .answer) vs log (r .session) (r .change) ≡ turnOf (promotePlan s c l) vs log x
 
 -- the record once cell c is handled, and the answer, by whether a cell that publishes is left above it: before phase 4 the answer is 103
 unfoldable pub handledBy : Bool → Session → ℕ → Handled

@@ -6,13 +6,14 @@ ghost use Prim.Native.Nat.{_+_, _<_, _≤_};
 ghost use lib.Dec.{eqb};
 ghost use lib.ListN.{length};
 ghost use Rattle.model.specs.Buffers.{free, idle, withEntry, ourCaps, cap, passes, allFit, lengthsMatch};
+ghost use Rattle.model.specs.InTheWay.{TellsOthers};
 ghost use Rattle.model.specs.Load.{allClassed};
 ghost use Rattle.model.specs.Plans.{claimed, newCell, entriesFit, recordFits, guard, readPlan, holdPlan, writeCapped, writePlan, sealPlan, peekPlan};
 ghost use Rattle.model.specs.Turns.{TakesTurn, TurnsLog};
 ghost use Rattle.model.specs.declared.Answer.the-variants.{Refused};
 ghost use Rattle.model.specs.declared.Plan.the-variants.{Start, Cancel};
 ghost use Rattle.model.specs.declared.Change.the-variants.{Keep, Join, Withdraw};
-ghost use Rattle.calls.specs.Pieces.{admission, tested, WriteDecided, TurnsWrite, dueOn, dueCell, DueFits, advanceOn, duePlan, handledBy};
+ghost use Rattle.calls.specs.Pieces.{admission, tested, WriteDecided, TurnsWrite, dueOn, dueCell, DueFits, advanceOn, duePlan, Promotes, handledBy};
 ghost use Rattle.calls.specs.declared.Due.the-variants.{Slot};
 use model::Answer;
 use model::Change;
@@ -668,8 +669,34 @@ fn handle(x: Session, cell: u32, more: bool) -> Handled
     }
 }
 
-// Advance at entry k, with the lock of its cell. Phase 2: a claimant other than the session rolls it back, with other readers it waits, else it acquires the
-// lock; phase 3: the present value is published; phase 4: the cell is released.
+// The promotion step, on the lock of a cell: a claimant other than the session rolls it back; with other readers it becomes claimant and waits, and tells how
+// many they are; else it acquires the lock, and the cell is handled.
+fn promote(x: Session, l: Lock, session: u8, cell: u32, more: bool) -> Turn
+    requires { ⌜ (x .phase ≤ 4) × (cell < 1024) × (session < 16) ⌝ }
+    ensures { λ r. ⌜ (Promotes x l session cell more r) × (TellsOthers l session (r .answer)) ⌝ }
+{
+    if loses(l, session) {
+        return rolled_back(x);
+    }
+    let readers = l.readers;
+    if !locks::alone(readers, session) {
+        let others = locks::others(readers, session);
+        return Turn {
+            answer: Answer::Waiting(others),
+            session: x,
+            change: Change::Claim(cell),
+        };
+    }
+    let h = handle(x, cell, more);
+    let y = h.session;
+    Turn {
+        answer: Answer::Moved,
+        session: y,
+        change: Change::Acquire(cell),
+    }
+}
+
+// Advance at entry k, with the lock of its cell. Phase 2: it is promoted; phase 3: the present value is published; phase 4: the cell is released.
 fn take_entry(
     values: &mut [u32],
     log: &[u32],
@@ -685,24 +712,7 @@ fn take_entry(
     let phase = x.phase;
     let cell = log::cell_at(log, k as usize);
     if phase == 2 {
-        if loses(l, session) {
-            return rolled_back(x);
-        }
-        let readers = l.readers;
-        if !locks::alone(readers, session) {
-            return Turn {
-                answer: Answer::Waiting,
-                session: x,
-                change: Change::Claim(cell),
-            };
-        }
-        let h = handle(x, cell, more);
-        let y = h.session;
-        return Turn {
-            answer: Answer::Moved,
-            session: y,
-            change: Change::Acquire(cell),
-        };
+        return promote(x, l, session, cell, more);
     }
     let h = handle(x, cell, more);
     let answer = h.answer;

@@ -43,7 +43,7 @@ pub fn alone(readers: u16, session: u8) -> bool
 // How many other sessions read: the ones of that same set, less this session.
 pub fn others(readers: u16, session: u8) -> u32
     requires { ⌜ session < 16 ⌝ }
-    ensures { λ r. ⌜ (r ≡ otherReaders session readers) × (r ≤ 15) ⌝ }
+    ensures { λ r. ⌜ r ≡ otherReaders session readers ⌝ }
 {
     let set = with_reader(readers, session);
     u16::count_ones(set) - 1

@@ -1,11 +1,11 @@
 -- The laws of reader sets, of every number as a set and every session: who is a member after joining and leaving, and what the count of members
 -- tells. By induction on the digit, lowest first; the laws of joining and leaving are those of `assign`, which does both.
-use Prim.Native.Nat.{ℕ, zero, suc, _+_, _*_, _/_, _%_, _<_}
+use Prim.Native.Nat.{ℕ, zero, suc, _+_, _*_, _/_, _%_, _^_, _<_, _≤_}
 use native.Mathlib.Omega.{arith}
 use mathlib.Core.Path.{_≡_, refl, sym, _∙_}
 use mathlib.Core.Bool.{true, false}
 use lib.Dec.{eqb}
-use lib.Count.{onesIn, ones, ones-step}
+use lib.Count.{onesIn, ones, ones-step, ones-le}
 use borrow.Author.Tests.{eqb-false, eq-eqb, ne-eqb}
 use Rattle.model.specs.Readers.{odd, member, assign, withReader, withoutReader, otherReaders}
 use Rattle.model.proofs.Laws.{assign-over}
@@ -52,6 +52,14 @@ ones-join zero x = omega (arith, ones-digit (x / 2) 1 (omega arith), ones-digit 
 ones-join (suc s) x =
     let digit : (y : ℕ) → ones (y * 2 + x % 2) ≡ x % 2 + ones y = λ y. ones-digit y (x % 2) (omega arith) in
     omega (arith, digit (assign (x / 2) s true), digit (assign (x / 2) s false), ones-join s (x / 2))
+
+-- of a set of k + 1 digits at most k others
+pub others-most : (k s x : ℕ) → s ≤ k → x < 2 ^ suc k → otherReaders s x ≤ k
+unfolding otherReaders assign
+others-most k zero x l h = omega (arith, ones-digit (x / 2) 0 (omega arith), ones-le k (x / 2) (omega (arith, h)))
+others-most zero (suc s) x l h = absurd (omega arith)
+others-most (suc k) (suc s) x l h =
+    omega (arith, ones-digit (assign (x / 2) s false) (x % 2) (omega arith), others-most k s (x / 2) (omega arith) (omega (arith, h)))
 
 -- so that count is one exactly where there are no others
 pub alone-count : (s x : ℕ) → eqb (ones (withReader s x)) 1 ≡ eqb (otherReaders s x) 0

@@ -1,8 +1,8 @@
--- The count of the set with the own bit put in is one more than the others, and at most 16.
+-- The count of the set with the own bit put in is one more than the others.
 use Prim.Native.Nat.{ℕ, suc}
 use mathlib.Core.Path.{_≡_, ap, _∙_}
 use native.Mathlib.Omega.{arith}
-use lib.Count.{ones, ones-le}
+use lib.Count.{ones}
 use borrow.Author.Needs.{needs}
 use Rattle.model.specs.Readers.{otherReaders}
 use Rattle.model.proofs.Sets.{ones-join}
@@ -19,7 +19,7 @@ sub-result : tie.Need-sub-result
 sub-result c = omega (arith, counted c)
 
 returns : tie.Need-returns
-returns c = (omega (arith, counted c), omega (arith, ones-le 16 (c .with-reader .result) (c .with-reader .ok)))
+returns c = omega (arith, counted c)
 
 pub others-spec : {M : Type 1} → statement M
 others-spec = tie.close (tie.spec with-reader-requires sub-result returns)
