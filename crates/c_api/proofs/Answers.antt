@@ -109,7 +109,7 @@ not-refused Done h = refl
 not-refused (Value v) h = refl
 not-refused Sealed h = refl
 not-refused Moved h = refl
-not-refused Waiting h = refl
+not-refused (Waiting k) h = refl
 not-refused Committed h = refl
 not-refused (Refused k) h = absurd (miss (0 ∷ 1 ∷ 2 ∷ 3 ∷ 4 ∷ 5 ∷ []) 6 tt h)
 
@@ -118,7 +118,7 @@ begin-left Done g h = refl
 begin-left (Value v) g h = absurd (clash false g refl)
 begin-left Sealed g h = absurd (clash false g refl)
 begin-left Moved g h = absurd (clash false g refl)
-begin-left Waiting g h = absurd (clash false g refl)
+begin-left (Waiting k) g h = absurd (clash false g refl)
 begin-left Committed g h = absurd (clash false g refl)
 begin-left (Refused k) g h = absurd (miss (0 ∷ 1 ∷ 2 ∷ 3 ∷ 4 ∷ 5 ∷ []) 6 tt h)
 
@@ -127,7 +127,7 @@ read-left Done g h = absurd (clash false g refl)
 read-left (Value v) g h = absurd (miss (0 ∷ 2 ∷ 3 ∷ 4 ∷ 5 ∷ 6 ∷ []) 1 tt h)
 read-left Sealed g h = absurd (clash false g refl)
 read-left Moved g h = absurd (clash false g refl)
-read-left Waiting g h = absurd (clash false g refl)
+read-left (Waiting k) g h = absurd (clash false g refl)
 read-left Committed g h = absurd (clash false g refl)
 read-left (Refused k) g h = (refl, refl)
 
@@ -136,7 +136,7 @@ seal-left Done g h i = absurd (clash false g refl)
 seal-left (Value v) g h i = absurd (clash false g refl)
 seal-left Sealed g h i = refl
 seal-left Moved g h i = absurd (clash false g refl)
-seal-left Waiting g h i = absurd (clash false g refl)
+seal-left (Waiting k) g h i = absurd (clash false g refl)
 seal-left Committed g h i = absurd (miss (0 ∷ 1 ∷ 2 ∷ 3 ∷ 4 ∷ 6 ∷ []) 5 tt i)
 seal-left (Refused k) g h i = absurd (miss (0 ∷ 1 ∷ 2 ∷ 3 ∷ 4 ∷ 5 ∷ []) 6 tt h)
 

@@ -10,7 +10,7 @@ refusalOf Done = 0
 refusalOf (Value v) = 0
 refusalOf Sealed = 0
 refusalOf Moved = 0
-refusalOf Waiting = 0
+refusalOf (Waiting k) = 0
 refusalOf Committed = 0
 refusalOf (Refused k) = k
 
@@ -20,7 +20,7 @@ ofBegin Done = true
 ofBegin (Value v) = false
 ofBegin Sealed = false
 ofBegin Moved = false
-ofBegin Waiting = false
+ofBegin (Waiting k) = false
 ofBegin Committed = false
 ofBegin (Refused k) = true
 
@@ -29,7 +29,7 @@ ofRead Done = false
 ofRead (Value v) = true
 ofRead Sealed = false
 ofRead Moved = false
-ofRead Waiting = false
+ofRead (Waiting k) = false
 ofRead Committed = false
 ofRead (Refused k) = true
 
@@ -38,6 +38,6 @@ ofSeal Done = false
 ofSeal (Value v) = false
 ofSeal Sealed = true
 ofSeal Moved = false
-ofSeal Waiting = false
+ofSeal (Waiting k) = false
 ofSeal Committed = true
 ofSeal (Refused k) = true

@@ -271,7 +271,7 @@ got-above-low w = let h : 8 ≤ 7 = w .got .1 .0 in omega arith
 pub undisturbed : Undisturbed Done × Undisturbed (Refused 2)
 undisturbed = ((λ e. eqb-false 100 6 refl e, λ e. eqb-false 100 104 refl e), (λ e. eqb-false 2 6 refl e, λ e. eqb-false 2 104 refl e))
 
-pub undisturbed-not : (Undisturbed (Refused 6) → ⊥) × (Undisturbed Waiting → ⊥)
+pub undisturbed-not : (Undisturbed (Refused 6) → ⊥) × (Undisturbed (Waiting 1) → ⊥)
 undisturbed-not = (λ u. u .0 refl, λ u. u .1 refl)
 
 pub open-not : NoneOpen (told [] (event (Begin 0) Done ∷ [])) → ⊥

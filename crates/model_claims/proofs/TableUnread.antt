@@ -47,7 +47,7 @@ module _ (T : List ℕ) (σ : Store) where
     under Cancel = (refl, refl)
     under CommitReads = (refl, refl)
     under BeginPromotion = (refl, refl)
-    under (Wait c) = (refl, refl)
+    under (Wait c k) = (refl, refl)
     under (Acquire c) = (refl, refl)
     under (Publish c v) = (refl, refl)
     under (Release c) = (refl, refl)

@@ -35,13 +35,13 @@ fieldLine place n = (102 ∷ 105 ∷ 101 ∷ 108 ∷ 100 ∷ space ∷ []) ++ (w
 unfoldable pub cellLine : ℕ → ℕ → List ℕ
 cellLine i v = (99 ∷ space ∷ []) ++ (word i space ++ word v newline)
 
--- ORDINAL N, and after 101 the value
+-- ORDINAL N, and after 101 and 104 the value (document 02, Paper 6)
 unfoldable pub answerWords : Answer → List ℕ
 answerWords Done = word (number Done) newline
 answerWords (Value v) = word (number (Value v)) space ++ word v newline
 answerWords Sealed = word (number Sealed) newline
 answerWords Moved = word (number Moved) newline
-answerWords Waiting = word (number Waiting) newline
+answerWords (Waiting k) = word (number (Waiting k)) space ++ word k newline
 answerWords Committed = word (number Committed) newline
 answerWords (Refused k) = word (number (Refused k)) newline
 

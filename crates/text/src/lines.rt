@@ -6,7 +6,7 @@ ghost use mathlib.Core.List.{_∷_, [], _++_};
 ghost use Prim.Native.Nat.{_+_, _*_, _≤_, _<_};
 ghost use lib.ListN.{length};
 ghost use Rattle.text.specs.Decimal.{decimal};
-ghost use Rattle.text.specs.Lines.{word, space, sizeLine, setUpLine, fieldLine, cellLine, answerLine, cellLines};
+ghost use Rattle.text.specs.Lines.{word, space, newline, sizeLine, setUpLine, fieldLine, cellLine, answerLine, cellLines};
 ghost use Rattle.text.specs.Output.{out, put, Puts, stopLine};
 
 const SPACE: u8 = 32;
@@ -107,17 +107,26 @@ fn put_stop(output: &mut [u8], at: usize, place: usize, next: Next) -> usize
     }
 }
 
-// ORDINAL N, and after 101 the value
+// ORDINAL N VALUE
+fn put_told(output: &mut [u8], at: usize, ordinal: u32, number: u32, value: u32) -> usize
+    requires { ⌜ (ordinal < 100000) × (number < 1000) × (at + 21 ≤ length (now output)) ⌝ }
+    ensures { λ r. ⌜ Puts output at (word ordinal space ++ (word number space ++ word value newline)) 21 r ⌝ }
+{
+    let a = put_pair(output, at, ordinal, number, SPACE);
+    put_word(output, a, value, NEWLINE)
+}
+
+// ORDINAL N, and after 101 and 104 the value
 pub fn put_answer(output: &mut [u8], at: usize, ordinal: u32, answer: Answer) -> usize
     requires { ⌜ (ordinal < 100000) × (at + 21 ≤ length (now output)) ⌝ }
     ensures { λ r. ⌜ Puts output at (answerLine ordinal answer) 21 r ⌝ }
 {
     let n = answer.number() as u32;
-    let Answer::Value(v) = answer else {
-        return put_pair(output, at, ordinal, n, NEWLINE);
-    };
-    let a = put_pair(output, at, ordinal, n, SPACE);
-    put_word(output, a, v, NEWLINE)
+    match answer {
+        Answer::Value(v) => put_told(output, at, ordinal, n, v),
+        Answer::Waiting(others) => put_told(output, at, ordinal, n, others),
+        _ => put_pair(output, at, ordinal, n, NEWLINE),
+    }
 }
 
 // c CELL VALUE

@@ -43,7 +43,7 @@ PlanFits n log x RollBack = Entries n log x
 PlanFits n log x Cancel = Entries n log x
 PlanFits n log x CommitReads = Entries n log x
 PlanFits n log x BeginPromotion = Entries n log x
-PlanFits n log x (Wait c) = c < n
+PlanFits n log x (Wait c k) = c < n
 PlanFits n log x (Acquire c) = c < n
 PlanFits n log x (Publish c v) = Unit
 PlanFits n log x (Release c) = c < n
@@ -134,7 +134,7 @@ module _ (n : ℕ) (log : List ℕ) (x : Session) where
     change-fits Cancel f = swept f
     change-fits CommitReads f = (swept f, few)
     change-fits BeginPromotion f = (swept f, few)
-    change-fits (Wait c) f = f
+    change-fits (Wait c k) f = f
     change-fits (Acquire c) f = f
     change-fits (Publish c v) f = tt
     change-fits (Release c) f = f
