@@ -212,6 +212,31 @@ module _ (f : ℕ → Bool) where
       same c b (λ e. let w = tally-mono a b (omega arith) in rw (subst (λ (x : ℕ). f x ≡ true) e h) (omega arith))
       (λ n. let w = tally-more a b c p (omega arith) h in test (f b) (λ t. rw t (omega arith)) (λ t. rw t (omega arith)))
 
+  -- at most n, and fewer where a number below n does not pass
+  tally-most : (n : ℕ) → tally f n ≤ n
+  unfolding tally
+  tally-most zero = omega arith
+  tally-most (suc n) = let w = tally-most n in test (f n) (λ t. rw t (omega arith)) (λ t. rw t (omega arith))
+
+  pub tally-less : (n s : ℕ) → s < n → f s ≡ false → tally f n < n
+  unfolding tally
+  tally-less zero s l h = absurd (omega arith)
+  tally-less (suc n) s l h =
+      same s n (λ e. let w = tally-most n in rw (subst (λ (x : ℕ). f x ≡ false) e h) (omega arith))
+      (λ d. let w = tally-less n s (omega arith) h in test (f n) (λ t. rw t (omega arith)) (λ t. rw t (omega arith)))
+
+  -- the first number apart
+  pub tally-first : (n : ℕ) → tally f (suc n) ≡ cond (f 0) 1 0 + tally (λ t. f (suc t)) n
+  unfolding tally
+  tally-first zero = refl
+  tally-first (suc n) = let w = tally-first n in omega (arith, w)
+
+  -- by what the numbers below n come to
+  pub tally-same : (g : ℕ → Bool) (n : ℕ) → ((t : ℕ) → t < n → f t ≡ g t) → tally f n ≡ tally g n
+  unfolding tally
+  tally-same g zero h = refl
+  tally-same g (suc n) h = rw (h n (omega arith), tally-same g n (λ t l. h t (omega arith)))
+
 -- ---- the log's words
 
 pub getD-sets-other : (vs l : List ℕ) (i j : ℕ) → ((m : ℕ) → m < length vs → j ≡ i + m → ⊥) → getD (sets l i vs) j 0 ≡ getD l j 0

@@ -2,14 +2,15 @@
 -- tells. By induction on the digit, lowest first; the laws of joining and leaving are those of `assign`, which does both.
 use Prim.Native.Nat.{ℕ, zero, suc, _+_, _*_, _/_, _%_, _^_, _<_, _≤_}
 use native.Mathlib.Omega.{arith}
-use mathlib.Core.Path.{_≡_, refl, sym, _∙_}
-use mathlib.Core.Bool.{true, false}
+use mathlib.Core.Path.{_≡_, refl, sym, ap, _∙_}
+use mathlib.Core.Bool.{true, false, cond, not, _&&_}
 use lib.Dec.{eqb}
 use lib.Count.{onesIn, ones, ones-step, ones-le}
-use borrow.Author.Tests.{eqb-false, eq-eqb, ne-eqb}
+use borrow.Author.Tests.{eqb-true, eqb-false, eq-eqb, ne-eqb}
+use Rattle.model.specs.Search.{tally}
 use Rattle.model.specs.Readers.{odd, member, assign, withReader, withoutReader, otherReaders}
-use Rattle.model.proofs.Laws.{assign-over}
-use Rattle.model.proofs.Tools.{same, half-assign, member-assign-same, member-assign-other, alone-member}
+use Rattle.model.proofs.Laws.{assign-over, tally-first, tally-same}
+use Rattle.model.proofs.Tools.{same, test, and-false, half-assign, member-assign-same, member-assign-other, alone-member}
 
 -- ---- joining and leaving
 
@@ -91,6 +92,22 @@ unfolding otherReaders ones
 alone-others s x h =
     no-members (withoutReader s x) (withoutReader s x)
     (λ t. same t s (λ e. rw e (member-leave-same s x)) (λ n. member-leave-other s x t n ∙ h t n))
+
+-- the count of a set without members from d on is the number of its members below d, and of the others that of the others
+ones-tally : (d x : ℕ) → ((t : ℕ) → d ≤ t → member x t ≡ false) → ones x ≡ tally (member x) d
+unfolding ones tally member odd
+ones-tally zero x h = no-members x x (λ t. h t (omega arith))
+ones-tally (suc d) x h =
+    let first : x % 2 ≡ cond (eqb (x % 2) 1) 1 0 = test (eqb (x % 2) 1) (λ e. rw e (eqb-true (x % 2) 1 e)) (λ e. rw e (let n = eqb-false (x % 2) 1 e in omega arith)) in
+    ones-step x ∙ ap (λ (n : ℕ). x % 2 + n) (ones-tally d (x / 2) (λ t l. h (suc t) (omega arith)))
+    ∙ ap (λ (n : ℕ). n + tally (member (x / 2)) d) first ∙ sym (tally-first (member x) d)
+
+pub others-tally : (d s x : ℕ) → ((t : ℕ) → d ≤ t → member x t ≡ false) → otherReaders s x ≡ tally (λ t. not (eqb t s) && member x t) d
+unfolding otherReaders
+others-tally d s x h =
+    let gone : (t : ℕ) → member (withoutReader s x) t ≡ (not (eqb t s) && member x t) =
+    λ t. same t s (λ e. rw (eq-eqb t s e, e) (member-leave-same s x)) (λ n. rw (ne-eqb t s n) (member-leave-other s x t n)) in
+    ones-tally d (withoutReader s x) (λ t l. gone t ∙ rw (h t l) (and-false (not (eqb t s)))) ∙ tally-same (member (withoutReader s x)) _ d (λ t _. gone t)
 
 pub others-alone : (s x : ℕ) → otherReaders s x ≡ 0 → Alone s x
 others-alone s x h t n = alone-member x s t h n
