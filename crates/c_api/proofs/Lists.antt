@@ -16,6 +16,7 @@ use Rattle.model.specs.Told.{foundBy}
 use Rattle.model.proofs.Caps.{within-caps-of-code}
 use Rattle.model.proofs.CommitOrder.{in-commit-order-of-code}
 use Rattle.model.proofs.Demand3.{ran-many, demand3-of-code}
+use Rattle.model.proofs.Waiting.{waits-for-those-of-code}
 use Rattle.c_api.specs.InNumbers.{NumberOutcome, replied, inNumbers, Heard, heard, Called, none, then, thenMany, thenLoad, Demand3InNumbers}
 
 -- the store that a call for C leaves, with the model's own answer, is the call's outcome
@@ -71,4 +72,5 @@ demand3-in-numbers φ σ v e actions h τ r =
       meets = demand3-of-code φ σ (setUpEffect φ .answer) (answered 100 v σ (setUpEffect φ) e) (sym (ap (λ (s : NumberOutcome). s .number) e)) actions (i .events) τ (i .ran);
       caps = within-caps-of-code φ σ (setUpEffect φ .answer) (answered 100 v σ (setUpEffect φ) e) (sym (ap (λ (s : NumberOutcome). s .number) e)) actions;
       order = in-commit-order-of-code φ σ (setUpEffect φ .answer) (answered 100 v σ (setUpEffect φ) e) (sym (ap (λ (s : NumberOutcome). s .number) e)) actions (i .events) τ (i .ran);
+      waits = waits-for-those-of-code φ σ (setUpEffect φ .answer) (answered 100 v σ (setUpEffect φ) e) (sym (ap (λ (s : NumberOutcome). s .number) e)) actions (i .events) τ (i .ran);
     }

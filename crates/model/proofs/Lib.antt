@@ -35,3 +35,4 @@ pub mod OwnCaps
 pub mod Twin
 pub mod Caps
 pub mod ReadAgain
+pub mod Waiting

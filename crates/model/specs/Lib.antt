@@ -18,6 +18,7 @@ pub mod CommitOrder
 pub mod HoldAsRead
 pub mod Orders
 pub mod Holding
+pub mod Waits
 pub mod Rounds
 pub mod Cases
 pub mod SetUpCases

@@ -13,4 +13,3 @@ pub mod ReadClaims
 pub mod PastTheCount
 pub mod TableUnread
 pub mod HoldAsRead
-pub mod Waiting

@@ -1,42 +1,42 @@
 -- How many a session waits for: on any store the other readers of its cell, 1 or more; of what a list of actions leaves, the sessions that are in the way there.
-use Prim.Native.Nat.{ℕ, zero, suc, _<_, _≤_, _^_}
+use Prim.Native.Nat.{ℕ, zero, suc, _<_, _≤_}
 use native.Mathlib.Omega.{arith}
 use mathlib.Core.Path.{_≡_, refl, sym, _∙_, ap, subst}
 use mathlib.Core.Logic.{_⊎_, inl, inr}
 use mathlib.Core.Bool.{Bool, true, false, not, _&&_}
-use mathlib.Core.Option.{Option, none, some}
+use mathlib.Core.Option.{some}
 use mathlib.Core.List.{List, reverse}
 use lib.Dec.{leb, eqb}
 use lib.ListN.{length, List·getD-eq-default}
 use borrow.Author.Tests.{eq-eqb, ne-eqb, eqb-true, eqb-false, leb-true, not-false}
 use Rattle.model.specs.declared.Answer.{Answer}
 use Rattle.model.specs.declared.Answer.the-variants.{Moved, Committed}
 use Rattle.model.specs.declared.Call.the-variants.{Advance}
 use Rattle.model.specs.declared.Lock.{Lock}
 use Rattle.model.specs.declared.Plan.{Plan}
 use Rattle.model.specs.declared.Plan.the-variants.{Acquire, Wait, Publish, Release}
 use Rattle.model.specs.declared.Session.{Session}
-use Rattle.model.specs.Buffers.{Store, size, sessionAt, slotIn, lookIn, entryOf, publishesIn, targetIn, lockAt, publishes, currentOf, fresh, idle}
+use Rattle.model.specs.Buffers.{Store, size, sessionAt, slotIn, lookIn, entryOf, publishesIn, lockAt, publishes, currentOf, fresh, idle}
 use Rattle.model.specs.Effects.{number, valueOf, recordOf, logOf, answer, isLeft, releaseAnswer}
-use Rattle.model.specs.History.{Action, Item, run}
-use Rattle.model.specs.InTheWay.{publishesCell, dueIn, TellsOthers, WaitsForOthers, isInTheWay, othersInTheWay, WaitsForThose}
+use Rattle.model.specs.History.{Action, Event, Item, run}
+use Rattle.model.specs.Isolation.{Ran}
+use Rattle.model.specs.InTheWay.{dueIn, WaitsForOthers, isInTheWay, othersInTheWay, WaitsForThose}
 use Rattle.model.specs.Plans.{recordFits, claimed, promotePlan, advanceTarget, plan}
-use Rattle.model.specs.Readers.{member, otherReaders}
-use Rattle.model.specs.Search.{some?, tally}
-use Rattle.model.specs.Step.{planOf, answerOf, setUpAnswer, setUp}
+use Rattle.model.specs.Readers.{otherReaders}
+use Rattle.model.specs.Step.{Outcome, outcome, planOf, answerOf, setUpAnswer, setUp, setUpEffect}
 use Rattle.model.proofs.Advancing.{late, role-late, target-some}
-use Rattle.model.proofs.Demand3.{set-up-fresh}
+use Rattle.model.proofs.Demand3.{set-up-fresh, ran-is}
 use Rattle.model.proofs.Effects.{idle-out}
 use Rattle.model.proofs.Invariant.{roleIn, roleOf, role, Inv}
 use Rattle.model.proofs.Laws.{tally-less, tally-same}
 use Rattle.model.proofs.Ledger.{Ledger}
 use Rattle.model.proofs.Passing.{choose, guarded}
 use Rattle.model.proofs.Preservation.{inside-wrote}
-use Rattle.model.proofs.Roles.{Role, holds, owns, flip}
+use Rattle.model.proofs.Roles.{holds, owns, flip}
 use Rattle.model.proofs.Runs.{inv-fresh, Ready, ready, inv-run}
 use Rattle.model.proofs.Sets.{others-most, others-tally}
 use Rattle.model.proofs.Tools.{split, same, test, which, clash}
 use Rattle.model.proofs.View.{look, written, target}
 
 -- ---- on any store
 
@@ -179,3 +179,12 @@ waits-for-those-from R actions = waits-for-those-by (inv-run R (reverse actions)
 pub waits-for-those : (σ : Store) → number (setUpAnswer σ) ≡ 100 → (actions : List Action) (s : ℕ) → WaitsForThose (run (setUp σ) (reverse actions)) s
 waits-for-those σ h actions s =
     subst (λ (φ : Store). WaitsForThose (run φ (reverse actions)) s) (sym (set-up-fresh σ h)) (waits-for-those-from (ready (fresh (σ .limits) (σ .lent)) (inv-fresh (σ .limits) (σ .lent))) actions s)
+
+-- code: a set-up that kept its contract and answered 100 left σ, and the calls kept theirs
+pub waits-for-those-of-code : (φ σ : Store) (a : Answer) → outcome a σ ≡ setUpEffect φ → number a ≡ 100
+    → (actions : List Action) (h : List Event) (τ : Store) → Ran σ (reverse actions) h τ → (s : ℕ) → WaitsForThose τ s
+unfolding setUpEffect
+waits-for-those-of-code φ σ a e n actions h τ r s =
+    let f = ap (λ (o : Outcome). o .answer) e in
+    let g : σ ≡ setUp φ = ap (λ (o : Outcome). o .store) e in
+    rw (ran-is σ r .1) (subst (λ (σ : Store). WaitsForThose (run σ (reverse actions)) s) (sym g) (waits-for-those φ (ap number (sym f) ∙ n) actions s))
