@@ -75,7 +75,8 @@ fn each_cell_to_promote_has_its_own_number() {
 
 #[test]
 fn the_own_bit_is_left_aside_whether_it_is_in_the_set_or_not() {
-    for others in [&[0][..], &[15], &[2, 4], &[7, 8], &[0, 1, 2, 4, 14, 15], &[0, 1, 2, 4, 5, 6, 7, 8, 9, 10, 11, 12, 13, 14, 15]] {
+    for others in [&[0][..], &[15], &[2, 4], &[7, 8], &[0, 1, 2, 4, 14, 15], &[0, 1, 2, 4, 5, 6, 7, 8, 9, 10, 11, 12, 13, 14, 15]]
+    {
         for own in [0, 8] {
             let mut buffers = entered(2, &[[1, 3, 4, 1], [2, 3, 4, 1]]);
             buffers.readers = vec![0xffff, set(others) | own, 0xffff];
@@ -95,7 +96,10 @@ fn the_value_of_the_other_answers_is_0() {
     run(&mut buffers, &[(seal(5), number(102)), (begin(6), number(100)), (write(6, 1, 5), number(100)), (seal(6), number(102))]);
     run(&mut buffers, &[(advance(5), waiting(2)), (begin(3), number(100)), (read(3, 0), number(6)), (advance(1), number(2))]);
     run(&mut buffers, &[(advance(6), waiting(1)), (seal(1), number(105)), (seal(2), number(105)), (advance(5), number(103))]);
-    run(&mut buffers, &[(advance(5), number(6)), (advance(6), number(103)), (advance(6), number(103)), (advance(6), number(105))]);
+    run(
+        &mut buffers,
+        &[(advance(5), number(6)), (advance(6), number(103)), (advance(6), number(103)), (advance(6), number(105))],
+    );
 }
 
 /// What the theorem counts: running sessions with the cell in their log, and promoting ones that publish it; no others, and not the session itself.
