@@ -42,7 +42,7 @@ check "n of 1,025 is 7" prints "$work/many.txt" "$work/seven.expected"
 odd_buffers() {
     gcc -Wall -Wextra -Werror -std=c99 -O2 -Iinclude tests/c/odd_buffers.c "$(bash scripts/archive)" -o "$work/odd" && "$work/odd" | diff tests/c/odd_buffers.expected -
 }
-check "numbers 9 and 14, values written back, holds, many reads, tables of caps, odd buffers and odd records" odd_buffers
+check "numbers 9 and 14, values written back, holds, waits, many reads, tables of caps, odd buffers and odd records" odd_buffers
 check "the same, clean under valgrind" valgrind -q --error-exitcode=9 "$work/odd"
 
 finish
