@@ -62,9 +62,10 @@ pub fn miscounted(buffers: &Buffers, call: Call, answer: Answer) -> Option<Strin
     }
     let Before { session, cell, .. } = Before::new(buffers, call)?;
     let number = in_the_way(buffers, session, cell);
-    let told =
-        format!("session {} is told to wait for {} at cell {}, where {} are in the way", session, answer.value, cell, number);
-    Some(told).filter(|_| answer.value != number)
+    if answer.value == number {
+        return None;
+    }
+    Some(format!("session {} waits for {} at cell {}, where {} are in the way", session, answer.value, cell, number))
 }
 
 /// Whether an answer's value is one that its number comes with: any with 101, 1 to 15 with 104, else 0.

@@ -169,27 +169,31 @@ fn compare_next(stores: &mut [Box<dyn Store>], case: u64, buffers: &mut Buffers,
 fn keeps_caps(case: u64, got: &[(u32, u32)], buffers: &Buffers) {
     let told = got.iter().find(|(cell, value)| !within_caps::is_within(buffers, *cell, *value));
     let told = told.map(|(cell, _)| format!("a value above its cap was got of cell {}", cell));
-    stop_case(case, told.or(within_caps::above_its_cap(buffers)));
+    if let Some(told) = told.or(within_caps::above_its_cap(buffers)) {
+        stop_case(case, &told);
+    }
 }
 
 /// In a run 104 carries the number of the sessions in the way.
 fn keeps_numbers(case: u64, single: Option<(Call, Answer)>, buffers: &Buffers) {
-    stop_case(case, single.and_then(|(call, answer)| waits::miscounted(buffers, call, answer)));
+    if let Some(told) = single.and_then(|(call, answer)| waits::miscounted(buffers, call, answer)) {
+        stop_case(case, &told);
+    }
 }
 
-/// Ends a comparison of which something is told that must not be.
-fn stop_case(case: u64, told: Option<String>) {
-    if let Some(told) = told {
-        println!("case {}: {}", case, told);
-        exit(1);
-    }
+/// Ends a comparison at a case that is not as it must be.
+fn stop_case(case: u64, told: &str) -> ! {
+    println!("case {}: {}", case, told);
+    exit(1)
 }
 
 /// One call on every store: the answer, the part and every lent word and record afterwards.
 fn compare_call(stores: &mut [Box<dyn Store>], case: u64, buffers: &mut Buffers, call: Call) -> Answer {
     let before = buffers.clone();
     let expected: (Answer, Part) = Reference.call(buffers, call);
-    stop_case(case, Some(format!("{:?} is answered {:?}", call, expected.0)).filter(|_| !waits::fits(expected.0)));
+    if !waits::fits(expected.0) {
+        stop_case(case, &format!("{:?} is answered {:?}", call, expected.0));
+    }
     for store in stores {
         let mut other = before.clone();
         let got = store.call(&mut other, call);
