@@ -160,7 +160,7 @@ fn value(random: &Random, class: u8, tame: bool) -> u32 {
     random.pick(&[0, cap, cap.wrapping_add(1), random.word()])
 }
 
-/// A reader set; those of any size come with most sizes equally often.
+/// A reader set of any size: often an empty one or one of one session, of the other sizes each as often.
 fn readers(random: &Random) -> u16 {
     match random.weighted(&[40, 20, 20, 20]) {
         0 => 0,

@@ -18,12 +18,14 @@ pub struct Shape {
     pub held: usize,
     /// Go by a table of the caller's own, with loads between; a replay has none.
     pub own_caps: bool,
+    /// Bring all sessions to one cell.
     pub crowd: Option<Crowd>,
 }
 
-/// Again and again all sessions enter one cell, so many of them seal, and then one advances and is told to wait.
+/// Again and again all sessions enter one cell, some of them seal, and then one advances and is told to wait.
 pub struct Crowd {
     cell: u16,
+    /// How many seal before the first advances.
     sealed: usize,
 }
 
@@ -159,6 +161,7 @@ fn crowding(random: &Random, shape: &Shape, crowd: &Crowd, buffers: &Buffers) ->
     let outside: Vec<u8> =
         in_phase(RUNNING).into_iter().filter(|session| buffers.readers[cell as usize] >> session & 1 == 0).collect();
     let (idle, running, promoting) = (in_phase(IDLE), in_phase(RUNNING), in_phase(PROMOTING));
+    // The more are to seal, the more of the reads hold: who only reads has left the cell with its seal.
     let reads = if random.below(shape.sessions) < crowd.sealed - 1 { field::HOLD } else { field::READ };
     let (tag, sessions) = match promoting.len() {
         _ if !idle.is_empty() => (field::BEGIN, idle),
