@@ -1,4 +1,4 @@
-/* Rukkanei for C99 and C++: the call fields and the store of document 01, with Papers 1 to 5 of document 02. One archive has every function of
+/* Rukkanei for C99 and C++: the call fields and the store of document 01, with Papers 1 to 6 of document 02. One archive has every function of
  * this file: link librukkanei.a, which scripts/install puts beside this header. It needs memcpy and memset of the C library at most.
  *
  * Every function answers for every number and every content of what it is lent. None keeps a pointer, allocates, or calls anything of yours.
@@ -26,7 +26,7 @@ extern "C" {
 #define RUKKANEI_VALUE 101         /* read or held, and the value is beside it */
 #define RUKKANEI_SEALED 102        /* sealed, with cells to publish */
 #define RUKKANEI_MOVED 103         /* one cell further, of those to publish */
-#define RUKKANEI_WAITING 104       /* others read the cell that is to be promoted */
+#define RUKKANEI_WAITING 104       /* others read the cell that is to be promoted: the value is how many */
 #define RUKKANEI_COMMITTED 105     /* the transaction is over, and the session idle */
 #define RUKKANEI_END_OF_FIELDS 106 /* no bytes are left at the place */
 
@@ -132,9 +132,12 @@ uint8_t rukkanei_field_write(uint8_t *target, size_t target_len, uint8_t tag, ui
  * that it wrote last, or, where it wrote none, with the one found. Any other cell in its log counts as read: writing back the value found collides
  * with nobody.
  *
- * In a reply `number` is one of the answers above, and `value` is 0 except with 101. A refusal other than 6 leaves everything as before and hands the
- * record back as it came; 6 has rolled the session back. Of many reads this holds of the read that was refused: what the reads before it left stays.
- * A session above 15 has no record, so do not look one up: pass any, and it comes back as it came, with 1 (or with what is tested first). */
+ * In a reply `number` is one of the answers above, and `value` is 0 except with 101 and 104. With 104 it is how many other sessions are in the cell's
+ * reader set, 1 to 15; in a list of calls from a set-up, how many others run with the cell in their log, or are in phase 2 with the cell to publish.
+ *
+ * A refusal other than 6 leaves everything as before and hands the record back as it came; 6 has rolled the session back. Of many reads this holds of
+ * the read that was refused: what the reads before it left stays. A session above 15 has no record, so do not look one up: pass any, and it comes back
+ * as it came, with 1 (or with what is tested first). */
 #define RUKKANEI_SESSIONS 16
 #define RUKKANEI_CELLS_MAX 1024
 #define RUKKANEI_LOG_WORDS 2048
@@ -268,7 +271,8 @@ rukkanei_reply rukkanei_seal(rukkanei_session record, const uint32_t *values, si
                              uint16_t *readers, size_t readers_len, const uint8_t *claimants, size_t claimants_len, const uint8_t *exclusives,
                              size_t exclusives_len, const uint32_t *logs, size_t logs_len, uint8_t session);
 
-/* A sealed session goes one cell further, of those to publish: promotes, publishes or releases it. 103; 104 while others read the cell; 105 at the end. */
+/* A sealed session goes one cell further, of those to publish: promotes, publishes or releases it. 103; 105 at the end. While others read the cell that
+   it is to promote, 104 with their number: it has claimed the cell, so no new ones come, and it asks again. */
 rukkanei_reply rukkanei_advance(rukkanei_session record, uint32_t *values, size_t values_len, const uint8_t *classes, size_t classes_len,
                                 uint16_t *readers, size_t readers_len, uint8_t *claimants, size_t claimants_len, uint8_t *exclusives,
                                 size_t exclusives_len, const uint32_t *logs, size_t logs_len, uint8_t session);

@@ -7,7 +7,7 @@ cd "$(dirname "$0")/.."
 seed=${SEED:-1}
 work=$PWD/target/reference-tests
 . tests/check.sh
-examples="listing skew mixed written_back hold"
+examples="listing skew mixed written_back hold waiting"
 
 # refused STATUS WORDS COMMAND...: the command ends with this status, writes nothing, and says these words on standard error.
 refused() {
@@ -80,15 +80,16 @@ hollow() {
 
 # The tool follows random replays to their end, and by that tells each value found.
 random_pictures() {
-    local file dropped=0 held=0
+    local file dropped=0 held=0 waits=0
     rm -rf "$work/random" && mkdir "$work/random" && "$compare" write --to "$work/random" --seed "$seed" --count 80 || return 1
     for file in "$work/random"/*.bin; do
         "$replay_reference" <"$file" >"$work/random.out" && tools/timeline "$file" "$work/random.out" >"$work/random.svg" || { echo "$file"; return 1; }
         dropped=$((dropped + $(grep -c '>dropped</text>' "$work/random.svg")))
         held=$((held + $(grep -c '>held</text>' "$work/random.svg")))
+        waits=$((waits + $(grep -c '>for [0-9]* others</text>' "$work/random.svg")))
     done
-    echo "$dropped dropped writes, $held holds"
-    [ "$dropped" -gt 0 ] && [ "$held" -gt 0 ]
+    echo "$dropped dropped writes, $held holds, $waits waits for several"
+    [ "$dropped" -gt 0 ] && [ "$held" -gt 0 ] && [ "$waits" -gt 0 ]
 }
 
 # foreign_output NAME EDIT: the time line of an example's input with an edited output.
@@ -125,13 +126,13 @@ for name in $examples; do
 done
 check "a commit is shown" shows listing "commit"
 check "a roll-back is shown" shows listing "rolled back"
-check "a wait is shown" shows listing "for 1"
+check "a wait is shown, and for how many" shows listing "for 1 other"
 check "a stored value is shown" shows listing "= 4"
 check "a wrong cell line is refused" refused 1 "from line 14 on, the cells are not those that the calls leave" foreign_output listing 's/^c 0 4$/c 0 3/'
 check "a missing answer is refused" refused 1 "line 13 is not the answer of call 13" foreign_output listing '/^13 /d'
 check "a value that the cell has not is refused" refused 1 "call 3 reads 7 where the cell has 3" foreign_output listing 's/^3 101 3$/3 101 7/'
 check "a roll-back past the last lock is refused" refused 1 "call 13 is answered 6 with no cell left to lock" foreign_output listing 's/^13 105$/13 6/'
-check "a cell written back has no reader from the seal on" marks written_back "for 1" 23
+check "a cell written back has no reader from the seal on" marks written_back "session 1" 23
 check "dropped writes are counted" shows written_back "3 cells, 40 calls, 7 transactions, 7 committed, 2 waits, 6 writes dropped"
 check "dropped writes are marked, and no others" marks written_back "dropped" "5 6 14 16 17 39"
 check "a dropped write is a hollow square" hollow written_back 7
@@ -149,6 +150,16 @@ check "holds are counted as calls, and no write of theirs as dropped" shows hold
 check "a hold of a value that the cell has not is refused" refused 1 "call 4 reads 4 where the cell has 5" foreign_output hold 's/^4 101 5$/4 101 4/'
 check "a seal that lets a held cell go is refused" refused 1 "call 41 is answered 105 with 1 cell to publish" foreign_output hold 's/^41 102$/41 105/'
 check "an end with a held cell left is refused" refused 1 "call 15 is answered 105, advance 3 of 2 cells to publish" foreign_output hold 's/^15 103$/15 105/'
+check "a wait for three others" marks waiting "for 3 others" "15 16"
+check "a wait for two others" marks waiting "for 2 others" "18"
+check "a wait for one other, which promotes" marks waiting "session 3" "20"
+check "waits are counted" shows waiting "2 cells, 27 calls, 5 transactions, 3 committed, 1 rolled back, 1 abandoned, 4 waits, 1 write dropped"
+check "a wait without its number is refused" refused 1 "call 9 is answered 104 with 0 numbers after it" foreign_output listing 's/^9 104 1$/9 104/'
+check "a wait for none is refused" refused 1 "call 9 waits for 0 with 1 other in the way" foreign_output listing 's/^9 104 1$/9 104 0/'
+check "a wait for another number is refused" refused 1 "call 18 waits for 3 with 2 others in the way" foreign_output waiting 's/^18 104 2$/18 104 3/'
+check "a wait with nobody in the way is refused" refused 1 "call 11 waits for 0 with 0 others in the way" foreign_output listing 's/^11 103$/11 104 0/'
+check "a wait past the last lock is refused" refused 1 "call 12 is answered 104 with no cell left to lock" foreign_output listing 's/^12 103$/12 104 1/'
+check "a number after another answer is refused" refused 1 "call 11 is answered 103 with 1 number after it" foreign_output listing 's/^11 103$/11 103 1/'
 check "random replays" random_pictures
 
 echo "-- the proved fields, seed $seed"

@@ -55,7 +55,7 @@ check "the replay on the fuzzer's corpus" shown corpus
 check "the proved replay on random files" shown "$compare" replays --program "$PWD/target/bin/replay" --mode spawn --seed "$seed" --count "$replays"
 
 # What stands on the archive for C comes last: it may still be in the making.
-for name in listing skew mixed written_back hold; do
+for name in listing skew mixed written_back hold waiting; do
     check "the replay of $name" example $name
 done
 check "the calls for C are built" calls_for_c

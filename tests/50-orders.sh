@@ -39,10 +39,16 @@ printf 'setup 7\n' >"$work/seven.expected"
 check "n of 0 is 7" prints "$work/none.txt" "$work/seven.expected"
 check "n of 1,025 is 7" prints "$work/many.txt" "$work/seven.expected"
 
+{ cells 1; for s in $(seq 0 15); do echo "begin $s"; done; for s in $(seq 1 15); do echo "read $s 0"; done; printf 'write 0 0 4\nseal 0\n'
+    for s in $(seq 1 15); do printf 'advance 0\nseal %s\n' "$s"; done; printf 'advance 0\nadvance 0\nadvance 0\n'; } >"$work/crowd.txt"
+{ for i in $(seq 1 16); do echo "$i 100"; done; for i in $(seq 17 31); do echo "$i 101 3"; done; printf '32 100\n33 102\n'
+    for s in $(seq 1 15); do echo "$((32 + 2 * s)) 104 $((16 - s))"; echo "$((33 + 2 * s)) 105"; done; printf '64 103\n65 103\n66 105\nc 0 4\n'; } >"$work/crowd.expected"
+check "fifteen others are in the way, and one less after each seal" prints "$work/crowd.txt" "$work/crowd.expected"
+
 odd_buffers() {
     gcc -Wall -Wextra -Werror -std=c99 -O2 -Iinclude tests/c/odd_buffers.c "$(bash scripts/archive)" -o "$work/odd" && "$work/odd" | diff tests/c/odd_buffers.expected -
 }
-check "numbers 9 and 14, values written back, holds, many reads, tables of caps, odd buffers and odd records" odd_buffers
+check "numbers 9 and 14, values written back, holds, waits, many reads, tables of caps, odd buffers and odd records" odd_buffers
 check "the same, clean under valgrind" valgrind -q --error-exitcode=9 "$work/odd"
 
 finish

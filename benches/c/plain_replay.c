@@ -1,4 +1,4 @@
-/* The replay of document 01 and Paper 4 of document 02 in plain C over plain_store: the baseline of the proved replay's speed.
+/* The replay of document 01 and Papers 4 and 6 of document 02 in plain C over plain_store: the baseline of the proved replay's speed.
    With --batch it takes one framed input after the other (four little-endian bytes of length, then the bytes), and frames its outputs. */
 #include "plain_store.h"
 
@@ -106,7 +106,7 @@ static void put_answer(uint32_t ordinal, plain_answer answer)
     put_number(ordinal);
     put_char(' ');
     put_number(answer.number);
-    if (answer.number == 101) {
+    if (answer.number == 101 || answer.number == 104) {
         put_char(' ');
         put_number(answer.value);
     }

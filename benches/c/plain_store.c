@@ -1,4 +1,4 @@
-/* A plain C store with the steps of document 01 and Papers 1 to 5 of document 02. Every call judges its lent buffers and its session's record anew. */
+/* A plain C store with the steps of document 01 and Papers 1 to 6 of document 02. Every call judges its lent buffers and its session's record anew. */
 #include "plain_store.h"
 
 #include <string.h>
@@ -467,8 +467,10 @@ plain_answer plain_advance(const plain_lent *lent, plain_session *sessions, uint
             return answer(6);
         }
         lent->claimants[cell] = session;
-        if (lent->readers[cell] & ~(1u << session)) {
-            return answer(104);
+        uint32_t others = lent->readers[cell] & ~(1u << session);
+        if (others) {
+            plain_answer waiting = {104, (uint32_t)__builtin_popcount(others)};
+            return waiting;
         }
         lent->exclusives[cell] = 1;
     } else if (record->phase == PUBLISHING) {

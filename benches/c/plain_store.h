@@ -1,4 +1,4 @@
-/* A plain C store with the steps of document 01 and Papers 1 to 5 of document 02, on lent buffers: the baseline of the proved store's speed. */
+/* A plain C store with the steps of document 01 and Papers 1 to 6 of document 02, on lent buffers: the baseline of the proved store's speed. */
 #ifndef PLAIN_STORE_H
 #define PLAIN_STORE_H
 
@@ -25,7 +25,7 @@ typedef struct {
     uint16_t next;
 } plain_session;
 
-/* Document 01's number, and a value (figure) that is 0 except with 101. */
+/* Document 01's number, and a value (figure): what was read with 101, the number of other readers with 104, and else 0. */
 typedef struct {
     uint32_t number;
     uint32_t value;

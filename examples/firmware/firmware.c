@@ -1,7 +1,7 @@
 /* A start for a maker's firmware. First the fields: it writes a begin, two reads, a write and a seal into one buffer, reads them back and prints
  * them, and shows what each refusal looks like. Then the store: it carries out one transaction, call for call as fields bring them. Then a tablet's
- * round: many cells read in one call. Then two desks that move shares crosswise, and hold what they read. Last a maker with caps of his own. Build it
- * with
+ * round: many cells read in one call. Then two desks that move shares crosswise, and hold what they read. Then a kiosk that shows how many are in its
+ * way. Last a maker with caps of his own. Build it with
  *
  *   bash scripts/install PREFIX
  *   export PKG_CONFIG_PATH=PREFIX/lib/pkgconfig
@@ -156,14 +156,21 @@ static rukkanei_reply carry_out(const struct call *c) {
     return reply;
 }
 
+/* Prints a call with its answer: with 101 the value, with 104 the number of others in the way. */
+static void print_answer(const struct call *c, const rukkanei_reply *reply) {
+    printf("answer %" PRIu32, reply->number);
+    if (reply->number == RUKKANEI_VALUE)
+        printf(" value %" PRIu32, reply->value);
+    if (reply->number == RUKKANEI_WAITING)
+        printf(" others %" PRIu32, reply->value);
+    printf(": ");
+    print_call(c);
+}
+
 /* Carries out a call, prints it with its answer, and says if that is not the wanted one. */
 static int carried(struct call c, uint32_t wanted) {
     rukkanei_reply reply = carry_out(&c);
-    printf("answer %" PRIu32, reply.number);
-    if (reply.number == RUKKANEI_VALUE)
-        printf(" value %" PRIu32, reply.value);
-    printf(": ");
-    print_call(&c);
+    print_answer(&c, &reply);
     return expect(reply.number, wanted);
 }
 
@@ -246,6 +253,38 @@ static int move_shares(void) {
     wrong += carried((struct call){RUKKANEI_TAG_ADVANCE, 4, 0, 0, 0}, RUKKANEI_COMMITTED);
     for (size_t i = 0; i < 2; i++)
         printf("cell %zu: %" PRIu32 "\n", i, values[i]);
+    return wrong;
+}
+
+/* A kiosk advances. While it is told to wait, its screen shows how many are in the way. */
+static int kiosk_advances(uint8_t session, uint32_t wanted) {
+    struct call c = {RUKKANEI_TAG_ADVANCE, session, 0, 0, 0};
+    rukkanei_reply reply = carry_out(&c);
+    print_answer(&c, &reply);
+    if (reply.number == RUKKANEI_WAITING)
+        printf("screen: please wait, %" PRIu32 " in the way\n", reply.value);
+    return expect(reply.number, wanted);
+}
+
+/* Session 7, a kiosk, lends a bike of cell 3 while two tablets, sessions 8 and 9, have the cell on their rounds. It asks again until they are gone: one
+ * seals, the other gives up. */
+static int lend_bike(void) {
+    int wrong = 0;
+    for (uint8_t tablet = 8; tablet <= 9; tablet++) {
+        wrong += carried((struct call){RUKKANEI_TAG_BEGIN, tablet, 0, 0, 0}, RUKKANEI_DONE);
+        wrong += carried((struct call){RUKKANEI_TAG_READ, tablet, 0, 3, 0}, RUKKANEI_VALUE);
+    }
+    wrong += carried((struct call){RUKKANEI_TAG_BEGIN, 7, 0, 0, 0}, RUKKANEI_DONE);
+    wrong += carried((struct call){RUKKANEI_TAG_WRITE, 7, 0, 3, 7}, RUKKANEI_DONE);
+    wrong += carried((struct call){RUKKANEI_TAG_SEAL, 7, 0, 0, 0}, RUKKANEI_SEALED);
+    wrong += kiosk_advances(7, RUKKANEI_WAITING);
+    wrong += carried((struct call){RUKKANEI_TAG_SEAL, 8, 0, 0, 0}, RUKKANEI_COMMITTED);
+    wrong += kiosk_advances(7, RUKKANEI_WAITING);
+    wrong += carried((struct call){RUKKANEI_TAG_ABANDON, 9, 0, 0, 0}, RUKKANEI_DONE);
+    wrong += kiosk_advances(7, RUKKANEI_MOVED);
+    wrong += kiosk_advances(7, RUKKANEI_MOVED);
+    wrong += kiosk_advances(7, RUKKANEI_COMMITTED);
+    printf("cell 3: %" PRIu32 "\n", values[3]);
     return wrong;
 }
 
@@ -336,6 +375,7 @@ int main(void) {
     wrong += transact();
     wrong += draw_round();
     wrong += move_shares();
+    wrong += lend_bike();
     wrong += own_caps();
     return wrong != 0;
 }

@@ -160,9 +160,23 @@ fn value(random: &Random, class: u8, tame: bool) -> u32 {
     random.pick(&[0, cap, cap.wrapping_add(1), random.word()])
 }
 
+/// A reader set of any size: often an empty one or one of one session, of the other sizes each as often.
 fn readers(random: &Random) -> u16 {
-    let one = 1 << random.below(SESSIONS);
-    random.pick(&[0, 0, one, one | 1 << random.below(SESSIONS), random.word() as u16])
+    match random.weighted(&[40, 20, 20, 20]) {
+        0 => 0,
+        1 => set(random, 1),
+        2 => set(random, random.range(2, SESSIONS / 2)),
+        _ => !set(random, random.below(SESSIONS / 2)),
+    }
+}
+
+/// A set of so many sessions.
+fn set(random: &Random, size: usize) -> u16 {
+    let mut set = 0u16;
+    while set.count_ones() < size as u32 {
+        set |= 1 << random.below(SESSIONS);
+    }
+    set
 }
 
 fn claimant(random: &Random) -> u8 {

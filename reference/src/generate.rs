@@ -4,7 +4,7 @@
 use crate::field::{self, append, Field};
 use crate::random::Random;
 use crate::replay::{call_of, MAX_INPUT};
-use crate::store::{Buffers, IDLE, OUR_CAPS, RUNNING};
+use crate::store::{Buffers, IDLE, NOBODY, OUR_CAPS, PROMOTING, RUNNING, SESSIONS};
 
 /// How the calls of one file or run are chosen.
 pub struct Shape {
@@ -18,6 +18,15 @@ pub struct Shape {
     pub held: usize,
     /// Go by a table of the caller's own, with loads between; a replay has none.
     pub own_caps: bool,
+    /// Bring all sessions to one cell.
+    pub crowd: Option<Crowd>,
+}
+
+/// Again and again all sessions enter one cell, some of them seal, and then one advances and is told to wait.
+pub struct Crowd {
+    cell: u16,
+    /// How many seal before the first advances.
+    sealed: usize,
 }
 
 /// The input of one case.
@@ -72,13 +81,21 @@ pub fn set_up(random: &Random, bytes: &mut Vec<u8>) -> (Shape, Buffers) {
     };
     let buffers = starting_cells(random, n, bytes);
     let sweeping = n > 32 && random.percent(70);
+    let crowded = !sweeping && random.percent(25);
+    let sessions = match (sweeping, crowded) {
+        (true, _) => random.range(1, 3),
+        (_, true) => random.pick(&[SESSIONS, SESSIONS, random.range(3, SESSIONS)]),
+        _ => random.pick(&[1, 2, 2, 2, 3, 3, 4, 6, SESSIONS]),
+    };
+    let crowd = Crowd { cell: random.below(n.min(4)) as u16, sealed: random.pick(&[1, 1, sessions, random.range(1, sessions)]) };
     let shape = Shape {
-        sessions: if sweeping { random.range(1, 3) } else { random.pick(&[1, 2, 2, 2, 3, 3, 4, 6, 16]) },
+        sessions,
         hot: random.range(1, n.min(4)),
         sweeping,
         back: random.pick(&[2, 10, 40, 85]),
         held: random.pick(&[0, 10, 40, 80]),
         own_caps: false,
+        crowd: Some(crowd).filter(|_| crowded),
     };
     (shape, buffers)
 }
@@ -112,6 +129,11 @@ pub fn next_call(random: &Random, shape: &Shape, buffers: &Buffers) -> Field {
     if random.percent(1) {
         return any_call(random, buffers);
     }
+    if let Some(crowd) = shape.crowd.as_ref().filter(|_| random.percent(90)) {
+        if let Some(field) = crowding(random, shape, crowd, buffers) {
+            return field;
+        }
+    }
     let session = random.below(shape.sessions) as u8;
     let record = buffers.sessions[session as usize];
     let tags = [field::BEGIN, field::READ, field::WRITE, field::SEAL, field::ADVANCE, field::ABANDON];
@@ -122,11 +144,40 @@ pub fn next_call(random: &Random, shape: &Shape, buffers: &Buffers) -> Field {
         RUNNING => [2, 38, 36, 19, 2, 3],
         _ => [1, 2, 2, 1, 91, 3],
     };
-    let tag = match tags[random.weighted(&weights)] {
-        field::READ if random.percent(shape.held) => field::HOLD,
-        tag => tag,
-    };
+    let tag = tags[random.weighted(&weights)];
     let cell = choose_cell(random, shape, buffers, session);
+    chosen(random, shape, buffers, (tag, session, cell))
+}
+
+/// The call that brings a crowd nearer to its wait; none where its cell is claimed.
+fn crowding(random: &Random, shape: &Shape, crowd: &Crowd, buffers: &Buffers) -> Option<Field> {
+    let cell = crowd.cell;
+    if buffers.claimants[cell as usize] != NOBODY {
+        return None;
+    }
+    let in_phase = |phase: u8| -> Vec<u8> {
+        (0..shape.sessions as u8).filter(|session| buffers.sessions[*session as usize].phase == phase).collect()
+    };
+    let outside: Vec<u8> =
+        in_phase(RUNNING).into_iter().filter(|session| buffers.readers[cell as usize] >> session & 1 == 0).collect();
+    let (idle, running, promoting) = (in_phase(IDLE), in_phase(RUNNING), in_phase(PROMOTING));
+    // The more are to seal, the more of the reads hold: who only reads has left the cell with its seal.
+    let reads = if random.below(shape.sessions) < crowd.sealed - 1 { field::HOLD } else { field::READ };
+    let (tag, sessions) = match promoting.len() {
+        _ if !idle.is_empty() => (field::BEGIN, idle),
+        _ if !outside.is_empty() => (random.pick(&[reads, field::WRITE]), outside),
+        sealed if sealed < crowd.sealed => (field::SEAL, running),
+        _ => (field::ADVANCE, promoting),
+    };
+    Some(sessions).filter(|sessions| !sessions.is_empty()).map(|sessions| {
+        let session = random.pick(&sessions);
+        chosen(random, shape, buffers, (tag, session, cell))
+    })
+}
+
+/// The field of a call of a kind, some reads as holds, some writes with the value found.
+fn chosen(random: &Random, shape: &Shape, buffers: &Buffers, (tag, session, cell): (u8, u8, u16)) -> Field {
+    let tag = if tag == field::READ && random.percent(shape.held) { field::HOLD } else { tag };
     let value = if random.percent(shape.back) { buffers.found(session, cell as u32) } else { None };
     let value = value.unwrap_or_else(|| choose_value(random, buffers, cell));
     carried(tag, session, cell, value)

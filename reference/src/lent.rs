@@ -1,5 +1,5 @@
 //! What the caller lends, the session records, the calls and their answers: document 01, 'What the caller lends' and the numbers, and
-//! document 02, Papers 1, 4 and 5.
+//! document 02, Papers 1, 4, 5 and 6.
 
 /// The number of sessions.
 pub const SESSIONS: usize = 16;
@@ -64,7 +64,7 @@ pub struct Session {
     pub next: u16,
 }
 
-/// What a call returns: document 01's number, and a value (figure) that is 0 except with 101.
+/// What a call returns: document 01's number, and a value (figure): what was read with 101, the number of other readers with 104, and else 0.
 #[derive(Clone, Copy, Debug, PartialEq, Eq)]
 pub struct Answer {
     pub number: u32,

@@ -1,4 +1,4 @@
-//! Document 01 and Papers 1 to 5 of document 02 read a second time, from the papers alone: the store, the call fields and the replay, and the
+//! Document 01 and Papers 1 to 6 of document 02 read a second time, from the papers alone: the store, the call fields and the replay, and the
 //! random lists that compare them with other programs. Nothing here is shared with the proved crates.
 
 pub mod arbitrary;
@@ -19,6 +19,7 @@ pub mod replay;
 pub mod runs;
 pub mod store;
 pub mod tally;
+pub mod waits;
 pub mod within_caps;
 pub mod written_back;
 

@@ -1,7 +1,7 @@
-//! The replay: document 01, 'Call fields', from input bytes to the text it prints.
+//! The replay: document 01, 'Call fields', and document 02, Papers 4 and 6, from input bytes to the text it prints.
 
 use crate::field::{self, Field};
-use crate::store::{Answer, Buffers, Call, Table, VALUE};
+use crate::store::{Answer, Buffers, Call, Table, VALUE, WAITING};
 use std::fmt::Write;
 
 /// The most bytes of input.
@@ -79,7 +79,7 @@ pub fn starting_cells(input: &[u8]) -> (Buffers, usize) {
 }
 
 fn print_answer(out: &mut String, ordinal: u32, answer: Answer) {
-    if answer.number == VALUE {
+    if [VALUE, WAITING].contains(&answer.number) {
         writeln!(out, "{} {} {}", ordinal, answer.number, answer.value).unwrap();
     } else {
         writeln!(out, "{} {}", ordinal, answer.number).unwrap();

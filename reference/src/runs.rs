@@ -43,7 +43,7 @@ pub enum Next {
 pub fn start(random: &Random) -> (Shape, Buffers) {
     let (mut shape, mut buffers) = generate::set_up(random, &mut Vec::new());
     shape.own_caps = random.percent(50);
-    if shape.own_caps && random.percent(60) {
+    if shape.own_caps && shape.crowd.is_none() && random.percent(60) {
         shape.sessions = random.range(1, 2);
     }
     if shape.own_caps && random.percent(70) {

@@ -1,4 +1,4 @@
-//! The store's calls: document 01, 'The steps' and 'When a call is turned down', and document 02, Papers 1 to 5.
+//! The store's calls: document 01, 'The steps' and 'When a call is turned down', and document 02, Papers 1 to 6.
 //! Every call is total: it says what happens for any contents and any lengths of the lent buffers.
 
 use crate::caps::passes;
@@ -250,7 +250,7 @@ impl Buffers {
                 self.claimants[cell] = session;
                 let others = self.readers[cell] & !own_bit(session);
                 if others.count_ones() > 0 {
-                    return good(WAITING);
+                    return Answer { number: WAITING, value: others.count_ones() };
                 }
                 self.exclusives[cell] = 1;
             }

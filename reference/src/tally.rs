@@ -4,7 +4,8 @@ use crate::arbitrary::Numbers;
 use crate::field;
 use crate::holds;
 use crate::replay::{call_of, starting_cells};
-use crate::store::{Buffers, Call, Entry};
+use crate::store::{Answer, Buffers, Call, Entry};
+use crate::waits;
 use crate::written_back;
 use std::collections::BTreeMap;
 use std::fmt;
@@ -25,7 +26,7 @@ pub struct Tally {
     pub field: BTreeMap<u32, u64>,
     pub calls: BTreeMap<u32, u64>,
     pub events: BTreeMap<&'static str, u64>,
-    /// What the calls are of Papers 2 and 4.
+    /// What the calls are of Papers 2, 4 and 6.
     pub kinds: Numbers,
 }
 
@@ -46,7 +47,8 @@ impl Tally {
                 "c" => (),
                 _ => {
                     *self.calls.entry(number(1)).or_default() += 1;
-                    if let Some(event) = walk.step(number(1), &mut self.kinds) {
+                    let answer = Answer { number: number(1), value: number(2) };
+                    if let Some(event) = walk.step(answer, &mut self.kinds) {
                         *self.events.entry(event).or_default() += 1;
                     }
                 }
@@ -70,6 +72,7 @@ impl Tally {
         }
         missing.extend(self.kinds.missing(&written_back::REQUIRED));
         missing.extend(holds::missing_in_replays(&self.kinds));
+        missing.extend(waits::missing_in_lists(&self.kinds));
         missing
     }
 }
@@ -109,15 +112,16 @@ impl<'a> Walk<'a> {
         Walk { input, place, buffers }
     }
 
-    /// The event of the next call, given its answer; what it is of Papers 2 and 4 is counted.
-    fn step(&mut self, answer: u32, numbers: &mut Numbers) -> Option<&'static str> {
+    /// The event of the next call, given its answer; what it is of Papers 2, 4 and 6 is counted.
+    fn step(&mut self, answer: Answer, numbers: &mut Numbers) -> Option<&'static str> {
         let reading = field::read_field(self.input, self.place);
         self.place += reading.length;
         let call = call_of(&reading.field)?;
         for kind in [written_back::kinds(&self.buffers, call), holds::kinds(&self.buffers, call)].concat() {
-            numbers.add(kind, answer);
+            numbers.add(kind, answer.number);
         }
-        let event = self.event(call, answer);
+        waits::count(numbers, waits::kinds(&self.buffers, call), answer);
+        let event = self.event(call, answer.number);
         self.buffers.call(call);
         event
     }

@@ -26,7 +26,7 @@ fn of_two_that_hold_crosswise_one_is_rolled_back() {
     assert_eq!(buffers.logs[128..136], [0, 3, 3, 2, 1, 5, 6, 1]);
     run(&mut buffers, &[(seal(0), number(102)), (seal(1), number(102))]);
     assert_eq!(buffers.readers, [3, 3]);
-    run(&mut buffers, &[(advance(0), number(104)), (advance(1), number(6))]);
+    run(&mut buffers, &[(advance(0), waiting(1)), (advance(1), number(6))]);
     assert_eq!((&buffers.readers[..], &buffers.claimants[..]), (&[1, 1][..], &[0, 16][..]));
     for answer in [103, 103, 103, 103, 103, 105] {
         run(&mut buffers, &[(advance(0), number(answer))]);
@@ -38,7 +38,7 @@ fn of_two_that_hold_crosswise_one_is_rolled_back() {
 #[test]
 fn one_that_comes_after_finds_what_the_other_published() {
     let mut buffers = crosswise();
-    run(&mut buffers, &[(seal(0), number(102)), (seal(1), number(102)), (advance(1), number(104)), (advance(0), number(6))]);
+    run(&mut buffers, &[(seal(0), number(102)), (seal(1), number(102)), (advance(1), waiting(1)), (advance(0), number(6))]);
     for answer in [103, 103, 103, 103, 103, 105] {
         run(&mut buffers, &[(advance(1), number(answer))]);
     }
@@ -53,7 +53,7 @@ fn one_that_comes_after_finds_what_the_other_published() {
 fn a_held_cell_waits_for_its_readers_and_keeps_others_out() {
     let mut buffers = store_of(2);
     run(&mut buffers, &[(begin(0), number(100)), (begin(1), number(100)), (hold(0, 0), value(3)), (read(1, 0), value(3))]);
-    run(&mut buffers, &[(seal(0), number(102)), (advance(0), number(104)), (begin(2), number(100)), (read(2, 0), number(6))]);
+    run(&mut buffers, &[(seal(0), number(102)), (advance(0), waiting(1)), (begin(2), number(100)), (read(2, 0), number(6))]);
     run(&mut buffers, &[(begin(2), number(100)), (hold(2, 0), number(6)), (begin(2), number(100)), (write(2, 0, 3), number(6))]);
     run(&mut buffers, &[(seal(1), number(105)), (advance(0), number(103)), (advance(0), number(103)), (advance(0), number(105))]);
     run(&mut buffers, &[(begin(2), number(100)), (hold(2, 0), value(3))]);
@@ -97,7 +97,7 @@ fn a_held_cell_written_back_still_counts_as_written() {
             &mut buffers,
             &[(seal(0), number(102)), (begin(1), number(100)), (write(1, 0, 7), number(100)), (seal(1), number(102))],
         );
-        run(&mut buffers, &[(advance(1), number(104)), (advance(0), number(6))]);
+        run(&mut buffers, &[(advance(1), waiting(1)), (advance(0), number(6))]);
     }
 }
 

@@ -186,7 +186,7 @@ fn a_value_that_many_reads_got_is_kept_until_the_seal() {
     let mut buffers = store_of(2);
     run(&mut buffers, &[(begin(0), number(100)), (begin(1), number(100))]);
     assert_eq!(read_many(&mut buffers, 0, &[0, 1], 2), (101, 2, vec![3, 3]));
-    run(&mut buffers, &[(write(1, 1, 5), number(100)), (seal(1), number(102)), (advance(1), number(104))]);
+    run(&mut buffers, &[(write(1, 1, 5), number(100)), (seal(1), number(102)), (advance(1), waiting(1))]);
     assert_eq!(read_many(&mut buffers, 0, &[1, 0], 2), (101, 2, vec![3, 3]));
     run(&mut buffers, &[(seal(0), number(105)), (advance(1), number(103)), (advance(1), number(103)), (advance(1), number(105))]);
     assert_eq!(buffers.values, [3, 5]);

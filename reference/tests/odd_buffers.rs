@@ -210,16 +210,17 @@ fn a_class_above_15_does_not_hinder_a_read_or_a_hold() {
 
 #[test]
 fn promotion_leaves_the_own_bit_aside() {
-    for (readers, answer) in [(0, 103), (8, 103), (1, 104), (9, 104), (0x8000, 104)] {
+    let moved = number(103);
+    for (readers, answer) in [(0, moved), (8, moved), (1, waiting(1)), (9, waiting(1)), (0x8000, waiting(1))] {
         for claimant in [16, 3] {
             let mut buffers = entered(2, &[[0, 3, 4, 1]]);
             buffers.readers[0] = readers;
             buffers.claimants[0] = claimant;
-            run(&mut buffers, &[(advance(3), number(answer))]);
+            run(&mut buffers, &[(advance(3), answer)]);
             assert_eq!(buffers.claimants[0], 3);
-            assert_eq!(buffers.exclusives[0], if answer == 103 { 1 } else { 0 });
+            assert_eq!(buffers.exclusives[0], if answer == moved { 1 } else { 0 });
             assert_eq!(buffers.readers[0], readers);
-            assert_eq!(buffers.sessions[3].phase, if answer == 103 { 3 } else { 2 });
+            assert_eq!(buffers.sessions[3].phase, if answer == moved { 3 } else { 2 });
         }
     }
 }

@@ -1,11 +1,12 @@
-//! Document 02, Papers 4 and 5, and document 01, 'What demand 3 counts', by running: over random runs with many reads and loads among the calls each
+//! Document 02, Papers 4 to 6, and document 01, 'What demand 3 counts', by running: over random runs with many reads and loads among the calls each
 //! committed transaction read its snapshot, no span was cut, and where every committed one that wrote or held also wrote or held what it read, all are
-//! as if run one after the other. Every value is within its cap in the table in force.
+//! as if run one after the other. Every value is within its cap in the table in force, and every wait carries the number of the sessions in the way.
 
 use reference::generate::Shape;
 use reference::random::Random;
 use reference::runs::{self, Next};
 use reference::store::{Answer, Buffers, Call, ManyAnswer, ManyReads, PUBLISHING, SESSIONS};
+use reference::waits::miscounted;
 use reference::within_caps::{above_its_cap, got, is_within};
 use std::collections::{BTreeMap, BTreeSet};
 
@@ -60,6 +61,8 @@ struct History {
     open: [Option<usize>; SESSIONS],
     /// The loads answered 100. They are of no session, and have a place.
     loads: usize,
+    /// The waits for two others or more.
+    waits_for_several: usize,
 }
 
 impl History {
@@ -143,6 +146,8 @@ fn random_run(random: &Random, covering: bool) -> (Vec<u32>, History, Buffers) {
                     got(call, answer).map_or(true, |(cell, value)| is_within(&buffers, cell, value)),
                     "a value above its cap"
                 );
+                assert_eq!(miscounted(&buffers, call, answer), None, "the call at {}", place);
+                history.waits_for_several += (answer.number == 104 && answer.value > 1) as usize;
             }
             Next::Load(new_caps) => history.loads += (buffers.load_caps(&new_caps).number == 100) as usize,
             Next::Many(mut many) => {
@@ -206,6 +211,7 @@ fn committed_transactions_that_hold_what_they_read_run_one_after_the_other() {
     let (mut covered, mut skewed, mut held, mut settled) = (0, 0, 0, 0);
     let (mut many_covered, mut many_skewed) = (0, 0);
     let (mut loads, mut loaded_and_covered, mut loaded_and_skewed) = (0, 0, 0);
+    let mut waits_for_several = 0;
     for case in 0..RUNS {
         let random = Random::for_case(SEED, case);
         let covering = case % 2 == 0;
@@ -217,6 +223,7 @@ fn committed_transactions_that_hold_what_they_read_run_one_after_the_other() {
         let uncovered = count(|transaction| !transaction.covers_its_reads());
         assert!(!covering || uncovered == 0, "seed {}, case {}: who reads by holds alone covers its reads", SEED, case);
         loads += history.loads;
+        waits_for_several += history.waits_for_several;
         if uncovered == 0 {
             assert!(same, "seed {}, case {}", SEED, case);
             covered += 1;
@@ -236,7 +243,9 @@ fn committed_transactions_that_hold_what_they_read_run_one_after_the_other() {
     println!("seed {}: {} runs covered, {} skewed, {} settled", SEED, covered, skewed, settled);
     println!("commits covered that hold {}, with many reads {}; skewed with many reads {}", held, many_covered, many_skewed);
     println!("loads {}; runs with loads: {} covered, {} skewed", loads, loaded_and_covered, loaded_and_skewed);
+    println!("waits for several {}", waits_for_several);
     assert!(loads >= 10_000 && loaded_and_covered >= 2_000 && loaded_and_skewed >= 20);
     assert!(covered >= 10_000 && held >= 10_000 && skewed >= 100 && settled >= 10_000);
     assert!(many_covered >= 1_000 && many_skewed >= 100);
+    assert!(waits_for_several >= 10_000);
 }

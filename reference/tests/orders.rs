@@ -16,7 +16,7 @@ fn up_to_line_nine() -> Vec<(Call, Answer)> {
         (write(1, 0, 2), number(100)),
         (seal(0), number(102)),
         (seal(1), number(102)),
-        (advance(0), number(104)),
+        (advance(0), waiting(1)),
     ]
 }
 
@@ -74,7 +74,7 @@ fn skew_with_both_advancing_in_turns_commits_both() {
 #[test]
 fn skew_with_one_not_sealed_waits() {
     let mut buffers = skewed();
-    run(&mut buffers, &[(seal(0), number(102)), (advance(0), number(104))]);
+    run(&mut buffers, &[(seal(0), number(102)), (advance(0), waiting(1))]);
     assert_eq!(buffers.claimants, [0, 16]);
     assert_eq!(buffers.exclusives, [0, 0]);
 }
@@ -176,7 +176,7 @@ fn lost_updates_do_not_happen() {
     run(&mut buffers, &[(begin(0), number(100)), (begin(1), number(100)), (read(0, 0), value(10)), (read(1, 0), value(10))]);
     run(
         &mut buffers,
-        &[(write(0, 0, 11), number(100)), (seal(0), number(102)), (advance(0), number(104)), (advance(0), number(104))],
+        &[(write(0, 0, 11), number(100)), (seal(0), number(102)), (advance(0), waiting(1)), (advance(0), waiting(1))],
     );
     run(
         &mut buffers,

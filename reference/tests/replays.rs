@@ -29,7 +29,7 @@ fn the_listing() {
     fields.extend([call(3, 0, 0, 4), call(3, 1, 0, 2), call(4, 0, 0, 0), call(4, 1, 0, 0)]);
     fields.extend([call(5, 0, 0, 0), call(5, 1, 0, 0), call(5, 0, 0, 0), call(5, 0, 0, 0), call(5, 0, 0, 0)]);
     let expected =
-        "1 100\n2 100\n3 101 3\n4 101 3\n5 100\n6 100\n7 102\n8 102\n9 104\n10 6\n11 103\n12 103\n13 105\nc 0 4\nc 1 5\n";
+        "1 100\n2 100\n3 101 3\n4 101 3\n5 100\n6 100\n7 102\n8 102\n9 104 1\n10 6\n11 103\n12 103\n13 105\nc 0 4\nc 1 5\n";
     assert_eq!(text(&bytes(&fields)), expected);
 }
 

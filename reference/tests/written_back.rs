@@ -49,7 +49,7 @@ fn the_value_found_is_written_into_a_new_cell_and_counts_for_nothing() {
     assert_eq!((buffers.readers[0], &buffers.logs[..4]), (1, &[0, 3, 3, 1][..]));
     run(
         &mut buffers,
-        &[(begin(1), number(100)), (write(1, 0, 5), number(100)), (seal(1), number(102)), (advance(1), number(104))],
+        &[(begin(1), number(100)), (write(1, 0, 5), number(100)), (seal(1), number(102)), (advance(1), waiting(1))],
     );
     run(&mut buffers, &[(seal(0), number(105)), (advance(1), number(103)), (advance(1), number(103)), (advance(1), number(105))]);
     assert_eq!(buffers.values, [5]);
@@ -62,7 +62,7 @@ fn of_two_written_cells_the_changed_one_alone_is_advanced() {
         run(&mut buffers, &[(begin(0), number(100)), (write(0, back, 3), number(100)), (write(0, changed, 4), number(100))]);
         run(
             &mut buffers,
-            &[(begin(1), number(100)), (write(1, back, 7), number(100)), (seal(1), number(102)), (advance(1), number(104))],
+            &[(begin(1), number(100)), (write(1, back, 7), number(100)), (seal(1), number(102)), (advance(1), waiting(1))],
         );
         run(&mut buffers, &[(seal(0), number(102))]);
         assert_eq!(buffers.readers[back as usize], 2);

@@ -1,7 +1,7 @@
 /* Calls on buffers that no run leaves, through the calls for C: numbers 9 and 14, duplicate entries, any fourth word, any claimant byte, any record,
-   values written back, holds; many reads, numbers 15 and 13 among them; and tables of caps, numbers 16 and 17 among them. Two cells of class 2, values 3
-   and 5, where a row has none of its own; the session is passed the record; session 0's log begins with the words. Prints a line for each row, with the
-   record that came back. */
+   values written back, holds, waits; many reads, numbers 15 and 13 among them; and tables of caps, numbers 16 and 17 among them. Two cells of class 2,
+   values 3 and 5, where a row has none of its own; the session is passed the record; session 0's log begins with the words. Prints a line for each row,
+   with the record that came back. */
 #include "rukkanei.h"
 
 #include <stdio.h>
@@ -100,6 +100,19 @@ static const row rows[] = {
     {"nothing but a held second entry", 4, 2, 0, {0, 4, 4, 0, 0, 4, 4, 2}, {1, 0}, {0, 16}, 'a', 0, 0, 0},
     {"nothing but a bit above the marks", 3, 1, 0, {0, 4, 6, 4}, {1, 0}, {0, 16}, 'a', 0, 0, 0},
     {"a held cell abandoned", 2, 1, 0, {0, 4, 4, 2}, {3, 0}, {0, 16}, 'n', 0, 0, 0},
+    {"two others", 2, 1, 0, {0, 3, 4, 1}, {7, 0}, {16, 16}, 'a', 0, 0, 0},
+    {"two others, the own bit missing", 2, 1, 0, {0, 3, 4, 1}, {6, 0}, {16, 16}, 'a', 0, 0, 0},
+    {"fifteen others", 2, 1, 0, {0, 3, 4, 1}, {65535, 0}, {16, 16}, 'a', 0, 0, 0},
+    {"fifteen others, the own bit missing", 2, 1, 0, {0, 3, 4, 1}, {65534, 0}, {16, 16}, 'a', 0, 0, 0},
+    {"session 15 alone, the own bit missing", 2, 1, 0, {0, 3, 4, 1}, {32768, 0}, {16, 16}, 'a', 0, 0, 0},
+    {"eight others above session 7", 2, 1, 0, {0, 3, 4, 1}, {65281, 0}, {16, 16}, 'a', 0, 0, 0},
+    {"four others of a held cell", 2, 1, 0, {0, 4, 4, 2}, {31, 0}, {16, 16}, 'a', 0, 0, 0},
+    {"three others and an own claim", 2, 1, 0, {0, 3, 4, 1}, {15, 0}, {0, 16}, 'a', 0, 0, 0},
+    {"three others and another's claim", 2, 1, 0, {0, 3, 4, 1}, {15, 0}, {3, 16}, 'a', 0, 0, 0},
+    {"others of the second cell", 2, 2, 1, {0, 3, 4, 1, 1, 5, 6, 1}, {65535, 13}, {0, 16}, 'a', 0, 0, 0},
+    {"others of the first cell alone", 2, 2, 1, {0, 3, 4, 1, 1, 5, 6, 1}, {65535, 1}, {0, 16}, 'a', 0, 0, 0},
+    {"fifteen others while it publishes", 3, 1, 0, {0, 3, 4, 1}, {65535, 0}, {0, 16}, 'a', 0, 0, 0},
+    {"fifteen others while it releases", 4, 1, 0, {0, 3, 4, 1}, {65535, 0}, {0, 16}, 'a', 0, 0, 0},
 };
 
 /* Many reads: the list, and how long the target is. */

@@ -1,5 +1,6 @@
 #!/usr/bin/env python3
-"""Shows that the comparison has teeth: edits the plain C store into wrong ones, and asks that each is told from the second program.
+"""Shows that the comparison has teeth: edits the plain C store and the plain C replay into wrong ones, and asks that each is told from the second
+program.
 
 Usage: wrong_stores.py COMPARE TARGET [SEED]. COMPARE is the comparison linked with libplain.so, TARGET a directory to build in."""
 
@@ -10,6 +11,7 @@ import sys
 
 ROOT = os.path.dirname(os.path.dirname(os.path.dirname(os.path.abspath(__file__))))
 STORE = os.path.join(ROOT, "benches/c/plain_store.c")
+REPLAYER = os.path.join(ROOT, "benches/c/plain_replay.c")
 FLAGS = ["-O1", "-std=c99", "-fPIC", "-I" + os.path.join(ROOT, "benches/c"), "-I" + os.path.join(ROOT, "tools/src")]
 
 CRASHES = (-signal.SIGSEGV, -signal.SIGBUS, -signal.SIGABRT)
@@ -25,6 +27,14 @@ PUBLISHES = "    return (entry[MARKS] & (HELD | DIRTY * changed)) != 0;\n"
 WRITTEN = "    entry[MARKS] = DIRTY | (entry[MARKS] & HELD);\n"
 HOLD = "    plain_answer found = read_entry(lent, sessions, session, cell, &entry);\n    if (found.number == 101) {\n"
 MARKED = "        entry[MARKS] = HELD | (entry[MARKS] & DIRTY);\n"
+
+# What a promotion waits for, and what it answers then; the number of the others.
+OTHERS = "        uint32_t others = lent->readers[cell] & ~(1u << session);\n"
+NUMBER = "(uint32_t)__builtin_popcount(others)"
+WAITS = "            plain_answer waiting = {104, " + NUMBER + "};\n            return waiting;\n"
+WAIT = "        if (others) {\n" + WAITS + "        }\n"
+CLAIM = "        lent->claimants[cell] = session;\n"
+CLAIMED = "            roll_back(lent, record, session);\n            return answer(6);\n        }\n" + CLAIM
 
 # What a table, a set-up by one and a load are judged by, in the order of the tests.
 RISES = "        rises &= caps[k - 1] < caps[k];\n"
@@ -58,7 +68,7 @@ EDITS = [
     ("6 to every new read", REPLAY,
      "    if (lent->claimants[cell] != PLAIN_NOBODY) {\n", "    if (1) {\n"),
     ("104 before looking at the readers", REPLAY,
-     "        if (lent->readers[cell] & ~(1u << session)) {", "        if (claimant == PLAIN_NOBODY || lent->readers[cell] & ~(1u << session)) {"),
+     "        if (others) {", "        if (claimant == PLAIN_NOBODY || others) {"),
     ("everything published at the first promotion, and phase 3 a pretence", REPLAY,
      "        lent->exclusives[cell] = 1;\n    } else if (record->phase == PUBLISHING) {\n        lent->values[cell] = entry[CURRENT_VALUE];\n",
      "        lent->exclusives[cell] = 1;\n"
@@ -80,11 +90,9 @@ EDITS = [
     ("101 with the same value each time", REPLAY,
      "plain_answer found = {101, (*entry)[CURRENT_VALUE]};", "plain_answer found = {101, 3};"),
     ("a claimant waited for and not met with 6", REPLAY,
-     "            roll_back(lent, record, session);\n            return answer(6);\n        }\n        lent->claimants",
-     "            return answer(104);\n        }\n        lent->claimants"),
+     CLAIMED + OTHERS, OTHERS + "            plain_answer waiting = {104, " + NUMBER + "};\n            return waiting;\n        }\n" + CLAIM + OTHERS),
     ("a wait without a claim", REPLAY,
-     "        lent->claimants[cell] = session;\n        if (lent->readers[cell] & ~(1u << session)) {\n            return answer(104);\n        }\n",
-     "        if (lent->readers[cell] & ~(1u << session)) {\n            return answer(104);\n        }\n        lent->claimants[cell] = session;\n"),
+     CLAIM + OTHERS + WAIT, OTHERS + WAIT + CLAIM),
     ("a claim kept over a roll-back", REPLAY,
      "            lent->claimants[cell] = PLAIN_NOBODY;\n            lent->exclusives[cell] = 0;\n        }\n    }\n    go_idle",
      "            lent->exclusives[cell] = 0;\n        }\n    }\n    go_idle"),
@@ -103,7 +111,7 @@ EDITS = [
     ("the fourth word judged whole", BUFFERS,
      PUBLISHES, "    return (entry[MARKS] & HELD) || (entry[MARKS] && changed);\n"),
     ("the own bit counted among the readers", BUFFERS,
-     "        if (lent->readers[cell] & ~(1u << session)) {",
+     "        if (others) {",
      "        uint32_t all = lent->readers[cell];\n        if (all & (all - 1)) {"),
     ("claimants above 16 taken for nobody", BUFFERS,
      "        if (claimant != PLAIN_NOBODY && claimant != session) {", "        if (claimant < PLAIN_NOBODY && claimant != session) {"),
@@ -347,7 +355,7 @@ EDITS = [
     ("hold: stored with the value found, written or not", REPLAY,
      "        lent->values[cell] = entry[CURRENT_VALUE];\n", "        lent->values[cell] = entry[MARKS] & HELD ? entry[SNAPSHOT_VALUE] : entry[CURRENT_VALUE];\n"),
     ("hold: promoted past other readers where unchanged", REPLAY,
-     "        if (lent->readers[cell] & ~(1u << session)) {", "        if (entry[CURRENT_VALUE] != entry[SNAPSHOT_VALUE] && lent->readers[cell] & ~(1u << session)) {"),
+     "        if (others) {", "        if (entry[CURRENT_VALUE] != entry[SNAPSHOT_VALUE] && others) {"),
     ("hold: kept over a roll-back", REPLAY,
      "        leave(lent, session, cell);\n        if (lent->claimants[cell] == session) {\n",
      "        if (log[PLAIN_ENTRY_WORDS * i + MARKS] & HELD) {\n            continue;\n        }\n"
@@ -656,14 +664,170 @@ EDITS = [
 ]
 
 
+def counted(test):
+    """An edit after which 104 carries the number of sessions that pass a test, of `other`, `phase` and `entry`, which is NULL where the cell is not in
+    the log."""
+    loop = ("        uint32_t number = 0;\n"
+            "        for (uint8_t other = 0; other < PLAIN_SESSIONS; other++) {\n"
+            "            uint8_t phase = sessions[other].phase;\n"
+            "            uint32_t count = sessions[other].count < PLAIN_MAX_ENTRIES ? sessions[other].count : PLAIN_MAX_ENTRIES;\n"
+            "            uint32_t i = find(entry_at(lent, other, 0), count, cell);\n"
+            "            const uint32_t *entry = i < count ? entry_at(lent, other, i) : NULL;\n"
+            "            number += " + test + ";\n"
+            "            (void)entry, (void)phase;\n"
+            "        }\n")
+    return OTHERS + WAIT, OTHERS + loop + WAIT.replace(NUMBER, "number")
+
+
+def numbered(number):
+    """An edit after which 104 carries another number."""
+    return NUMBER, number
+
+
+# The wrong stores of waits and of the number that they come with.
+EDITS += [
+    ("wait: no number", REPLAY, *numbered("0")),
+    ("wait: 1 each time", REPLAY, *numbered("1")),
+    ("wait: one more than there are", REPLAY, *numbered(NUMBER + " + 1")),
+    ("wait: one less than there are", REPLAY, *numbered(NUMBER + " - 1")),
+    ("wait: the own bit counted where it is in the set", REPLAY, *numbered("(uint32_t)__builtin_popcount(lent->readers[cell])")),
+    ("wait: one less than the set has, though the own bit is missing", BUFFERS, *numbered("(uint32_t)__builtin_popcount(lent->readers[cell]) - 1")),
+    ("wait: the own bit counted where it is missing", BUFFERS, *numbered(NUMBER + " + !(lent->readers[cell] >> session & 1)")),
+    ("wait: the set in place of its size", REPLAY, *numbered("others")),
+    ("wait: the lower eight bits counted", REPLAY, *numbered(NUMBER.replace("others", "others & 255"))),
+    ("wait: the upper eight bits counted", REPLAY, *numbered(NUMBER.replace("others", "others >> 8"))),
+    ("wait: session 0 not counted", REPLAY, *numbered(NUMBER.replace("others", "others >> 1"))),
+    ("wait: session 15 not counted", REPLAY, *numbered(NUMBER.replace("others", "others & 32767"))),
+    ("wait: session 15 counted as sixteen", REPLAY, *numbered(NUMBER.replace("others", "(uint32_t)(int16_t)others"))),
+    ("wait: higher sessions alone counted", REPLAY, *numbered(NUMBER.replace("others", "others >> session"))),
+    ("wait: lower sessions alone counted", REPLAY, *numbered(NUMBER.replace("others", "others & ((1u << session) - 1)"))),
+    ("wait: the bit of session modulo 8 left aside", REPLAY, *numbered("(uint32_t)__builtin_popcount(lent->readers[cell] & ~(1u << session % 8))")),
+    ("wait: the bit of the claimant before left aside", REPLAY, *numbered("(uint32_t)__builtin_popcount(lent->readers[cell] & ~(1u << claimant))")),
+    ("wait: the bit after the own one left aside", REPLAY, *numbered("(uint32_t)__builtin_popcount(lent->readers[cell] & ~(2u << session))")),
+    ("wait: the lowest other session", REPLAY, *numbered("(uint32_t)__builtin_ctz(others)")),
+    ("wait: the highest other session", REPLAY, *numbered("31 - (uint32_t)__builtin_clz(others)")),
+    ("wait: the own session", REPLAY, *numbered("session")),
+    ("wait: the claimant before", REPLAY, *numbered("claimant")),
+    ("wait: the cell", REPLAY, *numbered("cell")),
+    ("wait: the entries of the own log", REPLAY, *numbered("record->count")),
+    ("wait: the value of the cell", REPLAY, *numbered("lent->values[cell]")),
+    ("wait: the value to publish", REPLAY, *numbered("entry[CURRENT_VALUE]")),
+    ("wait: the readers of cell 0", REPLAY, *numbered("(uint32_t)__builtin_popcount(lent->readers[0] & ~(1u << session))")),
+    ("wait: the readers of the next cell", REPLAY,
+     *numbered("(uint32_t)__builtin_popcount(lent->readers[(cell + 1) % lent->readers_len] & ~(1u << session))")),
+    ("wait: the readers of the cell at next", REPLAY,
+     *numbered("(uint32_t)__builtin_popcount(lent->readers[record->next] & ~(1u << session))")),
+    ("wait: the readers of any cell", REPLAY,
+     OTHERS, OTHERS + "        uint32_t any = 0;\n        for (size_t i = 0; i < lent->readers_len; i++) {\n            any |= lent->readers[i];\n        }\n",
+     *numbered("(uint32_t)__builtin_popcount(any & ~(1u << session))")),
+    ("wait: 15 less the number", REPLAY, *numbered("15 - " + NUMBER)),
+    ("wait: three bits of the number", REPLAY, *numbered(NUMBER + " & 7")),
+    ("wait: 14 at most", REPLAY, *numbered(NUMBER + " < 14 ? " + NUMBER + " : 14")),
+    ("wait: 7 at most", REPLAY, *numbered(NUMBER + " < 7 ? " + NUMBER + " : 7")),
+    ("wait: a number with the first answer alone", REPLAY, *numbered("claimant == session ? 0 : " + NUMBER)),
+    ("wait: no number with the first answer", REPLAY, *numbered("claimant == session ? " + NUMBER + " : 0")),
+    ("wait: past a promoted cell no number", REPLAY, *numbered("record->next ? 0 : " + NUMBER)),
+    ("wait: running sessions alone counted", REPLAY, *counted("(others >> other & 1) && phase == RUNNING")),
+    ("wait: promoting sessions alone counted", REPLAY, *counted("(others >> other & 1) && phase == PROMOTING")),
+    ("wait: all other sessions counted that are not idle", REPLAY, *counted("other != session && phase != IDLE")),
+    ("wait: all other sessions counted", REPLAY, *counted("other != session")),
+    ("wait: all logs with the cell counted", REPLAY, *counted("other != session && phase != IDLE && entry")),
+    ("wait: promoting sessions counted though they have let the cell go", REPLAY,
+     *counted("other != session && (phase == RUNNING || phase == PROMOTING) && entry")),
+    ("wait: counted by the logs, as a list of calls leaves them", BUFFERS,
+     *counted("other != session && entry && (phase == RUNNING || (phase == PROMOTING && publishes(entry)))")),
+    ("wait: idle sessions in the set not counted", BUFFERS, *counted("(others >> other & 1) && phase != IDLE")),
+    ("wait: publishing and releasing sessions in the set not counted", BUFFERS, *counted("(others >> other & 1) && phase != PUBLISHING && phase != RELEASING")),
+    ("wait: sessions in the set without the cell in their log not counted", BUFFERS, *counted("(others >> other & 1) && entry")),
+    ("wait: one other taken for none", REPLAY,
+     "        if (others) {\n", "        if (others & (others - 1)) {\n"),
+    ("wait: none where all others promote", REPLAY,
+     "        if (others) {\n",
+     "        int runs = 0;\n        for (int s = 0; s < PLAIN_SESSIONS; s++) {\n            runs |= (others >> s & 1) && sessions[s].phase != PROMOTING;\n        }\n"
+     "        if (runs) {\n"),
+    ("wait: claimed where one other is left", REPLAY,
+     CLAIM + OTHERS, OTHERS + "        if (!(others & (others - 1))) {\n            lent->claimants[cell] = session;\n        }\n"),
+    ("wait: the set emptied as it is counted", REPLAY,
+     WAITS, "            lent->readers[cell] = 0;\n" + WAITS),
+    ("wait: the own bit put in the set", BUFFERS,
+     WAITS, "            lent->readers[cell] |= (uint16_t)(1u << session);\n" + WAITS),
+    ("wait: the own bit taken out of the set", RUN,
+     WAITS, "            leave(lent, session, cell);\n" + WAITS),
+    ("wait: the mark set", RUN,
+     WAITS, "            lent->exclusives[cell] = 1;\n" + WAITS),
+    ("wait: the number kept in the mark", RUN,
+     WAITS, "            lent->exclusives[cell] = (uint8_t)__builtin_popcount(others);\n" + WAITS),
+    ("wait: next put past the cell", REPLAY,
+     WAITS, "            record->next = (uint16_t)(cell + 1);\n" + WAITS),
+    ("wait: next put on the cell", RUN,
+     WAITS, "            record->next = (uint16_t)cell;\n" + WAITS),
+    ("wait: a number with 103 too, between two cells", RUN,
+     "        record->next = (uint16_t)(cell + 1);\n        return answer(103);\n",
+     "        record->next = (uint16_t)(cell + 1);\n        plain_answer moved = {103, (uint32_t)__builtin_popcount(lent->readers[cell])};\n        return moved;\n"),
+    ("wait: a number with 103 too, after the last cell", RUN,
+     "    record->next = 0;\n    return answer(103);\n",
+     "    record->next = 0;\n    plain_answer moved = {103, (uint32_t)__builtin_popcount(lent->readers[cell])};\n    return moved;\n"),
+    ("wait: a number with 6 too", RUN,
+     CLAIMED, CLAIMED.replace("            return answer(6);\n",
+                              "            plain_answer told = {6, (uint32_t)__builtin_popcount(lent->readers[cell])};\n            return told;\n")),
+    ("wait: the claimant with 6", RUN,
+     CLAIMED, CLAIMED.replace("            return answer(6);\n", "            plain_answer told = {6, claimant};\n            return told;\n")),
+    ("wait: a number with 102 too", RUN,
+     "    record->next = 0;\n    return answer(102);\n", "    record->next = 0;\n    plain_answer told = {102, record->count};\n    return told;\n"),
+    ("wait: a number with 105 too", RUN,
+     "        go_idle(record);\n        return answer(105);\n    }\n    record->phase++;\n",
+     "        go_idle(record);\n        plain_answer told = {105, (uint32_t)__builtin_popcount(lent->readers[cell] | 1u << session)};\n        return told;\n    }\n"
+     "    record->phase++;\n"),
+]
+
+# The line of an answer, and the wrong replays: each its name and the edit of the plain C replay. They must show on replays.
+LINE = "    if (answer.number == 101 || answer.number == 104) {\n        put_char(' ');\n        put_number(answer.value);\n"
+REPLAY_EDITS = [
+    ("replay: no number after 104", LINE, LINE.replace(" || answer.number == 104", "")),
+    ("replay: no value after 101", LINE, LINE.replace("answer.number == 101 || ", "")),
+    ("replay: a number after 103 too", LINE, LINE.replace("|| answer.number == 104", "|| answer.number == 103 || answer.number == 104")),
+    ("replay: a number after 105 too", LINE, LINE.replace("|| answer.number == 104", "|| answer.number >= 104")),
+    ("replay: a number after 6 too", LINE, LINE.replace("|| answer.number == 104", "|| answer.number == 6 || answer.number == 104")),
+    ("replay: no number where it is 1", LINE, LINE.replace("|| answer.number == 104", "|| (answer.number == 104 && answer.value > 1)")),
+    ("replay: a number from 2 on as 1", LINE, LINE.replace("(answer.value)", "(answer.number == 104 ? 1 : answer.value)")),
+    ("replay: one digit of the number", LINE, LINE.replace("(answer.value)", "(answer.number == 104 ? answer.value % 10 : answer.value)")),
+    ("replay: the number in place of the answer", LINE + "    }\n", "    if (answer.number == 101) {\n        put_char(' ');\n        put_number(answer.value);\n    }\n",
+     "    put_number(answer.number);\n", "    put_number(answer.number == 104 ? answer.value : answer.number);\n"),
+    ("replay: the last value read after 104", LINE,
+     "    static uint32_t last;\n    last = answer.number == 101 ? answer.value : last;\n" + LINE.replace("(answer.value)", "(last)")),
+    ("replay: two spaces before the number", LINE, LINE.replace("put_char(' ');\n", "put_text(answer.number == 104 ? \"  \" : \" \");\n")),
+    ("replay: a space after 104 and no number", LINE, LINE.replace("        put_number(answer.value);\n", "        if (answer.number == 101) {\n            put_number(answer.value);\n        }\n")),
+]
+
+
 def compiled(arguments):
     subprocess.run(["gcc"] + FLAGS + arguments, check=True)
 
 
-def build(target, source):
-    """The wrong store as a replay program and as a shared library."""
-    compiled([source, os.path.join(ROOT, "benches/c/plain_replay.c"), "-o", os.path.join(target, "replay")])
+def edited(name, path, pairs, target):
+    """A copy of a source file with an edit, each of whose old texts stands there once; and its path."""
+    with open(path, encoding="ascii") as file:
+        wrong = file.read()
+    for old, new in zip(pairs[::2], pairs[1::2]):
+        if wrong.count(old) != 1:
+            sys.exit(f"the edit '{name}' fits {wrong.count(old)} places, not one")
+        wrong = wrong.replace(old, new)
+    copy = os.path.join(target, os.path.basename(path))
+    with open(copy, "w", encoding="ascii") as file:
+        file.write(wrong)
+    return copy
+
+
+def build_store(target, source):
+    """A wrong store as a shared library."""
     compiled(["-shared", source, os.path.join(ROOT, "tests/plain_fields.c"), "-o", os.path.join(target, "libplain.so")])
+
+
+def build_replay(target, store, replayer):
+    """A store behind a replay as a program; and its path."""
+    program = os.path.join(target, "replay")
+    compiled([store, replayer, "-o", program])
+    return program
 
 
 def tells(command, environment=None):
@@ -677,30 +841,28 @@ def main():
     seed = sys.argv[3] if len(sys.argv) > 3 else "1"
     print(f"seed {seed}")
     os.makedirs(target, exist_ok=True)
-    with open(STORE, encoding="ascii") as file:
-        right = file.read()
     environment = dict(os.environ, LD_LIBRARY_PATH=target)
-    source = os.path.join(target, "store.c")
+    calls = [compare, "calls", "--seed", seed, "--count", "100000"]
+    runs = [compare, "runs", "--seed", seed, "--count", "2000"]
+    replays = [compare, "replays", "--mode", "batch", "--seed", seed, "--count", "3000", "--program"]
     passed = failed = 0
+
+    def ask(name, where, told):
+        nonlocal passed, failed
+        passed, failed = passed + told, failed + (not told)
+        if not told:
+            print(f"not told {where}: {name}")
+
     for name, shows, *pairs in EDITS:
-        wrong = right
-        for old, new in zip(pairs[::2], pairs[1::2]):
-            if wrong.count(old) != 1:
-                sys.exit(f"the edit '{name}' fits {wrong.count(old)} places, not one")
-            wrong = wrong.replace(old, new)
-        with open(source, "w", encoding="ascii") as file:
-            file.write(wrong)
-        build(target, source)
-        told = {BUFFERS: tells([compare, "calls", "--seed", seed, "--count", "100000"], environment)}
+        store = edited(name, STORE, pairs, target)
+        build_store(target, store)
+        ask(name, BUFFERS, tells(calls, environment))
         if shows == RUN:
-            told[RUN] = tells([compare, "runs", "--seed", seed, "--count", "2000"], environment)
+            ask(name, RUN, tells(runs, environment))
         if shows == REPLAY:
-            replay = os.path.join(target, "replay")
-            told[REPLAY] = tells([compare, "replays", "--program", replay, "--mode", "batch", "--seed", seed, "--count", "3000"])
-        for where, found in told.items():
-            passed, failed = passed + found, failed + (not found)
-            if not found:
-                print(f"not told {where}: {name}")
+            ask(name, REPLAY, tells(replays + [build_replay(target, store, REPLAYER)]))
+    for name, *pairs in REPLAY_EDITS:
+        ask(name, REPLAY, tells(replays + [build_replay(target, STORE, edited(name, REPLAYER, pairs, target))]))
     print(f"{passed} passed, {failed} failed")
     sys.exit(1 if failed else 0)
 

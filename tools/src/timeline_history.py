@@ -2,7 +2,7 @@
 
 All of it is read off the starting figures, the calls and their answers, as document 01's 'What demand 3 counts' does; so is the value that a
 transaction found in a cell, which no answer need show (document 02, Paper 2): it is the store's when the cell is entered. A cell that it held counts as
-written, changed or not (Paper 4)."""
+written, changed or not (Paper 4). A wait's number is that of the sessions in its way (Paper 6)."""
 
 HEAD = 3
 BODY = {1: 1, 2: 3, 3: 7, 4: 1, 5: 1, 6: 1, 8: 5, 9: 3}
@@ -16,7 +16,7 @@ class Mismatch(Exception):
 
 
 class Call:
-    """One call and its answer. `kind` and `lines` say what it did, for the picture; `place` is its ordinal."""
+    """One call and its answer: the number, and what stands after it. `kind` and `lines` say what it did, for the picture; `place` is its ordinal."""
 
     def __init__(self, place, name, session, cell, value, number, got):
         self.place, self.name, self.session, self.cell, self.value = place, name, session, cell, value
@@ -68,8 +68,10 @@ class History:
             words = lines[at].split(" ")
             if words[0] != str(place):
                 break
-            got = int(words[2]) if len(words) > 2 else None
-            self.step(Call(place, name, session, cell, value, int(words[1]), got))
+            number, *got = map(int, words[1:])
+            if len(got) != (number in (101, 104)):
+                raise Mismatch(f"call {place} is answered {number} with {several(len(got), 'number')} after it")
+            self.step(Call(place, name, session, cell, value, number, got[0] if got else None))
             at += 1
         if lines[at].startswith("field "):
             _, byte, number = lines[at].split(" ")
@@ -144,9 +146,7 @@ class History:
         if phase == 0:
             self.claimant[cell] = call.session
         if call.number == 104:
-            others = sorted(self.readers[cell] - {call.session})
-            whom = ", ".join(map(str, others)) if len(others) < 5 else f"{len(others)} readers"
-            call.kind, call.lines = "wait", [f"wait c{cell}", f"for {whom}"]
+            self.wait(call, cell, phase)
             transaction.waits.append((call.place, None))
             return
         transaction.moved += 1
@@ -166,6 +166,17 @@ class History:
         if call.number == 105:
             self.close(call, "committed")
             call.lines.append("done")
+
+    def wait(self, call, cell, phase):
+        """How many are in the way, and which sessions, where they are few."""
+        others = sorted(self.readers[cell] - {call.session})
+        if phase > 0:
+            raise Mismatch(f"call {call.place} is answered 104 with no cell left to lock")
+        if not others or call.got != len(others):
+            raise Mismatch(f"call {call.place} waits for {call.got} with {several(len(others), 'other')} in the way")
+        call.kind, call.lines = "wait", [f"wait c{cell}", f"for {several(len(others), 'other')}"]
+        if len(others) < 5:
+            call.lines.append(("session " if len(others) == 1 else "") + ", ".join(map(str, others)))
 
     def do_abandon(self, call, _):
         self.release(call.session)

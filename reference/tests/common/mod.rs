@@ -44,6 +44,11 @@ pub fn value(value: u32) -> Answer {
     Answer { number: 101, value }
 }
 
+/// A wait for so many other readers.
+pub fn waiting(others: u32) -> Answer {
+    Answer { number: 104, value: others }
+}
+
 /// Runs calls, each with the number and the value that it must answer.
 pub fn run(buffers: &mut Buffers, calls: &[(Call, Answer)]) {
     for (index, (call, answer)) in calls.iter().enumerate() {

@@ -12,6 +12,7 @@ use reference::own_caps::{self, LastLoad};
 use reference::random::Random;
 use reference::runs::{self, Next};
 use reference::store::{Answer, Buffers, Call, ManyAnswer, ManyReads, Part, Table, MAX_LIST, SHORT_TARGET, VALUE, WRONG_LIST};
+use reference::waits;
 use reference::within_caps;
 use reference::written_back;
 use std::fmt::{self, Debug, Display, Formatter};
@@ -80,8 +81,12 @@ pub fn compare_calls(run: &Run) {
     }
     print!("{}", counted);
     let Counted { numbers, look_ups, .. } = counted;
-    let of_papers =
-        [numbers.missing(&written_back::REQUIRED), holds::missing_on_buffers(&numbers), own_caps::missing_on_buffers(&numbers)];
+    let of_papers = [
+        numbers.missing(&written_back::REQUIRED),
+        holds::missing_on_buffers(&numbers),
+        own_caps::missing_on_buffers(&numbers),
+        waits::missing_on_buffers(&numbers),
+    ];
     close(run, [numbers.missing(&REQUIRED), of_papers.concat(), look_ups.missing_on_buffers()].concat());
 }
 
@@ -97,8 +102,9 @@ pub fn compare_runs(run: &Run) {
         let table = if shape.own_caps { Table::InForce } else { Table::Ours };
         let mut next = Next::One(Call::SetUp { table });
         for _ in 0..random.range(20, 150) {
-            let got = compare_next(&mut stores, case, &mut buffers, next, &mut counted);
-            keeps_caps(case, &got, &buffers);
+            let told = compare_next(&mut stores, case, &mut buffers, next, &mut counted);
+            keeps_caps(case, &told.got, &buffers);
+            keeps_numbers(case, told.single, &buffers);
             next = runs::next(&random, &shape, &buffers);
             made += 1;
         }
@@ -108,34 +114,45 @@ pub fn compare_runs(run: &Run) {
     }
     print!("{}", counted);
     let Counted { numbers, look_ups, .. } = counted;
-    let of_papers =
-        [numbers.missing(&written_back::REQUIRED), holds::missing_in_runs(&numbers), own_caps::missing_in_runs(&numbers)];
+    let of_papers = [
+        numbers.missing(&written_back::REQUIRED),
+        holds::missing_in_runs(&numbers),
+        own_caps::missing_in_runs(&numbers),
+        waits::missing_in_lists(&numbers),
+    ];
     close(run, [numbers.missing(&runs::REQUIRED), of_papers.concat(), look_ups.missing_in_runs()].concat());
 }
 
-/// What was got of the store, as cells with their values.
-type Got = Vec<(u32, u32)>;
+/// What a call of a run told.
+#[derive(Default)]
+struct Told {
+    /// The cells of which values were got, with these values.
+    got: Vec<(u32, u32)>,
+    /// A single call and its answer.
+    single: Option<(Call, Answer)>,
+}
 
 /// One call, many reads or a load on every store, counted.
-fn compare_next(stores: &mut [Box<dyn Store>], case: u64, buffers: &mut Buffers, next: Next, counted: &mut Counted) -> Got {
+fn compare_next(stores: &mut [Box<dyn Store>], case: u64, buffers: &mut Buffers, next: Next, counted: &mut Counted) -> Told {
     let Counted { numbers, look_ups, last_load } = counted;
     match next {
         Next::One(call) => {
             let of_papers = [written_back::kinds(buffers, call), holds::kinds(buffers, call)];
             let kinds = [of_papers.concat(), own_caps::kinds(buffers, last_load, call)].concat();
-            let look_up = look_ups::of_call(buffers, call);
+            let (look_up, wait) = (look_ups::of_call(buffers, call), waits::kinds(buffers, call));
             let answer = compare_call(stores, case, buffers, call);
             numbers.add(arbitrary::kind(call), answer.number);
             kinds.into_iter().for_each(|kind| numbers.add(kind, answer.number));
             look_ups.add(look_up, answer.number);
-            within_caps::got(call, answer).into_iter().collect()
+            waits::count(numbers, wait, answer);
+            Told { got: within_caps::got(call, answer).into_iter().collect(), single: Some((call, answer)) }
         }
         Next::Many(many) => {
             let look_up = look_ups::of_many(buffers, &many);
             let (answer, words) = compare_many(stores, case, buffers, &many);
             many_reads::count(numbers, &many, answer);
             look_ups.add_many(look_up, answer);
-            many.cells.iter().copied().zip(words).take(answer.count as usize).collect()
+            Told { got: many.cells.iter().copied().zip(words).take(answer.count as usize).collect(), single: None }
         }
         Next::Load(new_caps) => {
             let (old, kinds) = (buffers.caps.clone(), loads::kinds(buffers, &new_caps));
@@ -143,7 +160,7 @@ fn compare_next(stores: &mut [Box<dyn Store>], case: u64, buffers: &mut Buffers,
             numbers.add(loads::LOAD, number);
             kinds.into_iter().for_each(|kind| numbers.add(kind, number));
             *last_load = LastLoad::new(old, &new_caps, number);
-            Vec::new()
+            Told::default()
         }
     }
 }
@@ -151,18 +168,32 @@ fn compare_next(stores: &mut [Box<dyn Store>], case: u64, buffers: &mut Buffers,
 /// In a run every value is within its cap in force: those of the store, of the logs' written entries, and those got.
 fn keeps_caps(case: u64, got: &[(u32, u32)], buffers: &Buffers) {
     let told = got.iter().find(|(cell, value)| !within_caps::is_within(buffers, *cell, *value));
-    let told =
-        told.map(|(cell, _)| format!("a value above its cap was got of cell {}", cell)).or(within_caps::above_its_cap(buffers));
-    if let Some(told) = told {
-        println!("case {}: {}", case, told);
-        exit(1);
+    let told = told.map(|(cell, _)| format!("a value above its cap was got of cell {}", cell));
+    if let Some(told) = told.or(within_caps::above_its_cap(buffers)) {
+        stop_case(case, &told);
     }
+}
+
+/// In a run 104 carries the number of the sessions in the way.
+fn keeps_numbers(case: u64, single: Option<(Call, Answer)>, buffers: &Buffers) {
+    if let Some(told) = single.and_then(|(call, answer)| waits::miscounted(buffers, call, answer)) {
+        stop_case(case, &told);
+    }
+}
+
+/// Ends a comparison at a case that is not as it must be.
+fn stop_case(case: u64, told: &str) -> ! {
+    println!("case {}: {}", case, told);
+    exit(1)
 }
 
 /// One call on every store: the answer, the part and every lent word and record afterwards.
 fn compare_call(stores: &mut [Box<dyn Store>], case: u64, buffers: &mut Buffers, call: Call) -> Answer {
     let before = buffers.clone();
     let expected: (Answer, Part) = Reference.call(buffers, call);
+    if !waits::fits(expected.0) {
+        stop_case(case, &format!("{:?} is answered {:?}", call, expected.0));
+    }
     for store in stores {
         let mut other = before.clone();
         let got = store.call(&mut other, call);
