@@ -319,7 +319,7 @@ module _ {σ : Store} (I : Capped σ) where
       (λ _.
       let l = lockAt (σ .lent .locks) c in
       split (CapsKept call) (claimed l && not (eqb (l .claimant) s)) (λ _. keep-rollback call)
-      (λ _. split (CapsKept call) (eqb (otherReaders s (l .readers)) 0) {x = Acquire c} {y = Wait c (otherReaders s (l .readers))} (λ _. (handle-keeps _, (tt, tt)))
+      (λ _. split (CapsKept call) (eqb (otherReaders s (l .readers)) 0) {x = Acquire c} {y = Wait c _} (λ _. (handle-keeps _, (tt, tt)))
       (λ _. (record { records = I .records; stored = I .stored; logged = I .logged }, tt))))
       (λ _. split (CapsKept call) (eqb (x .phase) 3) {x = Publish c (currentOf (lookIn (logOf σ s) (x .count) c))} {y = Release c} (λ _. (publish-keeps I s n c _ (current-within I s n c), (tt, tt)))
       (λ _. (handle-keeps _, split (λ (a : Answer). TellsWithin (capOf σ) (tells (Advance s) a 0)) (isLeft (logOf σ s) c x) {x = Moved} {y = Committed} (λ _. (tt, tt)) (λ _. (tt, tt)))))))

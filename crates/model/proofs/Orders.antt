@@ -2,9 +2,11 @@
 use mathlib.Core.Path.{_≡_, refl}
 use mathlib.Core.List.{map}
 use Rattle.model.specs.Computing.{computing}
+use Rattle.model.specs.InTheWay.{othersInTheWay}
+use Rattle.model.specs.Search.{tally}
 use Rattle.model.specs.Holding.{skewHeld, skewAfter, skewBack, readerBetween, holdAlone, holdThenWrite, holdThenBack, writeThenHold, readThenHold, twoHolders, holdPastClaim, holding}
 use Rattle.model.specs.Orders.{Result, given, answersFrom, valuesAfter, result, expected, listing, skew, skewUnsealed, readPastClaim, writeAtCap, writeAboveCap, lastSession, noSuchSession, beginTwice, beginSeal, abandonPublishing, orders, unpromoted, halfPublished, traps, bothBack, thereAndBack, backAndThere, oneChanged, changedMeanwhile, backUnsealed, foundLater, writtenBack}
-use Rattle.model.specs.Waits.{threeOthers, holdersCount, eachItsOwn, fifteenOthers, waits}
+use Rattle.model.specs.Waits.{threeOthers, holdersCount, eachItsOwn, fifteenOthers, waits, Count, Way, storeAfter, countOf, ways}
 
 pub orders-hold : map {B = Result} result orders ≡ map {B = Result} expected orders
 unfolding result expected orders listing skew skewUnsealed readPastClaim writeAtCap writeAboveCap lastSession noSuchSession beginTwice beginSeal abandonPublishing given answersFrom valuesAfter computing
@@ -25,3 +27,7 @@ holding-holds = refl
 pub waits-hold : map {B = Result} result waits ≡ map {B = Result} expected waits
 unfolding result expected waits threeOthers holdersCount eachItsOwn fifteenOthers given answersFrom valuesAfter computing
 waits-hold = refl
+
+pub ways-hold : map {B = Count} countOf ways ≡ map {B = Count} (λ (w : Way). w .count) ways
+unfolding countOf ways storeAfter othersInTheWay tally computing
+ways-hold = refl

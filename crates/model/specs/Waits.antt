@@ -1,8 +1,15 @@
--- Orders in which a session waits, with how many others it waits for (document 02, Paper 6). proofs/Orders.antt proves the table by computation.
-use mathlib.Core.List.{List, [], _∷_}
+-- Orders in which a session waits, with how many others it waits for, and who is in its way (document 02, Paper 6). proofs/Orders.antt proves the tables by computation.
+use Prim.Native.Nat.{ℕ}
+use mathlib.Core.Bool.{Bool, true, false}
+use mathlib.Core.List.{List, [], _∷_, map}
+use Rattle.model.specs.declared.Call.{Call}
 use Rattle.model.specs.declared.Call.the-variants.{Begin, Read, Write, Hold, Seal, Advance, Abandon}
+use Rattle.model.specs.declared.Answer.{Answer}
 use Rattle.model.specs.declared.Answer.the-variants.{Done, Value, Sealed, Moved, Waiting, Committed, Refused}
-use Rattle.model.specs.Orders.{Row, twoCells}
+use Rattle.model.specs.Buffers.{Store}
+use Rattle.model.specs.InTheWay.{isInTheWay, othersInTheWay}
+use Rattle.model.specs.Orders.{Row, handed, twoCells}
+use Rattle.model.specs.Step.{step, answerOf, setUp}
 
 -- three others, two that run and one that promotes: one commits, one is rolled back, one abandons
 unfoldable pub threeOthers : Row
@@ -36,3 +43,48 @@ fifteenOthers =
 
 unfoldable pub waits : List Row
 waits = threeOthers ∷ holdersCount ∷ eachItsOwn ∷ fifteenOthers ∷ []
+
+-- ---- who is in the way, once calls were made on those two cells
+
+-- which of sessions 0 to 3 are at a cell, how many that is of the others, and what an advance of the session is then answered
+pub record Count : Type 0 where
+  pub who : List Bool
+  pub others : ℕ
+  pub answer : Answer
+
+pub record Way : Type 0 where
+  pub calls : List Call
+  pub session : ℕ
+  pub cell : ℕ
+  pub count : Count
+
+abbrev way : List Call → ℕ → ℕ → List Bool → ℕ → Answer → Way
+way ks s c who others a = record { calls = ks; session = s; cell = c; count = record { who = who; others = others; answer = a } }
+
+unfoldable pub storeAfter : Store → List Call → Store
+storeAfter σ [] = σ
+storeAfter σ (k ∷ ks) = storeAfter (step k σ) ks
+
+unfoldable pub countOf : Way → Count
+countOf w =
+    let σ = storeAfter (setUp (handed (3 ∷ 5 ∷ []) (2 ∷ 2 ∷ []))) (w .calls) in
+    record {
+      who = map (isInTheWay σ (w .cell)) (0 ∷ 1 ∷ 2 ∷ 3 ∷ []);
+      others = othersInTheWay σ (w .session) (w .cell);
+      answer = answerOf (Advance (w .session)) σ;
+    }
+
+unfoldable pub ways : List Way
+ways =
+    -- two that run and two that promote, for either of these
+    way (Begin 0 ∷ Begin 1 ∷ Begin 2 ∷ Begin 3 ∷ Write 0 0 4 ∷ Read 1 0 ∷ Read 2 0 ∷ Write 3 0 2 ∷ Seal 0 ∷ Seal 3 ∷ []) 0 0 (true ∷ true ∷ true ∷ true ∷ []) 3 (Waiting 3)
+    ∷ way (Begin 0 ∷ Begin 1 ∷ Begin 2 ∷ Begin 3 ∷ Write 0 0 4 ∷ Read 1 0 ∷ Read 2 0 ∷ Write 3 0 2 ∷ Seal 0 ∷ Seal 3 ∷ []) 3 0 (true ∷ true ∷ true ∷ true ∷ []) 3 (Waiting 3)
+    -- one that promotes is at the cell that it changed, and not at the one that it wrote back; one that runs at the cell in its log
+    ∷ way (Begin 0 ∷ Begin 1 ∷ Begin 2 ∷ Write 0 0 4 ∷ Write 0 1 6 ∷ Write 1 0 3 ∷ Write 1 1 2 ∷ Read 2 1 ∷ Seal 0 ∷ Seal 1 ∷ []) 0 0 (true ∷ false ∷ false ∷ false ∷ []) 0 Moved
+    ∷ way (Begin 0 ∷ Begin 1 ∷ Begin 2 ∷ Write 0 0 4 ∷ Write 0 1 6 ∷ Write 1 0 3 ∷ Write 1 1 2 ∷ Read 2 1 ∷ Seal 0 ∷ Seal 1 ∷ Advance 0 ∷ []) 0 1
+    (true ∷ true ∷ true ∷ false ∷ []) 2 (Waiting 2)
+    -- one that holds a cell, and one that has abandoned
+    ∷ way (Begin 0 ∷ Begin 1 ∷ Begin 2 ∷ Write 0 0 4 ∷ Hold 1 0 ∷ Read 2 0 ∷ Seal 1 ∷ Abandon 2 ∷ Seal 0 ∷ []) 0 0 (true ∷ true ∷ false ∷ false ∷ []) 1 (Waiting 1)
+    -- from phase 3 on nobody waits at the cell: another that comes to it meets the claim
+    ∷ way (Begin 0 ∷ Begin 1 ∷ Write 0 0 4 ∷ Seal 0 ∷ Advance 0 ∷ []) 0 0 (false ∷ false ∷ false ∷ false ∷ []) 0 Moved
+    ∷ []

@@ -11,16 +11,19 @@ use borrow.Author.Tests.{eqb-true, eqb-false, leb-true, ltb-true}
 use Rattle.model.specs.declared.Call.the-variants.{Begin, Read, Write, Seal, Advance, Abandon, Hold}
 use Rattle.model.specs.declared.Answer.the-variants.{Done, Value, Moved, Waiting, Refused}
 use Rattle.model.specs.Cases.{state, session, storeWith}
+use Rattle.model.specs.declared.Lock.{Lock}
+use Rattle.model.specs.Buffers.{Store}
 use Rattle.model.specs.Caps.{GotWithin, WithinCaps}
 use Rattle.model.specs.Load.{withCaps}
 use Rattle.model.specs.OwnCaps.{low, high}
 use Rattle.model.specs.Computing.{computing, counting}
 use Rattle.model.specs.History.{oneCall, manyReads, asActions, event, withFound, readsEvent, Item, item, run, told, history, Name, name, transaction, wrote, valueWritten, cellsWritten, readsBeforeWriting, valuesFound}
 use Rattle.model.specs.Isolation.{All, Commits, snapshotOf, commitOf, ToldAt, CommitsTo, Last, lastCommit, noCommit, Isolated, Holds, firsts, HoldsAtCommit, Demand3}
-use Rattle.model.specs.Effects.{number}
-use Rattle.model.specs.InTheWay.{publishesCell, isReader, InTheWay, SealLetsGo}
+use Rattle.model.specs.Effects.{number, valueOf}
+use Rattle.model.specs.InTheWay.{publishesCell, isReader, InTheWay, SealLetsGo, TellsOthers, othersInTheWay, WaitsForThose}
 use Rattle.model.specs.Orders.{given, listing}
 use Rattle.model.specs.Readers.{member}
+use Rattle.model.specs.Search.{tally}
 use Rattle.model.specs.Serial.{serialStep, serial, NoneOpen, ReadsSerially, Undisturbed, SeriallyEqual}
 use Rattle.model.specs.Step.{step, answerOf, setUp}
 use Rattle.model.specs.Told.{began, got, put, held, sealed, moved, seals, moves, ReadOf}
@@ -220,6 +223,32 @@ sealed-back = (refl, refl, refl, refl)
 pub left-a-reader : SealLetsGo (storeWith 1 (state (session 1 0 0) [] (3 ∷ 5 ∷ []) (2 ∷ 0 ∷ []) (16 ∷ 16 ∷ []) (0 ∷ 0 ∷ []))) 1 → ⊥
 unfolding storeWith member computing
 left-a-reader g = clash true refl (g (inr refl) 0 (omega arith) refl)
+
+-- ---- how many are in the way
+
+-- on a store that no list leaves a session waits for a reader, and is told one; nobody is in the way there
+abbrev strayReader : Store
+strayReader = storeWith 1 (state (session 2 1 0) (0 ∷ 8 ∷ 4 ∷ 1 ∷ []) (3 ∷ 5 ∷ []) (4 ∷ 0 ∷ []) (16 ∷ 16 ∷ []) (0 ∷ 0 ∷ []))
+
+pub waits-for-a-stray : (number (answerOf (Advance 1) strayReader) ≡ 104) × (valueOf (answerOf (Advance 1) strayReader) ≡ 1)
+unfolding storeWith computing
+waits-for-a-stray = (refl, refl)
+
+pub waits-for-those-not : WaitsForThose strayReader 1 → ⊥
+unfolding storeWith othersInTheWay tally computing
+waits-for-those-not w = let e : _≡_ {A = ℕ} 1 0 = w refl .2 in omega arith
+
+-- what the promotion step promises of that lock: not two; of one that it reads alone, not none; of other answers nothing
+abbrev lock : ℕ → Lock
+lock readers = record { readers = readers; claimant = 16; exclusive = 0 }
+
+pub tells-others : TellsOthers (lock 4) 1 (Waiting 1) × TellsOthers (lock 4) 1 Moved
+unfolding computing
+tells-others = (λ _. (refl, omega arith, λ _. omega arith), λ e. absurd (omega arith))
+
+pub tells-others-not : (TellsOthers (lock 4) 1 (Waiting 2) → ⊥) × (TellsOthers (lock 2) 1 (Waiting 0) → ⊥)
+unfolding computing
+tells-others-not = (λ w. let e : _≡_ {A = ℕ} 2 1 = w refl .0 in omega arith, λ w. let l : 0 < 0 = w refl .1 in omega arith)
 
 -- ---- caps
 
