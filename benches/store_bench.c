@@ -6,6 +6,7 @@
    `look-up-known-read`, `look-up-new-read` and the same of writes and holds make that call in a log of ENTRIES entries.
    The workloads `many` and `singles` read a session's ENTRIES cells as new ones, by one call for many reads and by a loop of single reads, which counts
    as one call here; `many-known` and `singles-known` read them when they are in the log.
+   `waits` asks a session with ENTRIES changed cells to advance while all fifteen others read the first of them, and is answered 104, whatever SESSIONS is.
    `caps-commit`, `look-up-known-write-caps` and `look-up-new-write-caps` write by the table of caps in force, after a set-up by it; `load` loads one of two
    tables in turn, ENTRIES times a cycle, with every session idle. */
 #include "plain_store.h"
@@ -262,6 +263,29 @@ static void look_up_workload(uint32_t kind, int known, uint32_t entries, uint32_
     }
 }
 
+/* Session 0 changes ENTRIES cells, fifteen others read the first of them, and it waits for these four times. */
+static void wait_workload(uint32_t entries, uint32_t cycles)
+{
+    for (uint32_t k = 0; k < cycles; k++) {
+        for (uint32_t s = 0; s < PLAIN_SESSIONS; s++) {
+            add(BEGIN, s, 0, 0);
+        }
+        for (uint32_t i = 0; i < entries; i++) {
+            add(WRITE, 0, i, start_of(i) + 1);
+        }
+        for (uint32_t s = 1; s < PLAIN_SESSIONS; s++) {
+            add(READ, s, 0, 0);
+        }
+        add(SEAL, 0, 0, 0);
+        for (uint32_t i = 0; i < 4; i++) {
+            add(ADVANCE, 0, 0, 0);
+        }
+        for (uint32_t s = 0; s < PLAIN_SESSIONS; s++) {
+            add(ABANDON, s, 0, 0);
+        }
+    }
+}
+
 static void workload(const char *name, uint32_t entries, uint32_t n, uint32_t sessions, uint32_t cycles)
 {
     if (!strncmp(name, "many", 4) || !strncmp(name, "singles", 7)) {
@@ -271,6 +295,10 @@ static void workload(const char *name, uint32_t entries, uint32_t n, uint32_t se
     if (!strncmp(name, "look-up-", 8)) {
         uint32_t kind = strstr(name, "write-caps") ? WRITE_WITH_CAPS : strstr(name, "write") ? WRITE : strstr(name, "hold") ? HOLD : READ;
         look_up_workload(kind, strstr(name, "known") != NULL, entries, n, sessions, cycles);
+        return;
+    }
+    if (!strcmp(name, "waits")) {
+        wait_workload(entries, cycles);
         return;
     }
     if (!strcmp(name, "load")) {

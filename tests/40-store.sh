@@ -36,7 +36,7 @@ corpus() {
 # The lists of the benchmark: the same answers and buffers on the proved store and on plain C.
 benchmark() {
     bash benches/build || return 1
-    for list in known reads write commit update written-back held caps-commit load; do
+    for list in known reads write commit update written-back held waits caps-commit load; do
         for entries in 2 32; do
             target/bench/store_bench $list $entries 1024 16 20 || return 1
         done
