@@ -72,5 +72,5 @@ demand3-in-numbers φ σ v e actions h τ r =
       meets = demand3-of-code φ σ (setUpEffect φ .answer) (answered 100 v σ (setUpEffect φ) e) (sym (ap (λ (s : NumberOutcome). s .number) e)) actions (i .events) τ (i .ran);
       caps = within-caps-of-code φ σ (setUpEffect φ .answer) (answered 100 v σ (setUpEffect φ) e) (sym (ap (λ (s : NumberOutcome). s .number) e)) actions;
       order = in-commit-order-of-code φ σ (setUpEffect φ .answer) (answered 100 v σ (setUpEffect φ) e) (sym (ap (λ (s : NumberOutcome). s .number) e)) actions (i .events) τ (i .ran);
-      waits = waits-for-those-of-code φ σ (setUpEffect φ .answer) (answered 100 v σ (setUpEffect φ) e) (sym (ap (λ (s : NumberOutcome). s .number) e)) actions (i .events) τ (i .ran);
+      waits = waits-for-those-of-code φ σ (setUpEffect φ .answer) (answered 100 v σ (setUpEffect φ) e) (sym (ap (λ (s : NumberOutcome). s .number) e)) actions;
     }

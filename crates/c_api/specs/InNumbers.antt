@@ -10,7 +10,7 @@ use Rattle.model.specs.History.{Action, oneCall, manyReads, loadCaps, Event}
 use Rattle.model.specs.History as items
 use Rattle.model.specs.Caps.{WithinCaps}
 use Rattle.model.specs.CommitOrder.{InCommitOrder}
-use Rattle.model.specs.InTheWay.{WaitsForThose}
+use Rattle.model.specs.InTheWay.{EachWaitsForThose}
 use Rattle.model.specs.Isolation.{Demand3OfCode}
 use Rattle.model.specs.Effects.{number, valueOf, Part, storeWord, logWord, noWord}
 use Rattle.model.specs.Step.{Outcome, effect, setUpEffect, peekShows, sessionOf, GoesBy}
@@ -123,12 +123,12 @@ pub data Called (σ : Store) : List Action → List Heard → Store → Type 0 w
   thenLoad : {ks : List Action} {h : List Heard} {x : Store} → Called σ ks h x → (T : List ℕ) (n v : ℕ) (y : Store) → replied n v y ≡ inNumbers (loadEffect T x)
       → Called σ (loadCaps T ∷ ks) (calledLoad T n ∷ h) y
 
--- what C was told of a list of actions in their order is what it hears of events of which demand 3 holds, the theorem of the order, and the caps; and an advance that
--- comes next, where it is told 104, is told how many are in the way
+-- what C was told of a list of actions in their order is what it hears of events of which demand 3 holds, the theorem of the order, the caps, and how many are in
+-- the way at each 104
 pub record Demand3InNumbers (σ : Store) (actions : List Action) (h : List Heard) (τ : Store) : Type 0 where
   pub events : List Event
   pub told : h ≡ map heard events
   pub meets : Demand3OfCode σ actions events τ
   pub order : InCommitOrder (σ .lent .values) (items.told [] events) τ
   pub caps : WithinCaps σ (reverse actions)
-  pub waits : (s : ℕ) → WaitsForThose τ s
+  pub waits : EachWaitsForThose σ (reverse actions)

@@ -1,11 +1,11 @@
--- How many a session waits for: on any store the other readers of its cell, 1 or more; of what a list of actions leaves, the sessions that are in the way there.
+-- How many a session waits for: on any store the other readers of its cell, 1 or more; in a list of actions from a set-up, the sessions that are in the way there.
 use Prim.Native.Nat.{ℕ, zero, suc, _<_, _≤_}
 use native.Mathlib.Omega.{arith}
 use mathlib.Core.Path.{_≡_, refl, sym, _∙_, ap, subst}
 use mathlib.Core.Logic.{_⊎_, inl, inr}
 use mathlib.Core.Bool.{Bool, true, false, not, _&&_}
 use mathlib.Core.Option.{some}
-use mathlib.Core.List.{List, reverse}
+use mathlib.Core.List.{List, [], _∷_, reverse}
 use lib.Dec.{leb, eqb}
 use lib.ListN.{length, List·getD-eq-default}
 use borrow.Author.Tests.{eq-eqb, ne-eqb, eqb-true, eqb-false, leb-true, not-false}
@@ -18,14 +18,13 @@ use Rattle.model.specs.declared.Plan.the-variants.{Acquire, Wait, Publis
 use Rattle.model.specs.declared.Session.{Session}
 use Rattle.model.specs.Buffers.{Store, size, sessionAt, slotIn, lookIn, entryOf, publishesIn, lockAt, publishes, currentOf, fresh, idle}
 use Rattle.model.specs.Effects.{number, valueOf, recordOf, logOf, answer, isLeft, releaseAnswer}
-use Rattle.model.specs.History.{Action, Event, Item, run}
-use Rattle.model.specs.Isolation.{Ran}
-use Rattle.model.specs.InTheWay.{dueIn, WaitsForOthers, isInTheWay, othersInTheWay, WaitsForThose}
+use Rattle.model.specs.History.{Action, Item}
+use Rattle.model.specs.InTheWay.{dueIn, WaitsForOthers, isInTheWay, othersInTheWay, WaitsForThose, EachWaitsForThose}
 use Rattle.model.specs.Plans.{recordFits, claimed, promotePlan, advanceTarget, plan}
 use Rattle.model.specs.Readers.{otherReaders}
 use Rattle.model.specs.Step.{Outcome, outcome, planOf, answerOf, setUpAnswer, setUp, setUpEffect}
 use Rattle.model.proofs.Advancing.{late, role-late, target-some}
-use Rattle.model.proofs.Demand3.{set-up-fresh, ran-is}
+use Rattle.model.proofs.Demand3.{set-up-fresh}
 use Rattle.model.proofs.Effects.{idle-out}
 use Rattle.model.proofs.Invariant.{roleIn, roleOf, role, Inv}
 use Rattle.model.proofs.Laws.{tally-less, tally-same}
@@ -173,18 +172,17 @@ module _ {first : List ℕ} {σ : Store} {T : Ledger} (I : Inv first σ T) where
       (w .cell, w .due, e, omega (arith, w .others, w .more), omega (arith, e, fifteen s (w .cell) (w .low)))
 
 -- from any start, and from what a set-up answered 100 left
-pub waits-for-those-from : {σ : Store} {start : List Item} {T : Ledger} → Ready σ start T → (actions : List Action) (s : ℕ) → WaitsForThose (run σ (reverse actions)) s
-waits-for-those-from R actions = waits-for-those-by (inv-run R (reverse actions))
+pub waits-for-those-from : {σ : Store} {start : List Item} {T : Ledger} → Ready σ start T → (ks : List Action) → EachWaitsForThose σ ks
+waits-for-those-from R [] = tt
+waits-for-those-from R (k ∷ ks) = (waits-for-those-from R ks, λ s _. waits-for-those-by (inv-run R ks) s)
 
-pub waits-for-those : (σ : Store) → number (setUpAnswer σ) ≡ 100 → (actions : List Action) (s : ℕ) → WaitsForThose (run (setUp σ) (reverse actions)) s
-waits-for-those σ h actions s =
-    subst (λ (φ : Store). WaitsForThose (run φ (reverse actions)) s) (sym (set-up-fresh σ h)) (waits-for-those-from (ready (fresh (σ .limits) (σ .lent)) (inv-fresh (σ .limits) (σ .lent))) actions s)
+pub waits-for-those : (σ : Store) → number (setUpAnswer σ) ≡ 100 → (actions : List Action) → EachWaitsForThose (setUp σ) (reverse actions)
+waits-for-those σ h actions =
+    subst (λ (φ : Store). EachWaitsForThose φ (reverse actions)) (sym (set-up-fresh σ h)) (waits-for-those-from (ready (fresh (σ .limits) (σ .lent)) (inv-fresh (σ .limits) (σ .lent))) (reverse actions))
 
--- code: a set-up that kept its contract and answered 100 left σ, and the calls kept theirs
-pub waits-for-those-of-code : (φ σ : Store) (a : Answer) → outcome a σ ≡ setUpEffect φ → number a ≡ 100
-    → (actions : List Action) (h : List Event) (τ : Store) → Ran σ (reverse actions) h τ → (s : ℕ) → WaitsForThose τ s
+-- of what a set-up left that kept its contract and answered 100
+pub waits-for-those-of-code : (φ σ : Store) (a : Answer) → outcome a σ ≡ setUpEffect φ → number a ≡ 100 → (actions : List Action) → EachWaitsForThose σ (reverse actions)
 unfolding setUpEffect
-waits-for-those-of-code φ σ a e n actions h τ r s =
+waits-for-those-of-code φ σ a e n actions =
     let f = ap (λ (o : Outcome). o .answer) e in
-    let g : σ ≡ setUp φ = ap (λ (o : Outcome). o .store) e in
-    rw (ran-is σ r .1) (subst (λ (σ : Store). WaitsForThose (run σ (reverse actions)) s) (sym g) (waits-for-those φ (ap number (sym f) ∙ n) actions s))
+    subst (λ (σ : Store). EachWaitsForThose σ (reverse actions)) (sym (ap (λ (o : Outcome). o .store) e)) (waits-for-those φ (ap number (sym f) ∙ n) actions)

@@ -4,6 +4,7 @@ use Prim.Native.Nat.{ℕ, _<_, _≤_, _^_}
 use mathlib.Core.Path.{_≡_}
 use mathlib.Core.Logic.{_⊎_}
 use mathlib.Core.Bool.{Bool, true, false, not, _&&_, _||_}
+use mathlib.Core.List.{List, [], _∷_}
 use mathlib.Core.Option.{Option, some}
 use lib.Dec.{eqb}
 use Rattle.model.specs.declared.Call.the-variants.{Seal, Advance}
@@ -12,6 +13,7 @@ use Rattle.model.specs.declared.Lock.{Lock}
 use Rattle.model.specs.Search.{some?, tally}
 use Rattle.model.specs.Buffers.{Store, size, slotIn, publishesIn, targetIn, lockAt}
 use Rattle.model.specs.Effects.{number, valueOf, recordOf, logOf}
+use Rattle.model.specs.History.{Action, oneCall, run}
 use Rattle.model.specs.Readers.{member, otherReaders}
 use Rattle.model.specs.Step.{step, answerOf}
 
@@ -65,8 +67,13 @@ isInTheWay σ c t =
 unfoldable pub othersInTheWay : Store → ℕ → ℕ → ℕ
 othersInTheWay σ s c = tally (λ t. not (eqb t s) && isInTheWay σ c t) 16
 
--- an advance of session s answered 104 tells just that number, 1 to 15; `waits-for-those` proves it of what a list of actions leaves
+-- an advance of session s answered 104 tells just that number, 1 to 15
 abbrev pub WaitsForThose : Store → ℕ → Type 0
 WaitsForThose σ s =
     let a = answerOf (Advance s) σ in
     number a ≡ 104 → (c : ℕ) × (dueIn σ s ≡ some c) × (valueOf a ≡ othersInTheWay σ s c) × (0 < valueOf a) × (valueOf a ≤ 15)
+
+-- of a list of actions, the newest first: each advance in it, by the store that it met; `waits-for-those` proves it from what a set-up answered 100 left
+abbrev pub EachWaitsForThose : Store → List Action → Type 0
+EachWaitsForThose σ [] = Unit
+EachWaitsForThose σ (k ∷ ks) = EachWaitsForThose σ ks × ((s : ℕ) → k ≡ oneCall (Advance s) → WaitsForThose (run σ ks) s)

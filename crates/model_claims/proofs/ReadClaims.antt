@@ -20,7 +20,7 @@ use Rattle.model.specs.Computing.{computing, counting}
 use Rattle.model.specs.History.{oneCall, manyReads, asActions, event, withFound, readsEvent, Item, item, run, told, history, Name, name, transaction, wrote, valueWritten, cellsWritten, readsBeforeWriting, valuesFound}
 use Rattle.model.specs.Isolation.{All, Commits, snapshotOf, commitOf, ToldAt, CommitsTo, Last, lastCommit, noCommit, Isolated, Holds, firsts, HoldsAtCommit, Demand3}
 use Rattle.model.specs.Effects.{number, valueOf}
-use Rattle.model.specs.InTheWay.{publishesCell, isReader, InTheWay, SealLetsGo, TellsOthers, othersInTheWay, WaitsForThose}
+use Rattle.model.specs.InTheWay.{publishesCell, isReader, InTheWay, SealLetsGo, TellsOthers, othersInTheWay, WaitsForThose, EachWaitsForThose}
 use Rattle.model.specs.Orders.{given, listing}
 use Rattle.model.specs.Readers.{member}
 use Rattle.model.specs.Search.{tally}
@@ -237,6 +237,10 @@ waits-for-a-stray = (refl, refl)
 pub waits-for-those-not : WaitsForThose strayReader 1 → ⊥
 unfolding storeWith othersInTheWay tally computing
 waits-for-those-not w = let e : _≡_ {A = ℕ} 1 0 = w refl .2 in omega arith
+
+pub each-waits-not : EachWaitsForThose strayReader (oneCall (Advance 1) ∷ []) → ⊥
+unfolding run
+each-waits-not w = waits-for-those-not (w .1 1 refl)
 
 -- what the promotion step promises of that lock: not two; of one that it reads alone, not none; of other answers nothing
 abbrev lock : ℕ → Lock

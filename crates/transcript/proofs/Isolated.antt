@@ -1,4 +1,4 @@
--- Demand 3, the order theorem and the caps are about what is printed: the answers of an accepted input are those of the model's events of its calls, what these tell is isolated, and the
+-- Demand 3, the order theorem, the caps and the count of those in the way are about what is printed: the answers of an accepted input are those of the model's events of its calls, what these tell is isolated, and the
 -- values that are printed last are the store's.
 use Prim.Native.Nat.{ℕ}
 use mathlib.Core.Path.{_≡_, refl, ap, _∙_}
@@ -9,11 +9,13 @@ use Rattle.model.specs.Caps.{WithinCaps}
 use Rattle.model.specs.Step.{step, setUp}
 use Rattle.model.specs.CommitOrder.{InCommitOrder}
 use Rattle.model.specs.History.{oneCall, run, events, history}
+use Rattle.model.specs.InTheWay.{EachWaitsForThose}
 use Rattle.model.specs.Isolation.{Demand3}
 use Rattle.model.proofs.Caps.{limits-step, within-caps}
 use Rattle.model.proofs.CommitOrder.{in-commit-order}
 use Rattle.model.proofs.Demand3.{demand3, set-up-fresh}
 use Rattle.model.proofs.Firsts.{run-first}
+use Rattle.model.proofs.Waiting.{waits-for-those}
 use Rattle.text.specs.Items.{Item, cell, asked, refused, itemsAt, later, calls}
 use Rattle.text.specs.Lines.{answerLines, cellLines, endLine}
 use Rattle.transcript.specs.Transcript.{given, callsText, afterSetUp, setUpText, itemsText, transcript, givenBy, callsOf, Accepted}
@@ -50,3 +52,7 @@ printed-by-ours input a = limits-kept (later (itemsAt input 0)) (setUp (givenBy 
 
 pub printed-within-caps : (input : List ℕ) → Accepted input → WithinCaps (setUp (givenBy input)) (reverse (callsOf input))
 printed-within-caps input a = within-caps (givenBy input) (a .setUp) (callsOf input)
+
+-- and the number printed after 104 is that of the sessions in the way
+pub printed-waits : (input : List ℕ) → Accepted input → EachWaitsForThose (setUp (givenBy input)) (reverse (callsOf input))
+printed-waits input a = waits-for-those (givenBy input) (a .setUp) (callsOf input)
