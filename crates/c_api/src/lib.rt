@@ -420,7 +420,7 @@ pub extern "C" fn rukkanei_seal(
     ))
 }
 
-// Advance: 103, 104, 105, 6 with the session rolled back, or a refusal.
+// Advance: 103, 104 and how many others read, 105, 6 with the session rolled back, or a refusal.
 #[no_mangle]
 pub extern "C" fn rukkanei_advance(
     x: Session,

@@ -728,7 +728,7 @@ fn take_entry(
     }
 }
 
-// Advance: phases 2 to 4. One cell that the session publishes is promoted, published or released. 103, 104, 105, or 6.
+// Advance: phases 2 to 4. One cell that the session publishes is promoted, published or released. 103, 104 and how many others read, 105, or 6.
 pub fn take_advance(
     values: &mut [u32],
     log: &[u32],

@@ -702,7 +702,7 @@ pub fn seal(
     step(Call::Seal(session), sessions, values, classes, locks, logs)
 }
 
-// Advance: phases 2 to 4. One cell that the session publishes is promoted, published or released. 103, 104, 105, or 6.
+// Advance: phases 2 to 4. One cell that the session publishes is promoted, published or released. 103, 104 and how many others read, 105, or 6.
 pub fn advance(
     sessions: Sessions,
     values: &mut [u32],

@@ -1,4 +1,4 @@
-// Runs document 01's listing, a short mixed list, one with values written back and one with holds on number slices (crate store) and on a run of lock records (crate lock_records). Compared are
+// Runs document 01's listing, a short mixed list, one with values written back, one with holds and one with waits on number slices (crate store) and on a run of lock records (crate lock_records). Compared are
 // set-up's answers and records, and after each call the answers, the records, and every value, lock and log word.
 // It writes each list as the replay does, with a line for a peek's number too; last, whether the two forms agreed throughout.
 ghost use Rattle.lock_records.specs.Lent.{TakesRun, SetsUpRun};
@@ -46,10 +46,11 @@ fn step_on(
     RunReply { reply, locks: run }
 }
 
-// ---- the four lists, of 13 calls each, on two cells of class 2
+// ---- the five lists, of 13 calls each, on two cells of class 2
 
 // From 0 document 01's listing; from 13 a mixed list: every kind of call, every phase, the refusals 4 and 6; from 26 values written back: a seal that lets one go of
-// two cells, and one that lets go all; from 39 holds: a session that only held a cell publishes it, and another that held and wrote it is rolled back.
+// two cells, and one that lets go all; from 39 holds: a session that only held a cell publishes it, and another that held and wrote it is rolled back; from 52
+// waits: for two others, for one, for none.
 fn call_at(i: u32) -> Call {
     match i {
         0 => Call::Begin(0),
@@ -96,7 +97,19 @@ fn call_at(i: u32) -> Call {
         46 => Call::Advance(1),
         47 => Call::Advance(0),
         48..=50 => Call::Advance(1),
-        _ => Call::Begin(0),
+        51 => Call::Begin(0),
+        52 => Call::Begin(0),
+        53 => Call::Begin(1),
+        54 => Call::Begin(2),
+        55 => Call::Write(0, 0, 4),
+        56 => Call::Read(1, 0),
+        57 => Call::Read(2, 0),
+        58 => Call::Seal(0),
+        59 => Call::Advance(0),
+        60 => Call::Seal(1),
+        61 => Call::Advance(0),
+        62 => Call::Abandon(2),
+        _ => Call::Advance(0),
     }
 }
 
@@ -166,8 +179,8 @@ fn print_call(ordinal: u32, r: Reply) {
     let answer = r.answer;
     print(ordinal, b' ');
     let number = answer.number();
-    if number == 101 {
-        print(101, b' ');
+    if (number == 101) | (number == 104) {
+        print(number as u32, b' ');
         print(answer.value(), b'\n');
         return;
     }
@@ -298,7 +311,8 @@ fn main() {
     let mixed = run_both(13);
     let written_back = run_both(26);
     let held = run_both(39);
-    if listing & mixed & written_back & held {
+    let waits = run_both(52);
+    if listing & mixed & written_back & held & waits {
         io::write_all(STDOUT_FILENO, b"both forms agree\n");
     } else {
         io::write_all(STDOUT_FILENO, b"the forms differ\n");

@@ -419,7 +419,7 @@ pub fn seal(
     replied(t)
 }
 
-// Advance: phases 2 to 4. One cell that the session publishes is promoted, published or released. 103, 104, 105, or 6.
+// Advance: phases 2 to 4. One cell that the session publishes is promoted, published or released. 103, 104 and how many others read, 105, or 6.
 pub fn advance(
     x: Session,
     values: &mut [u32],
