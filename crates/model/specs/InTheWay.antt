@@ -51,7 +51,7 @@ TellsOthers l s a = number a ≡ 104 → (valueOf a ≡ otherReaders s (l .reade
 abbrev pub dueIn : Store → ℕ → Option ℕ
 dueIn σ s = targetIn (logOf σ s) (recordOf σ s .count) (recordOf σ s .next)
 
--- so of an advance on any store: it is a cell's lock that it promised this of; `waits-for-others` proves it
+-- the same of an advance on any store, by the lock of that cell; `waits-for-others` proves it
 abbrev pub WaitsForOthers : Store → ℕ → Type 0
 WaitsForOthers σ s =
     let a = answerOf (Advance s) σ in
@@ -63,7 +63,7 @@ isInTheWay σ c t =
     let x = recordOf σ t in
     (eqb (x .phase) 1 && some? (slotIn (logOf σ t) (x .count) c)) || (eqb (x .phase) 2 && publishesCell σ t c)
 
--- how many of the sessions other than s are
+-- how many of the sessions other than s are in the way there
 unfoldable pub othersInTheWay : Store → ℕ → ℕ → ℕ
 othersInTheWay σ s c = tally (λ t. not (eqb t s) && isInTheWay σ c t) 16
 
