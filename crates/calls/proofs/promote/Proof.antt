@@ -9,23 +9,26 @@ use Rattle.calls.proofs.promote.Statement.{statement}
 use Rattle.calls.proofs.promote.Tie as tie
 
 returns : tie.Need-returns
-returns c =
-    (λ vs log m. turn-rolled-back _ _ _ _ _ (sym (promote-loses _ _ _ _ (c .before .before .loses .ensures) (c .before .if1 .taken))) (c .rolled-back .ensures),
-     tells-lost (c .before .before .before .args .l) _ _ (ap (λ (t : Turn). t .answer) (c .rolled-back .ensures)))
+returns c = (
+  λ vs log m. turn-rolled-back _ _ _ _ _ (sym (promote-loses _ _ _ _ (c .before .before .loses .ensures) (c .before .if1 .taken))) (c .rolled-back .ensures),
+  tells-lost (c .before .before .before .args .l) _ _ (ap (λ (t : Turn). t .answer) (c .rolled-back .ensures)),
+)
 
 returns-2 : tie.Need-returns-2
-returns-2 c =
-    (λ vs log m.
-     turn-waiting _ _ _ _ _ _
-     (sym (promote-waits _ _ _ _ (c .before .before .before .before .loses .ensures) (c .before .before .before .if1 .left) _ (c .before .before .alone .ensures) (not-true _ (c .before .if2 .taken)) _ (c .others .ensures))),
-     tells-others (c .before .before .before .before .before .args .l) _ (c .before .before .before .before .before .pre .2) _ (c .before .before .alone .ensures) (not-true _ (c .before .if2 .taken)) _ (c .others .ensures))
+returns-2 c = (
+  λ vs log m.
+      turn-waiting _ _ _ _ _ _
+      (sym (promote-waits _ _ _ _ (c .before .before .before .before .loses .ensures) (c .before .before .before .if1 .left) _ (c .before .before .alone .ensures) (not-true _ (c .before .if2 .taken)) _ (c .others .ensures))),
+  tells-others (c .before .before .before .before .before .args .l) _ (c .before .before .before .before .before .pre .2) _ (c .before .before .alone .ensures) (not-true _ (c .before .if2 .taken)) _ (c .others .ensures),
+)
 
 returns-3 : tie.Need-returns-3
-returns-3 c =
-    (λ vs log m.
-     turn-acquired _ _ _ _ _ _ m _ (c .before .handle .ensures)
-     (sym (promote-acquires _ _ _ _ (c .before .before .before .before .before .loses .ensures) (c .before .before .before .before .if1 .left) _ (c .before .before .before .alone .ensures) (not-false _ (c .before .before .if2 .left)))),
-     tells-acquired (c .before .before .before .before .before .before .args .l) (c .before .before .before .before .before .before .args .session))
+returns-3 c = (
+  λ vs log m.
+      turn-acquired _ _ _ _ _ _ m _ (c .before .handle .ensures)
+      (sym (promote-acquires _ _ _ _ (c .before .before .before .before .before .loses .ensures) (c .before .before .before .before .if1 .left) _ (c .before .before .before .alone .ensures) (not-false _ (c .before .before .if2 .left)))),
+  tells-acquired (c .before .before .before .before .before .before .args .l) (c .before .before .before .before .before .before .args .session),
+)
 
 pub promote-spec : {M : Type 1} → statement M
 promote-spec =
