@@ -22,7 +22,7 @@ use Rattle.model.specs.declared.Answer.the-variants as say
 use Rattle.model.specs.declared.Answer.the-variants.{Moved, Waiting, Committed}
 use Rattle.model.specs.declared.Plan.{Plan}
 use Rattle.model.specs.declared.Plan.the-variants.{Refuse, Start, Tell, Enter, Update, EnterUpdate, Mark, EnterMark, RollBack, CommitReads, BeginPromotion, Wait, Acquire, Publish, Release, ShowStore, ShowLog}
-use Rattle.model.proofs.Sets.{others-most}
+use Rattle.model.proofs.Sets.{others-told}
 use Rattle.model.proofs.Passing.{Entries, entries-of, record-entries}
 use Rattle.model.proofs.Tools.{test, clash, and-false}
 use Rattle.log.specs.Slots.{found, targetSlot, isMore}
@@ -336,9 +336,7 @@ module _ (l : Lock) (s : ℕ) where
   tells-acquired h = absurd (omega (arith, h))
 
   pub tells-others : s < 16 → (a : Bool) → a ≡ eqb (otherReaders s (l .readers)) 0 → a ≡ false → (k : ℕ) → k ≡ otherReaders s (l .readers) → TellsOthers l s (Waiting k)
-  tells-others lt a f g k q h =
-      let n = eqb-false (otherReaders s (l .readers)) 0 (sym f ∙ g) in
-      (q, omega (arith, q, n), λ r. omega (arith, q, others-most 15 s (l .readers) (omega arith) r))
+  tells-others lt a f g k q = others-told l s (Waiting k) lt q (eqb-false (otherReaders s (l .readers)) 0 (sym f ∙ g))
 
 -- d is the cell of entry k
 module _ (log : List ℕ) (x : Session) (l : Lock) (s k d : ℕ) (e : d ≡ cellAt log k) where

@@ -7,6 +7,10 @@ use mathlib.Core.Bool.{true, false, cond, not, _&&_}
 use lib.Dec.{eqb}
 use lib.Count.{onesIn, ones, ones-step, ones-le}
 use borrow.Author.Tests.{eqb-true, eqb-false, eq-eqb, ne-eqb}
+use Rattle.model.specs.declared.Answer.{Answer}
+use Rattle.model.specs.declared.Lock.{Lock}
+use Rattle.model.specs.Effects.{valueOf}
+use Rattle.model.specs.InTheWay.{TellsOthers}
 use Rattle.model.specs.Search.{tally}
 use Rattle.model.specs.Readers.{odd, member, assign, withReader, withoutReader, otherReaders}
 use Rattle.model.proofs.Laws.{assign-over, tally-first, tally-same}
@@ -55,12 +59,16 @@ ones-join (suc s) x =
     omega (arith, digit (assign (x / 2) s true), digit (assign (x / 2) s false), ones-join s (x / 2))
 
 -- of a set of k + 1 digits at most k others
-pub others-most : (k s x : ℕ) → s ≤ k → x < 2 ^ suc k → otherReaders s x ≤ k
+others-most : (k s x : ℕ) → s ≤ k → x < 2 ^ suc k → otherReaders s x ≤ k
 unfolding otherReaders assign
 others-most k zero x l h = omega (arith, ones-digit (x / 2) 0 (omega arith), ones-le k (x / 2) (omega (arith, h)))
 others-most zero (suc s) x l h = absurd (omega arith)
 others-most (suc k) (suc s) x l h =
     omega (arith, ones-digit (assign (x / 2) s false) (x % 2) (omega arith), others-most k s (x / 2) (omega arith) (omega (arith, h)))
+
+-- so what an answer tells of the others, where there are some
+pub others-told : (l : Lock) (s : ℕ) (a : Answer) → s < 16 → valueOf a ≡ otherReaders s (l .readers) → (otherReaders s (l .readers) ≡ 0 → ⊥) → TellsOthers l s a
+others-told l s a lt q n h = (q, omega (arith, q, n), λ r. omega (arith, q, others-most 15 s (l .readers) (omega arith) r))
 
 -- so that count is one exactly where there are no others
 pub alone-count : (s x : ℕ) → eqb (ones (withReader s x)) 1 ≡ eqb (otherReaders s x) 0

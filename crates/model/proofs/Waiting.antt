@@ -33,7 +33,7 @@ use Rattle.model.proofs.Passing.{choose, guarded}
 use Rattle.model.proofs.Preservation.{inside-wrote}
 use Rattle.model.proofs.Roles.{holds, owns, flip}
 use Rattle.model.proofs.Runs.{inv-fresh, Ready, ready, inv-run}
-use Rattle.model.proofs.Sets.{others-most, others-tally}
+use Rattle.model.proofs.Sets.{others-told, others-tally}
 use Rattle.model.proofs.Tools.{split, same, test, which, clash}
 use Rattle.model.proofs.View.{look, written, target}
 
@@ -101,7 +101,7 @@ module _ (σ : Store) (s : ℕ) where
 pub waits-for-others : (σ : Store) (s : ℕ) → WaitsForOthers σ s
 waits-for-others σ s h =
     let w = waited σ s h in
-    (w .cell, w .due, λ _. (w .others, omega (arith, w .others, w .more), λ r. omega (arith, w .others, others-most 15 s (lockAt (σ .lent .locks) (w .cell) .readers) (omega (arith, w .low)) r)))
+    (w .cell, w .due, others-told (lockAt (σ .lent .locks) (w .cell)) s (answerOf (Advance s) σ) (w .low) (w .others) (w .more))
 
 -- ---- of what a list of actions leaves
 
