@@ -12,16 +12,16 @@ use Rattle.model.specs.Buffers.{Buffers, ours, Store, idle, size, withSession, 
 use Rattle.model.specs.Effects.{number, valueOf, recordOf, logOf, answer, planEffect}
 use Rattle.model.specs.Plans.{require, admit, guard, known, claimed, newCell, readSlot, readPlan, holdSlot, holdPlan, sealTarget, sealPlan, plan}
 use Rattle.model.specs.Step.{Outcome, answerOf, planOf, effect, sessionOf, TakesRecord}
-use Rattle.model.specs.declared.Answer.{Answer}
-use Rattle.model.specs.declared.Answer.the-variants.{Done, Value, Sealed, Moved, Waiting, Committed, Refused}
-use Rattle.model.specs.declared.Call.{Call}
-use Rattle.model.specs.declared.Call.the-variants.{Begin, Read, Seal, Hold}
-use Rattle.model.specs.declared.Lock.{Lock}
-use Rattle.model.specs.declared.Plan.{Plan}
-use Rattle.model.specs.declared.Plan.the-variants.{Refuse, Enter, EnterMark}
-use Rattle.model.specs.declared.Session.{Session}
-use Rattle.model.specs.declared.SessionReply.{SessionReply}
-use Rattle.model.proofs.Answer as answers
+use Rattle.records.specs.declared.Answer.{Answer}
+use Rattle.records.specs.declared.Answer.the-variants.{Done, Value, Sealed, Moved, Waiting, Committed, Refused}
+use Rattle.records.specs.declared.Call.{Call}
+use Rattle.records.specs.declared.Call.the-variants.{Begin, Read, Seal, Hold}
+use Rattle.records.specs.declared.Lock.{Lock}
+use Rattle.records.specs.declared.Plan.{Plan}
+use Rattle.records.specs.declared.Plan.the-variants.{Refuse, Enter, EnterMark}
+use Rattle.records.specs.declared.Session.{Session}
+use Rattle.records.specs.declared.SessionReply.{SessionReply}
+use Rattle.records.proofs.Answer as answers
 use Rattle.model.proofs.Laws.{session-same}
 use Rattle.model.proofs.Tables.{goes-by-ours}
 use Rattle.model.proofs.Tools.{split, which, clash}

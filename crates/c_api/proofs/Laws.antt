@@ -4,13 +4,13 @@ use mathlib.Core.Path.{_≡_, sym, ap, _∙_}
 use Rattle.model.specs.Buffers.{Buffers, Limits, Store, sessionAt, withSession}
 use Rattle.model.specs.Effects.{number, valueOf, shown}
 use Rattle.model.specs.Step.{Outcome, outcome, effect, sessionOf, TakesUnder, GoesBy, TakesRecord}
-use Rattle.model.specs.declared.Answer.{Answer}
-use Rattle.model.specs.declared.Session.{Session}
-use Rattle.model.specs.declared.Sessions.{Sessions}
-use Rattle.model.specs.declared.SessionReply.{SessionReply}
-use Rattle.model.specs.declared.Call.{Call}
-use Rattle.model.specs.declared.Plan.{Plan}
-use Rattle.model.specs.declared.Plan.the-variants.{Refuse, ShowStore, ShowLog}
+use Rattle.records.specs.declared.Answer.{Answer}
+use Rattle.records.specs.declared.Session.{Session}
+use Rattle.records.specs.declared.Sessions.{Sessions}
+use Rattle.records.specs.declared.SessionReply.{SessionReply}
+use Rattle.records.specs.declared.Call.{Call}
+use Rattle.records.specs.declared.Plan.{Plan}
+use Rattle.records.specs.declared.Plan.the-variants.{Refuse, ShowStore, ShowLog}
 use Rattle.c_api.specs.declared.NumberReply.{NumberReply}
 use Rattle.c_api.specs.InNumbers.{numbersOf, replied, inNumbers, at, placeOf}
 

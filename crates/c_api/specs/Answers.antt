@@ -1,8 +1,8 @@
 -- Which answers a begin, a read, a hold and a seal give, for the inner functions that turn these into numbers. Nothing here is part of what a call promises.
 use Prim.Native.Nat.{ℕ}
 use mathlib.Core.Bool.{Bool, true, false}
-use Rattle.model.specs.declared.Answer.{Answer}
-use Rattle.model.specs.declared.Answer.the-variants.{Done, Value, Sealed, Moved, Waiting, Committed, Refused}
+use Rattle.records.specs.declared.Answer.{Answer}
+use Rattle.records.specs.declared.Answer.the-variants.{Done, Value, Sealed, Moved, Waiting, Committed, Refused}
 
 -- the number of a refusal, 0 of any other answer
 abbrev pub refusalOf : Answer → ℕ

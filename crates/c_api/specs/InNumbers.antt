@@ -16,12 +16,12 @@ use Rattle.model.specs.Effects.{number, valueOf, Part, storeWord, logWord, noWo
 use Rattle.model.specs.Step.{Outcome, effect, setUpEffect, peekShows, sessionOf, GoesBy}
 use Rattle.model.specs.Load.{loadEffect}
 use Rattle.model.specs.ManyReads.{ReadsOutcome, readManyEffect}
-use Rattle.model.specs.declared.Answer.{Answer}
-use Rattle.model.specs.declared.Call.{Call}
-use Rattle.model.specs.declared.Session.{Session}
-use Rattle.model.specs.declared.Sessions.{Sessions}
-use Rattle.model.specs.declared.SessionReply.{SessionReply}
-use Rattle.store.specs.Lent.{before, afterwards}
+use Rattle.records.specs.declared.Answer.{Answer}
+use Rattle.records.specs.declared.Call.{Call}
+use Rattle.records.specs.declared.Session.{Session}
+use Rattle.records.specs.declared.Sessions.{Sessions}
+use Rattle.records.specs.declared.SessionReply.{SessionReply}
+use Rattle.locks.specs.Lent.{before, afterwards}
 use Rattle.c_api.specs.declared.NumberReply.{NumberReply}
 use Rattle.c_api.specs.declared.SetUpReply.{SetUpReply}
 

@@ -3,16 +3,16 @@ mod fields;
 
 ghost use mathlib.Core.Path.{_≡_};
 ghost use mathlib.Core.Bool.{true};
-ghost use Rattle.model.specs.declared.Call.the-variants.{Begin, Read, Write, Seal, Advance, Abandon, Peek, Hold};
+ghost use Rattle.records.specs.declared.Call.the-variants.{Begin, Read, Write, Seal, Advance, Abandon, Peek, Hold};
 ghost use Rattle.many_reads.specs.Lent.{ReadsMany};
 ghost use Rattle.c_api.specs.InNumbers.{SetsUpInNumbers, SetsUpInNumbersBy, LoadsInNumbers, TakesInNumbers, TakesInNumbersBy, TellsPlace, numbersOf};
 ghost use Rattle.c_api.specs.Answers.{refusalOf, ofBegin, ofRead, ofSeal};
-use model::Answer;
-use model::Plan;
-use model::ReadManyReply;
-use model::Session;
-use model::SessionReply;
-use model::Sessions;
+use records::Answer;
+use records::Plan;
+use records::ReadManyReply;
+use records::Session;
+use records::SessionReply;
+use records::Sessions;
 
 // A call's answer as document 01's number and value, and the record that it hands back.
 #[repr(C)]
@@ -134,7 +134,7 @@ pub extern "C" fn rukkanei_set_up(
 ) -> SetUpReply
     ensures { λ r. ⌜ SetsUpInNumbers values classes readers claimants exclusives logs sessions r ⌝ }
 {
-    let reply = store::set_up(
+    let reply = set_up::set_up(
         sessions,
         values,
         classes,
@@ -166,7 +166,7 @@ pub extern "C" fn rukkanei_set_up_with_caps(
 ) -> SetUpReply
     ensures { λ r. ⌜ SetsUpInNumbersBy caps values classes readers claimants exclusives logs sessions r ⌝ }
 {
-    let reply = store::set_up_with_caps(
+    let reply = set_up::set_up_with_caps(
         sessions,
         values,
         classes,

@@ -11,10 +11,10 @@ use lib.Dec.{T, leb, ltb, eqb}
 use Rattle.model.specs.Buffers.{free, entryAt, slotIn, cap}
 use Rattle.model.specs.Plans
 use Rattle.model.specs.Plans.{newCell, claimed, recordFits, guard, readSlot, readPlan, holdSlot, holdPlan, writeSlot, writeCapped, writePlan}
-use Rattle.model.specs.declared.Session.{Session}
-use Rattle.model.specs.declared.Lock.{Lock}
-use Rattle.model.specs.declared.Plan.{Plan}
-use Rattle.model.specs.declared.Plan.the-variants.{Refuse, Tell, Enter, Update, EnterUpdate, Mark, EnterMark, RollBack}
+use Rattle.records.specs.declared.Session.{Session}
+use Rattle.records.specs.declared.Lock.{Lock}
+use Rattle.records.specs.declared.Plan.{Plan}
+use Rattle.records.specs.declared.Plan.the-variants.{Refuse, Tell, Enter, Update, EnterUpdate, Mark, EnterMark, RollBack}
 use Rattle.model.proofs.Tools.{test, which}
 use Rattle.log.proofs.Targets.{slot-some}
 use Rattle.locks.proofs.Tags.{tag, Passed, Passes, passed, clashes}

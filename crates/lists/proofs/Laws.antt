@@ -5,12 +5,12 @@ use Prim.Native.Nat.{ℕ, _%_}
 use Rattle.model.specs.Buffers.{Locks, Buffers, Limits, ours, sessionAt, withSession, lockAt}
 use Rattle.model.specs.Plans.{plan}
 use Rattle.model.specs.Step.{outcome, effect, sessionOf, GoesBy, TakesRecord}
-use Rattle.model.specs.declared.Session.{Session}
-use Rattle.model.specs.declared.Lock.{Lock}
-use Rattle.model.specs.declared.Sessions.{Sessions}
-use Rattle.model.specs.declared.Call.{Call}
-use Rattle.model.specs.declared.Turn.{Turn}
-use Rattle.model.specs.declared.Reply.{Reply}
+use Rattle.records.specs.declared.Session.{Session}
+use Rattle.records.specs.declared.Lock.{Lock}
+use Rattle.records.specs.declared.Sessions.{Sessions}
+use Rattle.records.specs.declared.Call.{Call}
+use Rattle.records.specs.declared.Turn.{Turn}
+use Rattle.records.specs.declared.Reply.{Reply}
 use Rattle.turns.specs.AnyCall.{cellFor, planWith}
 use Rattle.turns.proofs.AnyCall.{one-lock}
 

@@ -1,11 +1,11 @@
 // Any call of a list, on the records of all sixteen sessions and the locks as number slices: for the replay, and for code that has a `Call` in hand.
 // It calls the functions that the calls on one record do (crate store), as the call's kind says.
 ghost use mathlib.Core.Path.{_≡_};
-ghost use Rattle.store.specs.Lent.{Takes};
-use model::Answer;
-use model::Call;
-use model::Reply;
-use model::Sessions;
+ghost use Rattle.locks.specs.Lent.{Takes};
+use records::Answer;
+use records::Call;
+use records::Reply;
+use records::Sessions;
 
 // One call of a list: the record of its session is taken out of the sixteen, and the one handed back put in its place.
 pub fn step(
@@ -27,9 +27,9 @@ pub fn step(
     let c = claimants.len();
     let m = exclusives.len();
     let w = logs.len();
-    if !calls::admits(n, k, r, c, m, w, session) {
+    if !refusals::admits(n, k, r, c, m, w, session) {
         return Reply {
-            answer: Answer::Refused(calls::admit(n, k, r, c, m, w, session)),
+            answer: Answer::Refused(refusals::admit(n, k, r, c, m, w, session)),
             sessions,
         };
     }

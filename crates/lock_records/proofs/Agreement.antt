@@ -7,10 +7,10 @@ use Prim.Native.Nat.{ℕ}
 use Rattle.model.specs.Buffers.{Locks, Limits, Store}
 use Rattle.model.specs.Load.{loadEffect}
 use Rattle.model.specs.Step.{Outcome, outcome, effect, setUpEffect, planOf}
-use Rattle.model.specs.declared.Lock.{Lock}
-use Rattle.model.specs.declared.Sessions.{Sessions}
-use Rattle.model.specs.declared.Answer.{Answer}
-use Rattle.model.specs.declared.Call.{Call}
+use Rattle.records.specs.declared.Lock.{Lock}
+use Rattle.records.specs.declared.Sessions.{Sessions}
+use Rattle.records.specs.declared.Answer.{Answer}
+use Rattle.records.specs.declared.Call.{Call}
 use Rattle.lock_records.specs.Run.{unzipped, storeOn}
 use Rattle.lock_records.specs.Forms.{zipped, OutcomeIn}
 

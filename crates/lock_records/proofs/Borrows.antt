@@ -23,10 +23,10 @@ use denote.Ref.{RefT, now}
 use denote.Slice.{ShrSlice, Room, sliceVal, slice-vals}
 use Rattle.model.specs.Buffers.{Limits}
 use Rattle.model.specs.Step.{outcome, effect, GoesBy}
-use Rattle.model.specs.declared.Lock.{Lock}
-use Rattle.model.specs.declared.Sessions.{Sessions}
-use Rattle.model.specs.declared.Reply.{Reply}
-use Rattle.model.specs.declared.Call.{Call}
+use Rattle.records.specs.declared.Lock.{Lock}
+use Rattle.records.specs.declared.Sessions.{Sessions}
+use Rattle.records.specs.declared.Reply.{Reply}
+use Rattle.records.specs.declared.Call.{Call}
 use Rattle.lock_records.specs.Run.{storeOn}
 use Rattle.lock_records.proofs.Numbers.{rows, spell}
 use Rattle.lock_records.proofs.Row.{R, RS, low-s}

@@ -8,15 +8,16 @@ use Rattle.model.specs.Load.{loadEffect}
 use Rattle.model.specs.Plans.{plan, writePlan}
 use Rattle.model.specs.Step.{outcome, planOf}
 use Rattle.model.specs.Turns.{leaves, turnOf}
-use Rattle.model.specs.declared.Session.{Session}
-use Rattle.model.specs.declared.Sessions.{Sessions}
-use Rattle.model.specs.declared.Lock.{Lock}
-use Rattle.model.specs.declared.Plan.{Plan}
-use Rattle.model.specs.declared.Turn.{Turn as CallTurn}
-use Rattle.model.specs.declared.Answer.{Answer}
-use Rattle.model.specs.declared.Answer.the-variants.{Refused}
-use Rattle.model.specs.declared.Call.the-variants.{Write}
-use Rattle.calls.specs.Pieces.{admission, WriteDecided}
+use Rattle.records.specs.declared.Session.{Session}
+use Rattle.records.specs.declared.Sessions.{Sessions}
+use Rattle.records.specs.declared.Lock.{Lock}
+use Rattle.records.specs.declared.Plan.{Plan}
+use Rattle.records.specs.declared.Turn.{Turn as CallTurn}
+use Rattle.records.specs.declared.Answer.{Answer}
+use Rattle.records.specs.declared.Answer.the-variants.{Refused}
+use Rattle.records.specs.declared.Call.the-variants.{Write}
+use Rattle.refusals.specs.Pieces.{admission}
+use Rattle.calls.specs.Pieces.{WriteDecided}
 use Rattle.turns.specs.InLogs.{inLogs}
 use Rattle.turns.specs.Loads.{Lends}
 use Rattle.turns.proofs.Lengths

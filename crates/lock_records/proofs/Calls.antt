@@ -25,7 +25,7 @@ use denote.Triple.Statement.{Contract}
 use denote.Triple.Clauses.{ensured, lasts}
 use denote.Triple.Spec.{tripleOf}
 use denote.Triple.Walked.{says}
-use Rattle.model.specs.declared.Lock.{Lock}
+use Rattle.records.specs.declared.Lock.{Lock}
 use Rattle.lock_records.specs.declared.Change.{Change}
 use Rattle.lock_records.specs.Run.{lockIn, SessionFits, ChangeFits, changedAt, sweptBy}
 use Rattle.lock_records.proofs.Row.{R, RC, low-c, makes-c}

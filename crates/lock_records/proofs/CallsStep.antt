@@ -22,9 +22,9 @@ use denote.Steps.{nothing, owned, heard}
 use denote.Triple.Statement.{Contract}
 use denote.Triple.Clauses.{ensured, lasts}
 use denote.Triple.Spec.{tripleOf}
-use Rattle.model.specs.declared.Lock.{Lock}
-use Rattle.model.specs.declared.Reply.{Reply}
-use Rattle.model.specs.declared.Call.{Call}
+use Rattle.records.specs.declared.Lock.{Lock}
+use Rattle.records.specs.declared.Reply.{Reply}
+use Rattle.records.specs.declared.Call.{Call}
 use Rattle.lock_records.proofs.Row.{R, RS, low-s, makes-s, RA, RK, makes-k}
 use Rattle.lock_records.proofs.Borrows.{Borrows, κsOf, qsOf, Leaves, Sound, Classes, Tokens}
 use Rattle.lock_records.proofs.step as step

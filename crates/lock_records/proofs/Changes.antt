@@ -9,9 +9,9 @@ use lib.ListN.{length, getD, set, drop, length-set, replicate, drop-of-length-le
 use Rattle.model.specs.Buffers.{free, logIn, cellAt, publishesIn, lockAt, setLock, onLock, sweep, join, leave, vacate, withdraw, claim, acquire}
 use Rattle.model.specs.Effects.{rolledBack, readsDropped}
 use Rattle.model.specs.Turns.{changed}
-use Rattle.model.specs.declared.Lock.{Lock}
-use Rattle.model.specs.declared.Change.{Change as LockChange}
-use Rattle.model.specs.declared.Change.the-variants as to
+use Rattle.records.specs.declared.Lock.{Lock}
+use Rattle.records.specs.declared.Change.{Change as LockChange}
+use Rattle.records.specs.declared.Change.the-variants as to
 use Rattle.model.proofs.Tools.{test}
 use Rattle.locks.specs.Changes.{ChangeFits as Fits}
 use Rattle.lock_records.specs.declared.Change.the-variants.{Withdraw, Leave, Clear}

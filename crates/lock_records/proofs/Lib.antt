@@ -1,14 +1,12 @@
 pub mod Again
 pub mod Lent
 pub mod Row
-pub mod Numbers
-pub mod Borrows
 pub mod Leave
 pub mod Short
 pub mod Calls
+pub mod Numbers
+pub mod Borrows
 pub mod CallsStep
-pub mod Filled
-pub mod Counted
 pub mod Changes
 pub mod OnRun
 pub mod ByTable

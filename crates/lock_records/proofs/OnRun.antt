@@ -10,17 +10,17 @@ use Rattle.model.specs.Buffers.{Limits, ours, free, idle, sessionAt, withSessio
 use Rattle.model.specs.Plans.{plan, tableFits}
 use Rattle.model.specs.Step.{planOf, sessionOf}
 use Rattle.model.specs.Turns.{TurnEffect, leaves, turnOf, changed}
-use Rattle.model.specs.declared.Session.{Session}
-use Rattle.model.specs.declared.Sessions.{Sessions}
-use Rattle.model.specs.declared.Lock.{Lock}
-use Rattle.model.specs.declared.Turn.{Turn as CallTurn}
-use Rattle.model.specs.declared.Answer.the-variants.{Refused}
-use Rattle.model.specs.declared.Plan.{Plan}
-use Rattle.model.specs.declared.Plan.the-variants.{Refuse}
-use Rattle.model.specs.declared.Call.{Call}
+use Rattle.records.specs.declared.Session.{Session}
+use Rattle.records.specs.declared.Sessions.{Sessions}
+use Rattle.records.specs.declared.Lock.{Lock}
+use Rattle.records.specs.declared.Turn.{Turn as CallTurn}
+use Rattle.records.specs.declared.Answer.the-variants.{Refused}
+use Rattle.records.specs.declared.Plan.{Plan}
+use Rattle.records.specs.declared.Plan.the-variants.{Refuse}
+use Rattle.records.specs.declared.Call.{Call}
 use Rattle.model.proofs.Tables.{goes-fits, goes-plan}
 use Rattle.locks.specs.Changes.{ChangeFits as Fits}
-use Rattle.calls.specs.Pieces.{admission}
+use Rattle.refusals.specs.Pieces.{admission}
 use Rattle.turns.specs.AnyCall.{cellFor, planWith}
 use Rattle.turns.specs.InLogs.{inLogs}
 use Rattle.turns.proofs.Fitting.{call-fits}

@@ -18,22 +18,21 @@ use denote.Steps.{only}
 use denote.Struct.Laws as LL
 use denote.Enum.Laws as EL
 use Rattle.model.specs.Buffers.{free}
-use Rattle.model.specs.declared.Lock.{Lock}
-use Rattle.model.specs.declared.Sessions.{Sessions}
-use Rattle.model.specs.declared.Reply.{Reply}
+use Rattle.records.specs.declared.Lock.{Lock}
+use Rattle.records.specs.declared.Sessions.{Sessions}
+use Rattle.records.specs.declared.Reply.{Reply}
 use Rattle.lock_records.specs.declared.Turn.{Turn}
-use Rattle.model.proofs.Sessions as S
-use Rattle.model.proofs.Sessions.Laws as S′
-use Rattle.model.proofs.Reply as A
-use Rattle.model.proofs.Reply.Laws as A′
-use Rattle.model.specs.declared.Call.{Call}
-use Rattle.model.specs.declared.Call.the-variants.{Read, Write, Seal, Advance, Abandon, Hold}
-use Rattle.model.proofs.Call as K
-use Rattle.model.proofs.Call.Laws as K′
+use Rattle.records.proofs.Sessions as S
+use Rattle.records.proofs.Sessions.Laws as S′
+use Rattle.records.proofs.Reply as A
+use Rattle.records.proofs.Reply.Laws as A′
+use Rattle.records.specs.declared.Call.{Call}
+use Rattle.records.proofs.Call as K
+use Rattle.records.proofs.Call.Laws as K′
 use Rattle.lock_records.proofs.Turn as U
 use Rattle.lock_records.proofs.Turn.Laws as U′
-use Rattle.model.proofs.Lock as T
-use Rattle.model.proofs.Lock.Laws as T′
+use Rattle.records.proofs.Lock as T
+use Rattle.records.proofs.Lock.Laws as T′
 use Rattle.lock_records.specs.declared.Change.{Change}
 use Rattle.lock_records.specs.declared.Change.the-variants.{Keep, Join, Claim, Acquire, Vacate, Withdraw, Leave, Clear}
 use Rattle.lock_records.specs.Run.{SessionFits, ChangeFits}
@@ -186,22 +185,3 @@ module _ {M : Type 1} (𝓤 : URA M) (H : Heap 𝓤) (A₀ : Atoms 𝓤) where
 
   pub typed-k : (W : Given 𝓤 H A₀) (d : Call) (v : Val) → Is RK d (v ∷ []) → T (hasTy K′.mir v) × WT v
   typed-k W d v p = EL.lawful K.the-type K′.the-laws 𝓤 H A₀ W tt .typed d (v ∷ []) p .0
-
--- a call whose numbers fit is one
-pub read-is : (s c : ℕ) → s < 2 ^ 8 → c < 2 ^ 32 → Is RK (Read s c) (low-k (Read s c) ∷ [])
-read-is s c fs fc = EL.owes K.the-type K′.the-laws (Read s c) ((refl, fs), ((refl, fc), tt))
-
-pub hold-is : (s c : ℕ) → s < 2 ^ 8 → c < 2 ^ 32 → Is RK (Hold s c) (low-k (Hold s c) ∷ [])
-hold-is s c fs fc = EL.owes K.the-type K′.the-laws (Hold s c) ((refl, fs), ((refl, fc), tt))
-
-pub write-is : (s c v : ℕ) → s < 2 ^ 8 → c < 2 ^ 32 → v < 2 ^ 32 → Is RK (Write s c v) (low-k (Write s c v) ∷ [])
-write-is s c v fs fc fv = EL.owes K.the-type K′.the-laws (Write s c v) ((refl, fs), ((refl, fc), ((refl, fv), tt)))
-
-pub seal-is : (s : ℕ) → s < 2 ^ 8 → Is RK (Seal s) (low-k (Seal s) ∷ [])
-seal-is s fs = EL.owes K.the-type K′.the-laws (Seal s) ((refl, fs), tt)
-
-pub advance-is : (s : ℕ) → s < 2 ^ 8 → Is RK (Advance s) (low-k (Advance s) ∷ [])
-advance-is s fs = EL.owes K.the-type K′.the-laws (Advance s) ((refl, fs), tt)
-
-pub abandon-is : (s : ℕ) → s < 2 ^ 8 → Is RK (Abandon s) (low-k (Abandon s) ∷ [])
-abandon-is s fs = EL.owes K.the-type K′.the-laws (Abandon s) ((refl, fs), tt)

@@ -6,9 +6,9 @@ use Prim.Native.Nat.{ℕ, _≤_}
 use native.Mathlib.Omega.{arith}
 use lib.ListN.{length, replicate, length-replicate}
 use Rattle.model.specs.Buffers.{Limits, free, idle, hasCaps, passes, allFit, lengthsMatch, lengthsFit}
-use Rattle.model.specs.declared.Sessions.{Sessions}
-use Rattle.model.specs.declared.Lock.{Lock}
-use Rattle.model.specs.declared.Answer.the-variants.{Done, Refused}
+use Rattle.records.specs.declared.Sessions.{Sessions}
+use Rattle.records.specs.declared.Lock.{Lock}
+use Rattle.records.specs.declared.Answer.the-variants.{Done, Refused}
 use Rattle.turns.proofs.Lengths.{Lengths, lengths-of, match-is}
 use Rattle.turns.proofs.SetUp.{set-7, set-16, set-8, set-done}
 use Rattle.lock_records.specs.declared.Change.the-variants.{Clear}

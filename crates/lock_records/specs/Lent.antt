@@ -7,10 +7,10 @@ use denote.Triple.Both.{Both}
 use Rattle.model.specs.Buffers.{Limits, ours, Store}
 use Rattle.model.specs.Load.{loadEffect}
 use Rattle.model.specs.Step.{outcome, effect, setUpEffect, peekShows, GoesBy}
-use Rattle.model.specs.declared.Lock.{Lock}
-use Rattle.model.specs.declared.Sessions.{Sessions}
-use Rattle.model.specs.declared.Reply.{Reply}
-use Rattle.model.specs.declared.Call.{Call}
+use Rattle.records.specs.declared.Lock.{Lock}
+use Rattle.records.specs.declared.Sessions.{Sessions}
+use Rattle.records.specs.declared.Reply.{Reply}
+use Rattle.records.specs.declared.Call.{Call}
 use Rattle.model.specs.Slices.{Slice, capsBefore, capsAfter, IsPart}
 use Rattle.lock_records.specs.Run.{storeOn}
 

@@ -10,14 +10,14 @@ use Rattle.model.specs.Load.{loadEffect}
 use Rattle.model.specs.Plans.{require}
 use Rattle.model.specs.Slices.{Slice, capsBefore, IsPart}
 use Rattle.model.specs.Step.{outcome, effect, setUpEffect, planOf, sessionOf, peekShows, GoesBy}
-use Rattle.model.specs.declared.Sessions.{Sessions}
-use Rattle.model.specs.declared.Lock.{Lock}
-use Rattle.model.specs.declared.Reply.{Reply}
-use Rattle.model.specs.declared.Answer.{Answer}
-use Rattle.model.specs.declared.Plan.{Plan}
-use Rattle.model.specs.declared.Call.{Call}
-use Rattle.model.specs.declared.Call.the-variants.{Write, Peek}
-use Rattle.calls.specs.Pieces.{admission}
+use Rattle.records.specs.declared.Sessions.{Sessions}
+use Rattle.records.specs.declared.Lock.{Lock}
+use Rattle.records.specs.declared.Reply.{Reply}
+use Rattle.records.specs.declared.Answer.{Answer}
+use Rattle.records.specs.declared.Plan.{Plan}
+use Rattle.records.specs.declared.Call.{Call}
+use Rattle.records.specs.declared.Call.the-variants.{Write, Peek}
+use Rattle.refusals.specs.Pieces.{admission}
 use Rattle.turns.specs.AnyCall.{cellFor}
 use Rattle.lock_records.specs.declared.Change.the-variants.{Keep}
 use Rattle.lock_records.specs.declared.Turn.{Turn}
@@ -50,12 +50,6 @@ abbrev pub IsTurn : Call → List ℕ → List ℕ → ℕ → Lock → List ℕ
 IsTurn call values classes m l logs sessions values′ logs′ r =
     (G : Limits) → GoesBy call G
     → IsTurnUnder G call (lookOf call sessions (length values) (length classes) m logs) values classes m l logs sessions values′ logs′ r
-
--- r is the reply of such a call that leaves the run, the values and the logs as they are: n values, k classes, m locks
-abbrev pub IsReply : Call → ℕ → ℕ → ℕ → List ℕ → Sessions → Reply → Type 0
-IsReply call n k m logs sessions r =
-    (G : Limits) → GoesBy call G → (values classes : List ℕ) (L : List Lock) → length values ≡ n → length classes ≡ k → length L ≡ m
-    → outcome (r .answer) (storeOn G values classes L logs (r .sessions)) ≡ effect call (storeOn G values classes L logs sessions)
 
 -- set-up, under the limits G
 abbrev pub IsSetUpTurn : Limits → List ℕ → List ℕ → ℕ → List ℕ → Sessions → List ℕ → Turn → Type 0

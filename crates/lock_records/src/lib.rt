@@ -4,17 +4,17 @@ ghost use mathlib.Core.Path.{_≡_};
 ghost use Prim.Native.Nat.{_<_, _≤_};
 ghost use lib.ListN.{length};
 ghost use Rattle.model.specs.Buffers.{logIn, cellAt};
-ghost use Rattle.model.specs.declared.Call.the-variants.{Begin, Read, Write, Seal, Advance, Abandon, Peek, Hold};
+ghost use Rattle.records.specs.declared.Call.the-variants.{Write};
 ghost use Rattle.lock_records.specs.declared.Change.the-variants.{Leave};
 ghost use Rattle.lock_records.specs.Run.{lockIn, countOf, cellOf, changeOf, changedAt, sweptBy, SessionFits, ChangeFits, onRun};
-ghost use Rattle.lock_records.specs.Turns.{onlyAnswer, lookOf, IsReply, IsPeekPlan, IsPeekPart, TakesOnRun, WritesOnRun, SetsUpTurn, SetsUpTurnBy, LoadsOnRun};
+ghost use Rattle.lock_records.specs.Turns.{onlyAnswer, lookOf, IsPeekPlan, IsPeekPart, TakesOnRun, WritesOnRun, SetsUpTurn, SetsUpTurnBy, LoadsOnRun};
 ghost use Rattle.lock_records.specs.Lent.{Takes, TakesBy, SetsUp, SetsUpBy, Loads, HandsBack};
-use model::Answer;
-use model::Call;
-use model::Lock;
-use model::Plan;
-use model::Reply;
-use model::Sessions;
+use records::Answer;
+use records::Call;
+use records::Lock;
+use records::Plan;
+use records::Reply;
+use records::Sessions;
 
 // ---- a change of the run
 
@@ -61,7 +61,7 @@ fn unpublished_cell(logs: &[u32], session: u8, m: u8, i: usize) -> usize
 {
     let log = log::of_session(logs, session);
     let cell = log::cell_at(log, i);
-    let k = log::find(log, m as usize, cell);
+    let k = look_ups::find(log, m as usize, cell);
     if log::publishes(log, k) {
         return 1024;
     }
@@ -179,14 +179,14 @@ fn set_up_turn(
     ensures { λ r. ⌜ SetsUpTurn values classes locks logs sessions r ⌝ }
 {
     let n = values.len();
-    if !calls::lengths_fit(n, classes.len(), locks, locks, locks, logs.len()) {
+    if !refusals::lengths_fit(n, classes.len(), locks, locks, locks, logs.len()) {
         return only_answer(sessions, Answer::Refused(7));
     }
-    if !calls::all_fit(values, classes) {
+    if !caps::all_fit(values, classes) {
         return only_answer(sessions, Answer::Refused(8));
     }
     log::clear_words(logs);
-    let idle = model::all_idle();
+    let idle = records::all_idle();
     let reply = Reply {
         answer: Answer::Done,
         sessions: idle,
@@ -212,17 +212,17 @@ fn set_up_turn_by(
         return only_answer(sessions, Answer::Refused(7));
     }
     let n = values.len();
-    if !calls::lengths_fit(n, classes.len(), locks, locks, locks, logs.len()) {
+    if !refusals::lengths_fit(n, classes.len(), locks, locks, locks, logs.len()) {
         return only_answer(sessions, Answer::Refused(7));
     }
-    if !calls::caps_pass(caps) {
+    if !caps::caps_pass(caps) {
         return only_answer(sessions, Answer::Refused(16));
     }
-    if !calls::all_fit_by(caps, values, classes) {
+    if !caps::all_fit_by(caps, values, classes) {
         return only_answer(sessions, Answer::Refused(8));
     }
     log::clear_words(logs);
-    let idle = model::all_idle();
+    let idle = records::all_idle();
     let reply = Reply {
         answer: Answer::Done,
         sessions: idle,
@@ -247,7 +247,7 @@ fn look_up(
     ensures { λ r. ⌜ r ≡ lookOf call sessions n classes locks (now (logs .entry)) ⌝ }
 {
     let session = call.session();
-    if calls::admit(n, classes, locks, locks, locks, logs.len(), session) != 0 {
+    if refusals::admit(n, classes, locks, locks, locks, logs.len(), session) != 0 {
         return 0;
     }
     let x = sessions.records[session as usize];
@@ -255,17 +255,17 @@ fn look_up(
 }
 
 // A turn's change as one of the run.
-fn on_run(change: model::Change, session: u8, count: u8) -> Change
+fn on_run(change: records::Change, session: u8, count: u8) -> Change
     ensures { λ r. ⌜ r ≡ onRun change session count ⌝ }
 {
     match change {
-        model::Change::Keep => Change::Keep,
-        model::Change::Join(c) => Change::Join(session, c),
-        model::Change::Claim(c) => Change::Claim(session, c),
-        model::Change::Acquire(c) => Change::Acquire(session, c),
-        model::Change::Vacate(c) => Change::Vacate(session, c),
-        model::Change::Withdraw => Change::Withdraw(session, count),
-        model::Change::DropReads => Change::Leave(session, count),
+        records::Change::Keep => Change::Keep,
+        records::Change::Join(c) => Change::Join(session, c),
+        records::Change::Claim(c) => Change::Claim(session, c),
+        records::Change::Acquire(c) => Change::Acquire(session, c),
+        records::Change::Vacate(c) => Change::Vacate(session, c),
+        records::Change::Withdraw => Change::Withdraw(session, count),
+        records::Change::DropReads => Change::Leave(session, count),
     }
 }
 
@@ -282,7 +282,7 @@ fn take_turn(
     ensures { λ r. ⌜ TakesOnRun call values classes locks l logs sessions r ⌝ }
 {
     let session = call.session();
-    let refusal = calls::admit(
+    let refusal = refusals::admit(
         values.len(),
         classes.len(),
         locks,
@@ -326,7 +326,7 @@ fn write_turn(
     if caps.len() != 16 {
         return only_answer(sessions, Answer::Refused(7));
     }
-    let refusal = calls::admit(
+    let refusal = refusals::admit(
         values.len(),
         classes.len(),
         locks,
@@ -340,7 +340,7 @@ fn write_turn(
     }
     let i = session as usize;
     let x = sessions.records[i];
-    let p = calls::write_plan_by(
+    let p = plans::write_plan_by(
         caps,
         log::of_session(logs, session),
         classes,
@@ -388,34 +388,7 @@ fn load_turn(
     Reply { answer, sessions }
 }
 
-// ---- the calls that leave all that is lent as it is: of the run they are told the count
-
-// Begin.
-fn begin_turn(
-    mut sessions: Sessions,
-    n: usize,
-    classes: usize,
-    locks: usize,
-    logs: &[u32],
-    session: u8,
-) -> Reply
-    ensures { λ r. ⌜ IsReply (Begin session) n classes locks (now (logs .entry)) sessions r ⌝ }
-{
-    let refusal = calls::admit(n, classes, locks, locks, locks, logs.len(), session);
-    if refusal != 0 {
-        return Reply {
-            answer: Answer::Refused(refusal),
-            sessions,
-        };
-    }
-    let i = session as usize;
-    let x = sessions.records[i];
-    let t = calls::take_begin(log::of_session(logs, session), n, x);
-    let y = t.session;
-    let answer = t.answer;
-    sessions.records[i] = y;
-    Reply { answer, sessions }
-}
+// ---- a peek, which leaves all that is lent as it is: of the run it is told the count
 
 // What a peek decides.
 fn peek_plan(
@@ -429,37 +402,12 @@ fn peek_plan(
 ) -> Plan
     ensures { λ r. ⌜ IsPeekPlan n classes locks (now (logs .entry)) sessions session cell r ⌝ }
 {
-    let refusal = calls::admit(n, classes, locks, locks, locks, logs.len(), session);
+    let refusal = refusals::admit(n, classes, locks, locks, locks, logs.len(), session);
     if refusal != 0 {
         return Plan::Refuse(refusal);
     }
     let x = sessions.records[session as usize];
-    calls::peek_plan(log::of_session(logs, session), n, x, cell)
-}
-
-// A peek's number.
-fn peek_turn(
-    sessions: Sessions,
-    n: usize,
-    classes: usize,
-    locks: usize,
-    logs: &[u32],
-    session: u8,
-    cell: u32,
-) -> Reply
-    ensures { λ r. ⌜ IsReply (Peek session cell) n classes locks (now (logs .entry)) sessions r ⌝ }
-{
-    let p = peek_plan(sessions, n, classes, locks, logs, session, cell);
-    if let Plan::Refuse(number) = p {
-        return Reply {
-            answer: Answer::Refused(number),
-            sessions,
-        };
-    }
-    Reply {
-        answer: Answer::Done,
-        sessions,
-    }
+    plans::peek_plan(log::of_session(logs, session), n, x, cell)
 }
 
 // A peek's part.
@@ -544,7 +492,7 @@ pub fn load_caps(
     )
 }
 
-// Any call of a list.
+// Any call: begin, read, write, seal, advance, abandon, hold, or peek's twin, which answers its number.
 pub fn step(
     call: Call,
     sessions: Sessions,
@@ -567,94 +515,6 @@ pub fn step(
     let t = take_turn(call, sessions, values, classes, locks.len(), l, logs);
     sweep(locks, logs, t.change);
     t.reply
-}
-
-// Begin: idle only. The session runs with no entry. 100.
-pub fn begin(
-    sessions: Sessions,
-    values: &[u32],
-    classes: &[u8],
-    locks: &[Lock],
-    logs: &[u32],
-    session: u8,
-) -> Reply
-    ensures { λ r. ⌜ Takes (Begin session) values classes locks logs sessions r ⌝ }
-{
-    begin_turn(
-        sessions,
-        values.len(),
-        classes.len(),
-        locks.len(),
-        logs,
-        session,
-    )
-}
-
-// Read: running only. 101 with a known cell's present value; a new cell is locked and entered, or the session is rolled back, 6.
-pub fn read(
-    sessions: Sessions,
-    values: &mut [u32],
-    classes: &[u8],
-    locks: &mut [Lock],
-    logs: &mut [u32],
-    session: u8,
-    cell: u32,
-) -> Reply
-    ensures { λ r. ⌜ Takes (Read session cell) values classes locks logs sessions r ⌝ }
-{
-    step(
-        Call::Read(session, cell),
-        sessions,
-        values,
-        classes,
-        locks,
-        logs,
-    )
-}
-
-// Hold: running only. As read, and with 101 the cell's entry is held: from the seal on the cell counts as written.
-pub fn hold(
-    sessions: Sessions,
-    values: &mut [u32],
-    classes: &[u8],
-    locks: &mut [Lock],
-    logs: &mut [u32],
-    session: u8,
-    cell: u32,
-) -> Reply
-    ensures { λ r. ⌜ Takes (Hold session cell) values classes locks logs sessions r ⌝ }
-{
-    step(
-        Call::Hold(session, cell),
-        sessions,
-        values,
-        classes,
-        locks,
-        logs,
-    )
-}
-
-// Write: running only. A new cell is locked and entered as by read; then the entry is updated. 100.
-pub fn write(
-    sessions: Sessions,
-    values: &mut [u32],
-    classes: &[u8],
-    locks: &mut [Lock],
-    logs: &mut [u32],
-    session: u8,
-    cell: u32,
-    value: u32,
-) -> Reply
-    ensures { λ r. ⌜ Takes (Write session cell value) values classes locks logs sessions r ⌝ }
-{
-    step(
-        Call::Write(session, cell, value),
-        sessions,
-        values,
-        classes,
-        locks,
-        logs,
-    )
 }
 
 // Write by the table that is handed in, also one that does not pass: 7 where it has not 16 caps, 8 and 4 by it.
@@ -688,62 +548,6 @@ pub fn write_with_caps(
     t.reply
 }
 
-// Seal: running only. The session leaves the readers of each cell entered that it does not publish. 105 where it publishes none, else 102.
-pub fn seal(
-    sessions: Sessions,
-    values: &mut [u32],
-    classes: &[u8],
-    locks: &mut [Lock],
-    logs: &mut [u32],
-    session: u8,
-) -> Reply
-    ensures { λ r. ⌜ Takes (Seal session) values classes locks logs sessions r ⌝ }
-{
-    step(Call::Seal(session), sessions, values, classes, locks, logs)
-}
-
-// Advance: phases 2 to 4. One cell that the session publishes is promoted, published or released. 103, 104 and how many others read, 105, or 6.
-pub fn advance(
-    sessions: Sessions,
-    values: &mut [u32],
-    classes: &[u8],
-    locks: &mut [Lock],
-    logs: &mut [u32],
-    session: u8,
-) -> Reply
-    ensures { λ r. ⌜ Takes (Advance session) values classes locks logs sessions r ⌝ }
-{
-    step(
-        Call::Advance(session),
-        sessions,
-        values,
-        classes,
-        locks,
-        logs,
-    )
-}
-
-// Abandon: phases 1 and 2. The session is rolled back. 100.
-pub fn abandon(
-    sessions: Sessions,
-    values: &mut [u32],
-    classes: &[u8],
-    locks: &mut [Lock],
-    logs: &mut [u32],
-    session: u8,
-) -> Reply
-    ensures { λ r. ⌜ Takes (Abandon session) values classes locks logs sessions r ⌝ }
-{
-    step(
-        Call::Abandon(session),
-        sessions,
-        values,
-        classes,
-        locks,
-        logs,
-    )
-}
-
 // Peek: running only. One word, the store's own or the log's own; no word where the peek is refused.
 pub fn peek<'a>(
     sessions: Sessions,
@@ -759,29 +563,6 @@ pub fn peek<'a>(
     peek_part(
         sessions,
         values,
-        classes.len(),
-        locks.len(),
-        logs,
-        session,
-        cell,
-    )
-}
-
-// Peek's twin: 100 or a refusal.
-pub fn peek_number(
-    sessions: Sessions,
-    values: &[u32],
-    classes: &[u8],
-    locks: &[Lock],
-    logs: &[u32],
-    session: u8,
-    cell: u32,
-) -> Reply
-    ensures { λ r. ⌜ Takes (Peek session cell) values classes locks logs sessions r ⌝ }
-{
-    peek_turn(
-        sessions,
-        values.len(),
         classes.len(),
         locks.len(),
         logs,

@@ -15,10 +15,10 @@ use denote.Array.{Array, each, array-lawful, array-makes}
 use denote.Laws.{Is, Makes}
 use denote.Slice.{Room}
 use denote.Struct.Laws as LL
-use Rattle.model.specs.declared.Lock.{Lock}
-use Rattle.model.specs.declared.Reply.{Reply}
-use Rattle.model.proofs.Lock as T
-use Rattle.model.proofs.Lock.Laws as T′
+use Rattle.records.specs.declared.Lock.{Lock}
+use Rattle.records.specs.declared.Reply.{Reply}
+use Rattle.records.proofs.Lock as T
+use Rattle.records.proofs.Lock.Laws as T′
 use Rattle.lock_records.proofs.Row.{R, makes, RA}
 use Rattle.lock_records_check.specs.declared.RunReply.{RunReply}
 use Rattle.lock_records_check.proofs.RunReply as X

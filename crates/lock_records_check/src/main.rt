@@ -3,11 +3,11 @@
 // It writes each list as the replay does, with a line for a peek's number too; last, whether the two forms agreed throughout.
 ghost use Rattle.lock_records.specs.Lent.{TakesRun, SetsUpRun};
 use libc::STDOUT_FILENO;
-use model::Call;
-use model::Lock;
-use model::Reply;
-use model::Session;
-use model::Sessions;
+use records::Call;
+use records::Lock;
+use records::Reply;
+use records::Session;
+use records::Sessions;
 
 // ---- calls on a run that is an array by value, so that whoever calls them is covered
 
@@ -267,7 +267,7 @@ fn run_both(first: u8) -> bool {
         next: 9,
     }; 16];
     let sessions = Sessions { records };
-    let a = store::set_up(
+    let a = set_up::set_up(
         sessions,
         &values,
         &classes,

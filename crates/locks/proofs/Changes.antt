@@ -10,14 +10,14 @@ use Rattle.model.specs.Buffers.{Locks, lockAt, setLock, onLock, join, claim, ac
 use Rattle.model.specs.Effects.{rolledBack, readsDropped}
 use Rattle.model.specs.Readers.{withReader, withoutReader}
 use Rattle.model.specs.Turns.{changed}
-use Rattle.model.specs.declared.Lock.{Lock}
-use Rattle.model.specs.declared.Plan.{Plan}
-use Rattle.model.specs.declared.Plan.the-variants.{Enter, EnterUpdate, EnterMark}
-use Rattle.model.specs.declared.Change.{Change}
-use Rattle.model.specs.declared.Change.the-variants.{Keep, Join, Claim, Acquire, Vacate, Withdraw, DropReads}
+use Rattle.records.specs.declared.Lock.{Lock}
+use Rattle.records.specs.declared.Plan.{Plan}
+use Rattle.records.specs.declared.Plan.the-variants.{Enter, EnterUpdate, EnterMark}
+use Rattle.records.specs.declared.Change.{Change}
+use Rattle.records.specs.declared.Change.the-variants.{Keep, Join, Claim, Acquire, Vacate, Withdraw, DropReads}
 use Rattle.locks.specs.Sweeps.{locksOf, Swept, DropsReads}
 use Rattle.locks.specs.Changes.{LockFor, oneOf, withdrawOf, dropOf, ChangeFits, DropsIf}
-use Rattle.model.proofs.Change as change
+use Rattle.records.proofs.Change as change
 use Rattle.locks.proofs.Tags.{Passed, passed, clashes}
 
 -- ---- the lock of a plan

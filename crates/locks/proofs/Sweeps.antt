@@ -13,7 +13,7 @@ use Rattle.model.specs.Buffers.{Locks, cellAt, entryAt, slotIn, lookIn, publish
 use Rattle.model.specs.Effects.{rolledBack}
 use Rattle.model.specs.Readers.{withoutReader}
 use Rattle.model.specs.Search.{some?, orElse, find}
-use Rattle.model.specs.declared.Lock.{Lock}
+use Rattle.records.specs.declared.Lock.{Lock}
 use Rattle.model.proofs.Laws.{Long, lock-sweep, leave-leave}
 use Rattle.model.proofs.Tools.{same, test, which, clash, orElse-none}
 use Rattle.log.proofs.Searches.{find-here, find-up}

@@ -7,8 +7,8 @@ use lib.Dec.{T, T-not, eqb, eqb-refl}
 use types.Run.{OneOf, miss}
 use mir.Val.{hasKey}
 use denote.Enum.Declared.{tagOf}
-use Rattle.model.specs.declared.Plan.{Plan}
-use Rattle.model.proofs.Plan as plan
+use Rattle.records.specs.declared.Plan.{Plan}
+use Rattle.records.proofs.Plan as plan
 
 abbrev pub tag : Plan → ℕ
 tag p = tagOf plan.the-type p

@@ -7,11 +7,11 @@ use denote.Ref.{now}
 use Rattle.model.specs.Buffers.{Locks, lockAt}
 use Rattle.model.specs.Slices.{Slice}
 use Rattle.model.specs.Turns.{changed}
-use Rattle.model.specs.declared.Lock.{Lock}
-use Rattle.model.specs.declared.Plan.{Plan}
-use Rattle.model.specs.declared.Plan.the-variants.{Enter, EnterUpdate, EnterMark}
-use Rattle.model.specs.declared.Change.{Change}
-use Rattle.model.specs.declared.Change.the-variants.{Keep, Join, Claim, Acquire, Vacate, Withdraw, DropReads}
+use Rattle.records.specs.declared.Lock.{Lock}
+use Rattle.records.specs.declared.Plan.{Plan}
+use Rattle.records.specs.declared.Plan.the-variants.{Enter, EnterUpdate, EnterMark}
+use Rattle.records.specs.declared.Change.{Change}
+use Rattle.records.specs.declared.Change.the-variants.{Keep, Join, Claim, Acquire, Vacate, Withdraw, DropReads}
 use Rattle.locks.specs.Sweeps.{locksOf, locksBefore, locksAfter, Swept}
 
 -- l is the lock of the cell that a plan enters

@@ -9,9 +9,9 @@ ghost use Rattle.model.specs.Readers.{withReader, withoutReader, otherReaders};
 ghost use Rattle.model.specs.Buffers.{cellAt, publishes, lockAt, setLock, onLock, join, leave, vacate, withdraw, claim, acquire};
 ghost use Rattle.locks.specs.Sweeps.{Swept, DropsReads, DroppedSoFar, NonePublished, marked, mark, locksBefore, locksAfter, RollsBack, DropsAt};
 ghost use Rattle.locks.specs.Changes.{LockFor, oneOf, ChangeFits, ChangesOne, Withdraws, CarriesOut, DropsIf};
-use model::Change;
-use model::Lock;
-use model::Plan;
+use records::Change;
+use records::Lock;
+use records::Plan;
 
 // ---- reader sets
 

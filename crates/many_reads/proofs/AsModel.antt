@@ -12,9 +12,9 @@ use Rattle.model.specs.Buffers.{Limits, Buffers, Store}
 use Rattle.model.specs.Effects.{number}
 use Rattle.model.specs.ManyReads.{Reads, reads}
 use Rattle.model.specs.Step.{step, answerOf}
-use Rattle.model.specs.declared.Sessions.{Sessions}
-use Rattle.model.specs.declared.Answer.{Answer}
-use Rattle.model.specs.declared.Call.the-variants.{Read}
+use Rattle.records.specs.declared.Sessions.{Sessions}
+use Rattle.records.specs.declared.Answer.{Answer}
+use Rattle.records.specs.declared.Call.the-variants.{Read}
 use Rattle.model.proofs.Tools.{test}
 use Rattle.turns.proofs.Lengths.{Admitted}
 use Rattle.many_reads.specs.Cells.{Fits, CellRead, readCell, CellsRead, readCells}

@@ -13,14 +13,14 @@ use Rattle.model.specs.Effects.{number, valueOf, answer, after, rolledBack}
 use Rattle.model.specs.Plans.{recordFits, entriesFit, guard, known, claimed, newCell, readSlot, readPlan, plan}
 use Rattle.model.specs.Readers.{withReader}
 use Rattle.model.specs.Step.{planOf, step, answerOf}
-use Rattle.model.specs.declared.Session.{Session}
-use Rattle.model.specs.declared.Sessions.{Sessions}
-use Rattle.model.specs.declared.Lock.{Lock}
+use Rattle.records.specs.declared.Session.{Session}
+use Rattle.records.specs.declared.Sessions.{Sessions}
+use Rattle.records.specs.declared.Lock.{Lock}
 use Rattle.model.specs.Turns.{changed}
-use Rattle.model.specs.declared.Change.the-variants.{Join}
-use Rattle.model.specs.declared.Call.the-variants.{Read}
-use Rattle.model.specs.declared.Plan.{Plan}
-use Rattle.model.specs.declared.Plan.the-variants.{Refuse, Tell, Enter, RollBack}
+use Rattle.records.specs.declared.Change.the-variants.{Join}
+use Rattle.records.specs.declared.Call.the-variants.{Read}
+use Rattle.records.specs.declared.Plan.{Plan}
+use Rattle.records.specs.declared.Plan.the-variants.{Refuse, Tell, Enter, RollBack}
 use Rattle.model.proofs.Carried.{over}
 use Rattle.model.proofs.Laws.{log-same, length-on}
 use Rattle.model.proofs.Tools.{test, which}

@@ -14,7 +14,7 @@ use Rattle.model.proofs.Carried.{length-appended}
 use Rattle.model.proofs.Laws.{appended-below}
 use Rattle.model.proofs.Tools.{split, test, which}
 use Rattle.log.specs.Slots.{found}
-use Rattle.calls.proofs.Ways.{found-here, found-nowhere}
+use Rattle.refusals.proofs.Ways.{found-here, found-nowhere}
 use Rattle.turns.proofs.Logs.{cut, puts, cut-is, puts-is}
 use Rattle.many_reads.specs.Cells.{Fits, Covers, CellRead, cellRead, newRead, slotRead, readCell, CellsRead, cellsRead, readCells, cellsInLogs}
 use Rattle.many_reads.specs.declared.CellReply.{CellReply}

@@ -13,18 +13,18 @@ use Rattle.model.specs.Effects.{number, answer, after, rolledBack}
 use Rattle.model.specs.ManyReads.{reads, listRefusal, readMany, readManyEffect, TakesReads}
 use Rattle.model.specs.Plans.{recordFits, readPlan, plan}
 use Rattle.model.specs.Step.{planOf, step, answerOf}
-use Rattle.model.specs.declared.Session.{Session}
-use Rattle.model.specs.declared.Sessions.{Sessions}
-use Rattle.model.specs.declared.Answer.the-variants.{Done}
-use Rattle.model.specs.declared.Call.the-variants.{Read}
-use Rattle.model.specs.declared.Plan.the-variants.{Refuse}
-use Rattle.model.specs.declared.ReadManyReply.{ReadManyReply}
+use Rattle.records.specs.declared.Session.{Session}
+use Rattle.records.specs.declared.Sessions.{Sessions}
+use Rattle.records.specs.declared.Answer.the-variants.{Done}
+use Rattle.records.specs.declared.Call.the-variants.{Read}
+use Rattle.records.specs.declared.Plan.the-variants.{Refuse}
+use Rattle.records.specs.declared.ReadManyReply.{ReadManyReply}
 use Rattle.model.proofs.Carried.{same-log, same-record}
 use Rattle.model.proofs.Laws.{log-length, log-same}
 use Rattle.model.proofs.Tools.{test, both-l, both-r}
-use Rattle.calls.specs.Pieces.{admission, tested}
+use Rattle.refusals.specs.Pieces.{admission, tested}
 use Rattle.model.proofs.Passing.{record-entries}
-use Rattle.calls.proofs.Ways.{passes, run-passes, run-refused}
+use Rattle.refusals.proofs.Ways.{passes, run-passes, run-refused}
 use Rattle.locks.specs.Sweeps.{locksOf, Swept}
 use Rattle.turns.proofs.Lengths.{Admitted, plan-refused-by}
 use Rattle.turns.proofs.Whole.{is-plan}

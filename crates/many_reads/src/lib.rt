@@ -10,8 +10,8 @@ ghost use Rattle.model.specs.ManyReads.{listRefusal};
 ghost use Rattle.log.specs.Slots.{found};
 ghost use Rattle.many_reads.specs.Lent.{ReadsMany};
 ghost use Rattle.many_reads.specs.Cells.{Covers, Enters, ReadsCell, ReadsCells, ReadsIn, Fits};
-use model::ReadManyReply;
-use model::Session;
+use records::ReadManyReply;
+use records::Session;
 
 // ---- the cells in the log
 
@@ -36,7 +36,7 @@ fn slot_of(log: &[u32], count: usize, entered: &[u64; 16], cell: u32) -> usize
     if !locks::is_marked(entered, cell) {
         return count;
     }
-    let place = log::locate(log, count, cell);
+    let place = look_ups::locate(log, count, cell);
     place.slot
 }
 
@@ -257,14 +257,14 @@ pub fn read_many(
     let c = claimants.len();
     let m = exclusives.len();
     let w = logs.len();
-    if !calls::admits(n, k, r, c, m, w, session) {
-        return refused(calls::admit(n, k, r, c, m, w, session) as u32, x);
+    if !refusals::admits(n, k, r, c, m, w, session) {
+        return refused(refusals::admit(n, k, r, c, m, w, session) as u32, x);
     }
     let phase = x.phase;
     let count = x.count as usize;
-    if !calls::runs(log::of_session(&logs[..], session), n, x) {
+    if !refusals::runs(log::of_session(&logs[..], session), n, x) {
         return refused(
-            calls::tests(log::of_session(&logs[..], session), n, x, phase == 1) as u32,
+            refusals::tests(log::of_session(&logs[..], session), n, x, phase == 1) as u32,
             x,
         );
     }

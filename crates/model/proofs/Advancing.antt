@@ -9,8 +9,8 @@ use lib.Dec.{leb, eqb}
 use lib.ListN.{length, getD, set, length-set}
 use lib.Seq.{getD-set-same, getD-set-other}
 use borrow.Author.Tests.{eq-eqb, ne-eqb, leb-true, leb-false, le-leb, lt-leb}
-use Rattle.model.specs.declared.Session.{Session}
-use Rattle.model.specs.declared.Lock.{Lock}
+use Rattle.records.specs.declared.Session.{Session}
+use Rattle.records.specs.declared.Lock.{Lock}
 use Rattle.model.specs.Buffers.{Locks, Store, idle, moveTo, cellAt, slotIn, publishes, isPublished, publishesIn, targetIn, currentOf, lockAt, onLock, vacate, claim, acquire}
 use Rattle.model.specs.Isolation.{at}
 use Rattle.model.specs.Readers.{member, otherReaders}

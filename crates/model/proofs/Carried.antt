@@ -9,9 +9,9 @@ use Rattle.model.specs.Buffers.{Store, sessionAt, withSession, logIn, on
 use Rattle.model.specs.Effects.{answer, after, logOf, recordOf}
 use Rattle.model.specs.Step.{outcome}
 use Rattle.model.specs.Turns.{turnOf, changed, carried}
-use Rattle.model.specs.declared.Sessions.{Sessions}
-use Rattle.model.specs.declared.Plan.{Plan}
-use Rattle.model.specs.declared.Plan.the-variants.{Refuse, Start, Tell, Enter, Update, EnterUpdate, Mark, EnterMark, RollBack, Cancel, CommitReads, BeginPromotion, Wait, Acquire, Publish, Release, ShowStore, ShowLog}
+use Rattle.records.specs.declared.Sessions.{Sessions}
+use Rattle.records.specs.declared.Plan.{Plan}
+use Rattle.records.specs.declared.Plan.the-variants.{Refuse, Start, Tell, Enter, Update, EnterUpdate, Mark, EnterMark, RollBack, Cancel, CommitReads, BeginPromotion, Wait, Acquire, Publish, Release, ShowStore, ShowLog}
 use Rattle.model.proofs.Laws.{log-length, log-same}
 
 -- a log, and a record, put back as it was

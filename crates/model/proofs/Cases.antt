@@ -5,11 +5,11 @@ use mathlib.Core.Bool.{Bool, _&&_}
 use mathlib.Core.List.{List, [], _∷_, map}
 use lib.Dec.{ltb, eqb}
 use lib.ListN.{length, replicate, length-append, length-replicate}
-use Rattle.model.specs.declared.Call.{Call}
-use Rattle.model.specs.declared.Call.the-variants.{Write}
-use Rattle.model.specs.declared.Answer.the-variants.{Done, Refused}
-use Rattle.model.specs.declared.Plan.{Plan}
-use Rattle.model.specs.declared.Plan.the-variants.{Refuse}
+use Rattle.records.specs.declared.Call.{Call}
+use Rattle.records.specs.declared.Call.the-variants.{Write}
+use Rattle.records.specs.declared.Answer.the-variants.{Done, Refused}
+use Rattle.records.specs.declared.Plan.{Plan}
+use Rattle.records.specs.declared.Plan.the-variants.{Refuse}
 use Rattle.model.specs.Buffers.{Buffers, Store, size, lockAt, ourCaps, hasCaps, passes, allFit, lengthsMatch, lengthsFit}
 use Rattle.model.specs.Plans.{require, plan, tableFits}
 use Rattle.model.specs.Computing.{computing}

@@ -9,7 +9,7 @@ use mathlib.Core.List.{List, [], _∷_, reverse}
 use lib.Dec.{eqb}
 use lib.ListN.{length, getD}
 use borrow.Author.Tests.{eq-eqb}
-use Rattle.model.specs.declared.Answer.{Answer}
+use Rattle.records.specs.declared.Answer.{Answer}
 use Rattle.model.specs.Buffers.{Store, fresh}
 use Rattle.model.specs.CommitOrder.{NewestFirst, ByCommit, valueAfter, ReadsInOrder, CoversReads, CoveredInOrder, ReadsByHolds, NonePublishing, InCommitOrder}
 use Rattle.model.specs.Effects.{number}

@@ -6,7 +6,7 @@ use mathlib.Core.Bool.{true, _&&_}
 use mathlib.Core.List.{List, [], _∷_, reverse}
 use lib.ListN.{length, take}
 use lib.Seq.{take-append-seam}
-use Rattle.model.specs.declared.Answer.{Answer}
+use Rattle.records.specs.declared.Answer.{Answer}
 use Rattle.model.specs.Buffers.{Store, hasCaps, passes, allFit, lengthsFit, fresh}
 use Rattle.model.specs.History.{Action, oneCall, manyReads, loadCaps, Event, readsEvent, run, events, Item}
 use Rattle.model.specs.Isolation.{Demand3, Ran, none, then, thenMany, thenLoad, Demand3OfCode}

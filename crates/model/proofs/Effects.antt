@@ -7,9 +7,9 @@ use mathlib.Core.Option.{Option, none, some}
 use mathlib.Core.List.{List, [], _∷_}
 use lib.ListN.{length, getD}
 use lib.Seq.{sets, length-sets}
-use Rattle.model.specs.declared.Session.{Session}
-use Rattle.model.specs.declared.Lock.{Lock}
-use Rattle.model.specs.declared.Call.the-variants.{Write, Hold}
+use Rattle.records.specs.declared.Session.{Session}
+use Rattle.records.specs.declared.Lock.{Lock}
+use Rattle.records.specs.declared.Call.the-variants.{Write, Hold}
 use Rattle.model.specs.Buffers.{Locks, Store, idle, running, withEntry, Entry, word, cellAt, entryAt, slotIn, entryOf, lookIn, foundOf, appended, withDirty, withHeld, updated, marked, lockAt, onLock, join, withdraw, onLog}
 use Rattle.model.specs.Isolation.{at}
 use Rattle.model.specs.Readers.{odd}

@@ -8,7 +8,7 @@ use mathlib.Core.List.{List, [], _∷_, _++_}
 use lib.Dec.{leb}
 use lib.ListN.{length, getD}
 use borrow.Author.Tests.{lt-ltb, le-ltb}
-use Rattle.model.specs.declared.Session.{Session}
+use Rattle.records.specs.declared.Session.{Session}
 use Rattle.model.specs.Buffers.{Store, Entry, isDirty, publishes, isPublished, currentOf, lockAt}
 use Rattle.model.specs.Load.{withCaps}
 use Rattle.model.specs.Isolation.{All, Holds}

@@ -10,9 +10,9 @@ use lib.Dec.{ltb, eqb}
 use lib.ListN.{length, getD, set, take, drop, length-set, length-append, length-drop, take-append-drop}
 use lib.Seq.{sets, set-getD, getD-set-same, getD-set-other, length-take-le, take-append-seam, drop-append-seam, take-append-le, drop-append-le, drop-append-add}
 use borrow.Author.Tests.{eqb-true, eq-eqb, ne-eqb, lt-ltb, ltb-true, ltb-false}
-use Rattle.model.specs.declared.Session.{Session}
-use Rattle.model.specs.declared.Sessions.{Sessions}
-use Rattle.model.specs.declared.Lock.{Lock}
+use Rattle.records.specs.declared.Session.{Session}
+use Rattle.records.specs.declared.Sessions.{Sessions}
+use Rattle.records.specs.declared.Lock.{Lock}
 use Rattle.model.specs.Buffers.{Locks, idle, sessionAt, withSession, logIn, onLog, word, cellAt, entryAt, slotIn, entryOf, lookIn, appended, withDirty, withHeld, marked, lockAt, setLock, onLock, sweep, leave, vacate, withdraw}
 use Rattle.model.specs.Isolation.{at}
 use Rattle.model.specs.Readers.{odd, assign}

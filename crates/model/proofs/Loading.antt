@@ -3,8 +3,8 @@ use Prim.Native.Nat.{ℕ}
 use mathlib.Core.Path.{_≡_}
 use mathlib.Core.Bool.{true, _&&_}
 use mathlib.Core.List.{List}
-use Rattle.model.specs.declared.Answer.{Answer}
-use Rattle.model.specs.declared.Answer.the-variants.{Done, Refused}
+use Rattle.records.specs.declared.Answer.{Answer}
+use Rattle.records.specs.declared.Answer.the-variants.{Done, Refused}
 use Rattle.model.specs.Buffers.{Store, hasCaps, passes, allFit, lengthsFit}
 use Rattle.model.specs.Load.{allIdle, allClassed, loadRefusal, withCaps, loadAnswer, load}
 use Rattle.model.proofs.Tools.{test}

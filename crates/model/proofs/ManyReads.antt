@@ -9,9 +9,9 @@ use mathlib.Core.List.{List, [], _∷_, _++_, append-nil, append-assoc, reverse-
 use lib.Dec.{ltb, leb, eqb}
 use lib.ListN.{length}
 use borrow.Author.Tests.{eqb-true, lt-ltb, le-ltb, le-leb, lt-leb}
-use Rattle.model.specs.declared.Call.the-variants.{Read}
-use Rattle.model.specs.declared.Answer.{Answer}
-use Rattle.model.specs.declared.Answer.the-variants.{Done, Refused}
+use Rattle.records.specs.declared.Call.the-variants.{Read}
+use Rattle.records.specs.declared.Answer.{Answer}
+use Rattle.records.specs.declared.Answer.the-variants.{Done, Refused}
 use Rattle.model.specs.Buffers.{Store}
 use Rattle.model.specs.Effects.{number, valueOf}
 use Rattle.model.specs.History.{oneCall, asActions, Event, event, tellsOf, run, events}

@@ -6,10 +6,10 @@ use mathlib.Core.Option.{Option, none, some}
 use mathlib.Core.List.{List}
 use lib.Dec.{leb, ltb, eqb}
 use borrow.Author.Tests.{ne-eqb, eqb-true, eqb-false, ltb-true, leb-true, not-true, not-false}
-use Rattle.model.specs.declared.Session.{Session}
-use Rattle.model.specs.declared.Lock.{Lock}
-use Rattle.model.specs.declared.Plan.{Plan}
-use Rattle.model.specs.declared.Plan.the-variants.{Refuse, RollBack}
+use Rattle.records.specs.declared.Session.{Session}
+use Rattle.records.specs.declared.Lock.{Lock}
+use Rattle.records.specs.declared.Plan.{Plan}
+use Rattle.records.specs.declared.Plan.the-variants.{Refuse, RollBack}
 use Rattle.model.specs.Buffers.{Buffers, size, lengthsFit, logIn, cellAt}
 use Rattle.model.specs.Plans.{entriesFit, recordFits, guard, known, claimed, newCell, admit}
 use Rattle.model.specs.Search.{below}

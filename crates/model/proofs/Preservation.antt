@@ -8,12 +8,12 @@ use mathlib.Core.List.{List, [], _∷_, _++_}
 use lib.Dec.{leb, ltb, eqb}
 use lib.ListN.{length, getD}
 use borrow.Author.Tests.{eqb-true, eqb-false, eq-eqb, ne-eqb, leb-true}
-use Rattle.model.specs.declared.Call.{Call}
-use Rattle.model.specs.declared.Call.the-variants.{Begin, Read, Write, Seal, Advance, Abandon, Peek, Hold}
-use Rattle.model.specs.declared.Answer.{Answer}
-use Rattle.model.specs.declared.Answer.the-variants.{Done, Refused}
-use Rattle.model.specs.declared.Plan.{Plan}
-use Rattle.model.specs.declared.Plan.the-variants.{Refuse, Start, Enter, Update, EnterUpdate, Mark, EnterMark, Cancel, Acquire, Publish, Release}
+use Rattle.records.specs.declared.Call.{Call}
+use Rattle.records.specs.declared.Call.the-variants.{Begin, Read, Write, Seal, Advance, Abandon, Peek, Hold}
+use Rattle.records.specs.declared.Answer.{Answer}
+use Rattle.records.specs.declared.Answer.the-variants.{Done, Refused}
+use Rattle.records.specs.declared.Plan.{Plan}
+use Rattle.records.specs.declared.Plan.the-variants.{Refuse, Start, Enter, Update, EnterUpdate, Mark, EnterMark, Cancel, Acquire, Publish, Release}
 use Rattle.model.specs.Buffers.{Store, size, idle, moveTo, Entry, cellAt, entryAt, slotIn, isPublished, targetIn, currentOf, lockAt, cap, hasCaps}
 use Rattle.model.specs.History.{Action, oneCall, manyReads, loadCaps, event, withFound, leaves, eventOf}
 use Rattle.model.specs.Isolation.{All, at}

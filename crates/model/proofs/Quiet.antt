@@ -6,10 +6,10 @@ use mathlib.Core.Path.{_≡_, refl}
 use mathlib.Core.Bool.{true, false, not, _&&_}
 use mathlib.Core.List.{[]}
 use lib.Dec.{ltb, eqb}
-use Rattle.model.specs.declared.Call.{Call}
-use Rattle.model.specs.declared.Call.the-variants.{Peek}
-use Rattle.model.specs.declared.Plan.{Plan}
-use Rattle.model.specs.declared.Plan.the-variants.{Refuse}
+use Rattle.records.specs.declared.Call.{Call}
+use Rattle.records.specs.declared.Call.the-variants.{Peek}
+use Rattle.records.specs.declared.Plan.{Plan}
+use Rattle.records.specs.declared.Plan.the-variants.{Refuse}
 use Rattle.model.specs.Buffers.{Store, size, entryAt, slotIn}
 use Rattle.model.specs.Plans.{peekSlot, guard, known, admit, plan}
 use Rattle.model.specs.Effects.{number, recordOf, logOf, answer, after}

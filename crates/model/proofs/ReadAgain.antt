@@ -9,11 +9,11 @@ use mathlib.Core.List.{List}
 use lib.Dec.{ltb, eqb}
 use lib.ListN.{length, getD, length-set}
 use borrow.Author.Tests.{eqb-true, le-leb, lt-ltb, ltb-true}
-use Rattle.model.specs.declared.Session.{Session}
-use Rattle.model.specs.declared.Call.the-variants.{Read}
-use Rattle.model.specs.declared.Answer.the-variants.{Value}
-use Rattle.model.specs.declared.Plan.{Plan}
-use Rattle.model.specs.declared.Plan.the-variants.{Tell, Enter}
+use Rattle.records.specs.declared.Session.{Session}
+use Rattle.records.specs.declared.Call.the-variants.{Read}
+use Rattle.records.specs.declared.Answer.the-variants.{Value}
+use Rattle.records.specs.declared.Plan.{Plan}
+use Rattle.records.specs.declared.Plan.the-variants.{Tell, Enter}
 use Rattle.model.specs.Buffers.{Store, size, withEntry, cellAt, entryAt, slotIn, appended, lockAt, setLock, onLock, join, lengthsFit}
 use Rattle.model.specs.Effects.{number, recordOf, logOf, answer, after}
 use Rattle.model.specs.Plans.{entriesFit, recordFits, guard, known, newCell, readSlot, plan}

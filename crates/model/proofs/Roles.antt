@@ -6,7 +6,7 @@ use mathlib.Core.Logic.{_⊎_, inl, inr}
 use mathlib.Core.Bool.{Bool, true, false, _||_}
 use lib.Dec.{eqb}
 use borrow.Author.Tests.{eqb-true, eqb-false}
-use Rattle.model.specs.declared.Lock.{Lock}
+use Rattle.records.specs.declared.Lock.{Lock}
 use Rattle.model.specs.Buffers.{join, leave, vacate, withdraw, claim, acquire}
 use Rattle.model.specs.Isolation.{at}
 use Rattle.model.specs.Readers.{member, assign}

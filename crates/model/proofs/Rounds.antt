@@ -1,7 +1,7 @@
 -- Many reads after orders of calls give and leave what they must, by computation over the step definitions.
 use mathlib.Core.Path.{_≡_, refl}
 use mathlib.Core.List.{[], _∷_, map}
-use Rattle.model.specs.declared.Call.the-variants.{Read}
+use Rattle.records.specs.declared.Call.the-variants.{Read}
 use Rattle.model.specs.Computing.{computing}
 use Rattle.model.specs.History.{run}
 use Rattle.model.specs.Rounds.{Found, Round, readFrom, foundOf, stoppedAtClaim, rounds}

@@ -6,7 +6,7 @@ use mathlib.Core.Logic.{inl}
 use mathlib.Core.Bool.{false}
 use mathlib.Core.List.{List, [], _∷_}
 use lib.ListN.{length, getD, replicate, length-replicate}
-use Rattle.model.specs.declared.Session.{Session}
+use Rattle.records.specs.declared.Session.{Session}
 use Rattle.model.specs.Buffers.{Buffers, Limits, Store, size, idle, sessionAt, lockAt, fresh}
 use Rattle.model.specs.History.{Action, actor, tellsOf, eventOf, Item, add, run, events, told, history, transaction}
 use Rattle.model.specs.Isolation.{All}

@@ -7,8 +7,8 @@ use mathlib.Core.Bool.{true, false, cond, not, _&&_}
 use lib.Dec.{eqb}
 use lib.Count.{onesIn, ones, ones-step, ones-le}
 use borrow.Author.Tests.{eqb-true, eqb-false, eq-eqb, ne-eqb}
-use Rattle.model.specs.declared.Answer.{Answer}
-use Rattle.model.specs.declared.Lock.{Lock}
+use Rattle.records.specs.declared.Answer.{Answer}
+use Rattle.records.specs.declared.Lock.{Lock}
 use Rattle.model.specs.Effects.{valueOf}
 use Rattle.model.specs.InTheWay.{TellsOthers}
 use Rattle.model.specs.Search.{tally}

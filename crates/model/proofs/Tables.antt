@@ -5,10 +5,10 @@ use mathlib.Core.Bool.{true, false}
 use mathlib.Core.List.{List}
 use lib.ListN.{length}
 use borrow.Author.Tests.{eq-eqb, ne-eqb}
-use Rattle.model.specs.declared.Session.{Session}
-use Rattle.model.specs.declared.Lock.{Lock}
-use Rattle.model.specs.declared.Call.{Call}
-use Rattle.model.specs.declared.Call.the-variants.{Begin, Read, Write, Seal, Advance, Abandon, Peek, Hold}
+use Rattle.records.specs.declared.Session.{Session}
+use Rattle.records.specs.declared.Lock.{Lock}
+use Rattle.records.specs.declared.Call.{Call}
+use Rattle.records.specs.declared.Call.the-variants.{Begin, Read, Write, Seal, Advance, Abandon, Peek, Hold}
 use Rattle.model.specs.Buffers.{Limits, ours, ourCaps, hasCaps, passes, riseFrom}
 use Rattle.model.specs.Plans.{plan, writePlan, tableFits}
 use Rattle.model.specs.Step.{GoesBy}

@@ -6,10 +6,10 @@ use mathlib.Core.Bool.{true, false, not, _&&_}
 use mathlib.Core.List.{List, [], _∷_}
 use lib.Dec.{ltb, eqb}
 use borrow.Author.Tests.{eqb-true, ne-eqb, ltb-true, not-true}
-use Rattle.model.specs.declared.Call.{Call}
-use Rattle.model.specs.declared.Call.the-variants.{Begin, Read, Write, Seal, Advance, Abandon, Peek, Hold}
-use Rattle.model.specs.declared.Answer.{Answer}
-use Rattle.model.specs.declared.Answer.the-variants.{Refused}
+use Rattle.records.specs.declared.Call.{Call}
+use Rattle.records.specs.declared.Call.the-variants.{Begin, Read, Write, Seal, Advance, Abandon, Peek, Hold}
+use Rattle.records.specs.declared.Answer.{Answer}
+use Rattle.records.specs.declared.Answer.the-variants.{Refused}
 use Rattle.model.specs.Effects.{number, valueOf}
 use Rattle.model.specs.Told.{Told, began, got, put, held, sealed, moved, ended, ending, tells, WhereGot}
 use Rattle.model.proofs.Tools.{split, both-l, both-r}

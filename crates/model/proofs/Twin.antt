@@ -3,10 +3,10 @@ use Prim.Native.Nat.{ℕ}
 use native.Mathlib.Omega.{arith}
 use mathlib.Core.Path.{_≡_, refl}
 use mathlib.Core.Logic.{_⊎_, inl, inr}
-use Rattle.model.specs.declared.Call.the-variants.{Peek}
-use Rattle.model.specs.declared.Answer.the-variants.{Done}
-use Rattle.model.specs.declared.Plan.{Plan}
-use Rattle.model.specs.declared.Plan.the-variants.{Refuse, ShowStore, ShowLog}
+use Rattle.records.specs.declared.Call.the-variants.{Peek}
+use Rattle.records.specs.declared.Answer.the-variants.{Done}
+use Rattle.records.specs.declared.Plan.{Plan}
+use Rattle.records.specs.declared.Plan.the-variants.{Refuse, ShowStore, ShowLog}
 use Rattle.model.specs.Buffers.{Store, entryAt, slotIn}
 use Rattle.model.specs.Plans.{peekSlot, plan}
 use Rattle.model.specs.Effects.{number, recordOf, answer, noWord, shown, logOf}

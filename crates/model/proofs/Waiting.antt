@@ -9,13 +9,13 @@ use mathlib.Core.List.{List, [], _∷_, reverse}
 use lib.Dec.{leb, eqb}
 use lib.ListN.{length, List·getD-eq-default}
 use borrow.Author.Tests.{eq-eqb, ne-eqb, eqb-true, eqb-false, leb-true, not-false}
-use Rattle.model.specs.declared.Answer.{Answer}
-use Rattle.model.specs.declared.Answer.the-variants.{Moved, Committed}
-use Rattle.model.specs.declared.Call.the-variants.{Advance}
-use Rattle.model.specs.declared.Lock.{Lock}
-use Rattle.model.specs.declared.Plan.{Plan}
-use Rattle.model.specs.declared.Plan.the-variants.{Acquire, Wait, Publish, Release}
-use Rattle.model.specs.declared.Session.{Session}
+use Rattle.records.specs.declared.Answer.{Answer}
+use Rattle.records.specs.declared.Answer.the-variants.{Moved, Committed}
+use Rattle.records.specs.declared.Call.the-variants.{Advance}
+use Rattle.records.specs.declared.Lock.{Lock}
+use Rattle.records.specs.declared.Plan.{Plan}
+use Rattle.records.specs.declared.Plan.the-variants.{Acquire, Wait, Publish, Release}
+use Rattle.records.specs.declared.Session.{Session}
 use Rattle.model.specs.Buffers.{Store, size, sessionAt, slotIn, lookIn, entryOf, publishesIn, lockAt, publishes, currentOf, fresh, idle}
 use Rattle.model.specs.Effects.{number, valueOf, recordOf, logOf, answer, isLeft, releaseAnswer}
 use Rattle.model.specs.History.{Action, Item}

@@ -9,9 +9,10 @@ use lib.ListN.{length, getD, set, take, drop, replicate}
 use lib.Seq.{sets}
 use Rattle.model.specs.Search.{find, lowest}
 use Rattle.model.specs.Readers.{odd, withReader, withoutReader}
-use Rattle.model.specs.declared.Session.{Session}
-use Rattle.model.specs.declared.Sessions.{Sessions}
-use Rattle.model.specs.declared.Lock.{Lock}
+use Rattle.records.specs.declared.Session.{Session}
+use Rattle.records.specs.declared.Sessions.{Sessions}
+use Rattle.records.specs.declared.Lock.{Lock}
+pub use Rattle.records.specs.Records.{idle, running, withEntry, withEntries, moveTo}
 
 -- the locks: for each cell a reader set, a claimant and a writer mark, each kind in a list of its own (crate lock_records: as one run of records)
 pub record Locks : Type 0 where
@@ -42,27 +43,11 @@ size B = length (B .values)
 
 -- ---- session records
 
-abbrev pub idle : Session
-idle = record { phase = 0; count = 0; next = 0 }
-
-abbrev pub running : Session
-running = record { phase = 1; count = 0; next = 0 }
-
 unfoldable pub sessionAt : Sessions → ℕ → Session
 sessionAt ss s = getD (ss .records) s idle
 
 unfoldable pub withSession : Sessions → ℕ → Session → Sessions
 withSession ss s x = record { records = set (ss .records) s x }
-
-abbrev pub withEntry : Session → Session
-withEntry x = record { phase = x .phase; count = suc (x .count); next = x .next }
-
--- with k entries in all
-abbrev pub withEntries : ℕ → Session → Session
-withEntries k x = record { phase = x .phase; count = k; next = x .next }
-
-abbrev pub moveTo : ℕ → ℕ → Session → Session
-moveTo phase next x = record { phase = phase; count = x .count; next = next }
 
 -- ---- logs
 

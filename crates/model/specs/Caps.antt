@@ -5,7 +5,7 @@ use mathlib.Core.Path.{_≡_}
 use mathlib.Core.Bool.{true}
 use mathlib.Core.List.{List, [], _∷_}
 use lib.ListN.{getD}
-use Rattle.model.specs.declared.Session.{Session}
+use Rattle.records.specs.declared.Session.{Session}
 use Rattle.model.specs.Buffers.{Store, cap, hasCaps, passes, cellAt, entryAt}
 use Rattle.model.specs.Effects.{recordOf, logOf}
 use Rattle.model.specs.History.{Action, eventOf, tellsOf, run}

@@ -4,10 +4,10 @@
 use Prim.Native.Nat.{ℕ, _+_, _*_, _-_}
 use mathlib.Core.List.{List, [], _∷_, _++_, map}
 use lib.ListN.{length, set, replicate}
-use Rattle.model.specs.declared.Session.{Session}
-use Rattle.model.specs.declared.Call.{Call}
-use Rattle.model.specs.declared.Call.the-variants.{Begin, Read, Write, Seal, Advance, Abandon, Peek, Hold}
-use Rattle.model.specs.declared.Answer.{Answer}
+use Rattle.records.specs.declared.Session.{Session}
+use Rattle.records.specs.declared.Call.{Call}
+use Rattle.records.specs.declared.Call.the-variants.{Begin, Read, Write, Seal, Advance, Abandon, Peek, Hold}
+use Rattle.records.specs.declared.Answer.{Answer}
 use Rattle.model.specs.Buffers.{Store, ours}
 use Rattle.model.specs.Effects.{number, valueOf, Part, storeWord, logWord, noWord, shown}
 use Rattle.model.specs.Step.{sessionOf, planOf, step, answerOf}
@@ -188,11 +188,6 @@ steps =
     (state (session 2 3 1) (entry 0 8 4 1 ++ entry 1 5 6 1 ++ entry 1 5 7 1) (cells 3 5) (cells 15 11) (cells 16 1) (cells 0 0))
     ∷ case (state (session 2 1 0) (entry 0 8 4 1) (cells 3 5) (cells 9 2) (cells 16 16) (cells 0 0)) (Advance 1) 104 2
     (state (session 2 1 0) (entry 0 8 4 1) (cells 3 5) (cells 9 2) (cells 1 16) (cells 0 0))
-    -- fifteen, with the own bit in the set and without it, of a middle session and of the first and the last
-    ∷ unchanged (state (session 2 1 0) (entry 0 8 4 1) (cells 3 5) (cells 65535 6) (cells 7 16) (cells 0 0)) (Advance 7) 104 15
-    ∷ unchanged (state (session 2 1 0) (entry 0 8 4 1) (cells 3 5) (cells 65407 6) (cells 7 16) (cells 0 0)) (Advance 7) 104 15
-    ∷ unchanged (state (session 2 1 0) (entry 1 8 4 1) (cells 3 5) (cells 1 65534) (cells 16 0) (cells 0 0)) (Advance 0) 104 15
-    ∷ unchanged (state (session 2 1 0) (entry 1 8 4 1) (cells 3 5) (cells 1 32767) (cells 16 15) (cells 0 0)) (Advance 15) 104 15
     -- promoted: claimant with mark 1; the lowest cell first, next one above it; after the last phase 3, next 0
     ∷ case (state (session 2 2 0) (entry 1 5 6 1 ++ entry 0 8 4 1) (cells 3 5) (cells 2 6) (cells 16 9) (cells 0 0)) (Advance 1) 103 0
     (state (session 2 2 1) (entry 1 5 6 1 ++ entry 0 8 4 1) (cells 3 5) (cells 2 6) (cells 1 9) (cells 1 0))
@@ -215,6 +210,15 @@ steps =
     (state (session 0 0 0) (entry 0 8 4 1) (cells 3 5) (cells 5 7) (cells 16 1) (cells 0 1))
     -- peek's twin: nothing changes
     ∷ unchanged (state (session 1 1 7) (entry 0 8 4 1) (cells 3 5) (cells 7 6) (cells 9 9) (cells 1 1)) (Peek 1 0) 100 0
+    ∷ []
+
+-- an advance that waits for fifteen, with the own bit in the set and without it, of a middle session and of the first and the last; proved in crate model_claims (Crowds.antt)
+unfoldable pub crowds : List Case
+crowds =
+    unchanged (state (session 2 1 0) (entry 0 8 4 1) (cells 3 5) (cells 65535 6) (cells 7 16) (cells 0 0)) (Advance 7) 104 15
+    ∷ unchanged (state (session 2 1 0) (entry 0 8 4 1) (cells 3 5) (cells 65407 6) (cells 7 16) (cells 0 0)) (Advance 7) 104 15
+    ∷ unchanged (state (session 2 1 0) (entry 1 8 4 1) (cells 3 5) (cells 1 65534) (cells 16 0) (cells 0 0)) (Advance 0) 104 15
+    ∷ unchanged (state (session 2 1 0) (entry 1 8 4 1) (cells 3 5) (cells 1 32767) (cells 16 15) (cells 0 0)) (Advance 15) 104 15
     ∷ []
 
 -- a session in a phase, with nothing entered; with cell 0 written; with 32 entries, all of cell 0, and a claimant of cell 1

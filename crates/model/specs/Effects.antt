@@ -7,33 +7,12 @@ use lib.Dec.{eqb}
 use lib.ListN.{getD, set}
 use Rattle.model.specs.Search.{some?}
 use Rattle.model.specs.Buffers.{Locks, Store, idle, running, sessionAt, withSession, withEntry, moveTo, logIn, onLog, cellAt, publishesIn, targetIn, appended, updated, marked, onLock, sweep, join, leave, vacate, withdraw, claim, acquire}
-use Rattle.model.specs.declared.Session.{Session}
-use Rattle.model.specs.declared.Answer.{Answer}
-use Rattle.model.specs.declared.Answer.the-variants.{Done, Value, Sealed, Moved, Waiting, Committed, Refused}
-use Rattle.model.specs.declared.Plan.{Plan}
-use Rattle.model.specs.declared.Plan.the-variants.{Refuse, Start, Tell, Enter, Update, EnterUpdate, Mark, EnterMark, RollBack, Cancel, CommitReads, BeginPromotion, Wait, Acquire, Publish, Release, ShowStore, ShowLog}
-
--- ---- answers
-
--- 100 done, 101 a value, 102 sealed, 103 moved, 104 waiting, 105 committed; a refusal's own number
-abbrev pub number : Answer → ℕ
-number Done = 100
-number (Value v) = 101
-number Sealed = 102
-number Moved = 103
-number (Waiting k) = 104
-number Committed = 105
-number (Refused k) = k
-
--- 0 except with 101 and 104 (document 02, Paper 6)
-abbrev pub valueOf : Answer → ℕ
-valueOf Done = 0
-valueOf (Value v) = v
-valueOf Sealed = 0
-valueOf Moved = 0
-valueOf (Waiting k) = k
-valueOf Committed = 0
-valueOf (Refused k) = 0
+use Rattle.records.specs.declared.Session.{Session}
+pub use Rattle.records.specs.Records.{number, valueOf}
+use Rattle.records.specs.declared.Answer.{Answer}
+use Rattle.records.specs.declared.Answer.the-variants.{Done, Value, Sealed, Moved, Waiting, Committed, Refused}
+use Rattle.records.specs.declared.Plan.{Plan}
+use Rattle.records.specs.declared.Plan.the-variants.{Refuse, Start, Tell, Enter, Update, EnterUpdate, Mark, EnterMark, RollBack, Cancel, CommitReads, BeginPromotion, Wait, Acquire, Publish, Release, ShowStore, ShowLog}
 
 -- ---- what becomes of locks and records
 

@@ -6,7 +6,7 @@ use mathlib.Core.Path.{_≡_}
 use mathlib.Core.Bool.{cond}
 use mathlib.Core.Option.{Option, none, some}
 use lib.Dec.{eqb}
-use Rattle.model.specs.declared.Call.the-variants.{Read, Hold}
+use Rattle.records.specs.declared.Call.the-variants.{Read, Hold}
 use Rattle.model.specs.Buffers.{Store, slotIn, marked}
 use Rattle.model.specs.Effects.{number, recordOf, logOf, onLogOf}
 use Rattle.model.specs.Step.{Outcome, outcome, effect}

@@ -7,9 +7,9 @@ use mathlib.Core.Bool.{Bool, true, false, not, _&&_, _||_}
 use mathlib.Core.List.{List, [], _∷_}
 use mathlib.Core.Option.{Option, some}
 use lib.Dec.{eqb}
-use Rattle.model.specs.declared.Call.the-variants.{Seal, Advance}
-use Rattle.model.specs.declared.Answer.{Answer}
-use Rattle.model.specs.declared.Lock.{Lock}
+use Rattle.records.specs.declared.Call.the-variants.{Seal, Advance}
+use Rattle.records.specs.declared.Answer.{Answer}
+use Rattle.records.specs.declared.Lock.{Lock}
 use Rattle.model.specs.Search.{some?, tally}
 use Rattle.model.specs.Buffers.{Store, size, slotIn, publishesIn, targetIn, lockAt}
 use Rattle.model.specs.Effects.{number, valueOf, recordOf, logOf}

@@ -7,8 +7,8 @@ use mathlib.Core.Bool.{Bool, true, false, cond}
 use mathlib.Core.List.{List, [], _∷_, reverse}
 use lib.Dec.{leb, eqb}
 use lib.ListN.{length}
-use Rattle.model.specs.declared.Call.{Call}
-use Rattle.model.specs.declared.Answer.{Answer}
+use Rattle.records.specs.declared.Call.{Call}
+use Rattle.records.specs.declared.Answer.{Answer}
 use Rattle.model.specs.Buffers.{Store, lockAt}
 use Rattle.model.specs.History.{Action, oneCall, manyReads, loadCaps, Event, event, withFound, readsEvent, loadEvent, run, events, Item, told, history, Name, transaction, isOpen, wrote, valueWritten, cellsWritten, readsBeforeWriting, valuesFound, snapshot, commit, committed, startingValue}
 use Rattle.model.specs.Load.{loadEffect}

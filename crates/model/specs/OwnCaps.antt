@@ -5,9 +5,9 @@ use mathlib.Core.Bool.{Bool, true, false, cond}
 use mathlib.Core.List.{List, [], _∷_, _++_, map, reverse}
 use lib.Dec.{eqb}
 use lib.ListN.{length, set, replicate, take}
-use Rattle.model.specs.declared.Session.{Session}
-use Rattle.model.specs.declared.Call.{Call}
-use Rattle.model.specs.declared.Call.the-variants.{Begin, Read, Write, Seal, Advance, Abandon, Peek, Hold}
+use Rattle.records.specs.declared.Session.{Session}
+use Rattle.records.specs.declared.Call.{Call}
+use Rattle.records.specs.declared.Call.the-variants.{Begin, Read, Write, Seal, Advance, Abandon, Peek, Hold}
 use Rattle.model.specs.Buffers.{Store, ours}
 use Rattle.model.specs.Cases.{session, Result, result}
 use Rattle.model.specs.Effects.{number, valueOf, logOf}

@@ -3,9 +3,9 @@
 use Prim.Native.Nat.{ℕ}
 use mathlib.Core.List.{List, [], _∷_, _++_, reverse}
 use lib.ListN.{length, replicate, take}
-use Rattle.model.specs.declared.Call.{Call}
-use Rattle.model.specs.declared.Call.the-variants.{Begin, Read, Write, Seal, Advance}
-use Rattle.model.specs.declared.Session.{Session}
+use Rattle.records.specs.declared.Call.{Call}
+use Rattle.records.specs.declared.Call.the-variants.{Begin, Read, Write, Seal, Advance}
+use Rattle.records.specs.declared.Session.{Session}
 use Rattle.model.specs.Buffers.{Locks, Store, withSession, withEntries}
 use Rattle.model.specs.Effects.{number, recordOf, logOf}
 use Rattle.model.specs.History.{asActions, run}

@@ -5,8 +5,8 @@ use mathlib.Core.Bool.{cond}
 use mathlib.Core.List.{List, [], _∷_}
 use lib.Dec.{eqb}
 use lib.ListN.{replicate}
-use Rattle.model.specs.declared.Session.{Session}
-use Rattle.model.specs.declared.Call.the-variants.{Begin, Write}
+use Rattle.records.specs.declared.Session.{Session}
+use Rattle.records.specs.declared.Call.the-variants.{Begin, Write}
 use Rattle.model.specs.Buffers.{Store, ours}
 use Rattle.model.specs.Effects.{number}
 use Rattle.model.specs.Step.{answerOf, setUpAnswer, setUp}

@@ -5,9 +5,9 @@ use mathlib.Core.Path.{_≡_}
 use mathlib.Core.Bool.{cond}
 use mathlib.Core.List.{List, [], _∷_, _++_, reverse}
 use lib.Dec.{eqb}
-use Rattle.model.specs.declared.Call.{Call}
-use Rattle.model.specs.declared.Call.the-variants.{Read}
-use Rattle.model.specs.declared.Answer.{Answer}
+use Rattle.records.specs.declared.Call.{Call}
+use Rattle.records.specs.declared.Call.the-variants.{Read}
+use Rattle.records.specs.declared.Answer.{Answer}
 use Rattle.model.specs.Buffers.{Store}
 use Rattle.model.specs.Effects.{number, valueOf}
 use Rattle.model.specs.History.{Action, asActions, Event, tellsOf}

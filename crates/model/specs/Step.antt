@@ -4,26 +4,17 @@ use Prim.Native.Nat.{ℕ, _%_}
 use mathlib.Core.Bool.{_&&_}
 use lib.Dec.{eqb}
 use Rattle.model.specs.Buffers.{Buffers, Limits, Store, size, sessionAt, withSession, lockAt, ourCaps, hasCaps, passes, allFit, lengthsFit, fresh}
-use Rattle.model.specs.declared.Session.{Session}
-use Rattle.model.specs.declared.Sessions.{Sessions}
-use Rattle.model.specs.declared.Call.{Call}
-use Rattle.model.specs.declared.Call.the-variants.{Begin, Read, Write, Seal, Advance, Abandon, Peek, Hold}
-use Rattle.model.specs.declared.Answer.{Answer}
-use Rattle.model.specs.declared.Answer.the-variants.{Done, Refused}
-use Rattle.model.specs.declared.Plan.{Plan}
-use Rattle.model.specs.declared.Plan.the-variants.{Refuse}
+use Rattle.records.specs.declared.Session.{Session}
+pub use Rattle.records.specs.Records.{sessionOf}
+use Rattle.records.specs.declared.Sessions.{Sessions}
+use Rattle.records.specs.declared.Call.{Call}
+use Rattle.records.specs.declared.Call.the-variants.{Begin, Read, Write, Seal, Advance, Abandon, Peek, Hold}
+use Rattle.records.specs.declared.Answer.{Answer}
+use Rattle.records.specs.declared.Answer.the-variants.{Done, Refused}
+use Rattle.records.specs.declared.Plan.{Plan}
+use Rattle.records.specs.declared.Plan.the-variants.{Refuse}
 use Rattle.model.specs.Plans.{require, admit, plan, tableFits}
 use Rattle.model.specs.Effects.{recordOf, logOf, Part, answer, shown, after}
-
-abbrev pub sessionOf : Call → ℕ
-sessionOf (Begin s) = s
-sessionOf (Read s c) = s
-sessionOf (Write s c v) = s
-sessionOf (Seal s) = s
-sessionOf (Advance s) = s
-sessionOf (Abandon s) = s
-sessionOf (Peek s c) = s
-sessionOf (Hold s c) = s
 
 -- a call's plan in a store: 7 and 1, then the plan of what its session sees
 unfoldable pub planOf : Call → Store → Plan

@@ -9,14 +9,14 @@ use Rattle.model.specs.Slices.{Slice}
 use Rattle.model.specs.Buffers.{Locks, Store, idle, running, withEntry, moveTo, onLog, appended, updated, marked, onLock, join, claim, acquire, vacate}
 use Rattle.model.specs.Effects.{handled, releaseAnswer, rolledBack, readsDropped, change, recordOf}
 use Rattle.model.specs.Step.{Outcome, outcome}
-use Rattle.model.specs.declared.Session.{Session}
-use Rattle.model.specs.declared.Answer.{Answer}
-use Rattle.model.specs.declared.Answer.the-variants as say
-use Rattle.model.specs.declared.Plan.{Plan}
-use Rattle.model.specs.declared.Plan.the-variants.{Refuse, Start, Tell, Enter, Update, EnterUpdate, Mark, EnterMark, RollBack, Cancel, CommitReads, BeginPromotion, Wait, Acquire, Publish, Release, ShowStore, ShowLog}
-use Rattle.model.specs.declared.Change.{Change}
-use Rattle.model.specs.declared.Change.the-variants as to
-use Rattle.model.specs.declared.Turn.{Turn}
+use Rattle.records.specs.declared.Session.{Session}
+use Rattle.records.specs.declared.Answer.{Answer}
+use Rattle.records.specs.declared.Answer.the-variants as say
+use Rattle.records.specs.declared.Plan.{Plan}
+use Rattle.records.specs.declared.Plan.the-variants.{Refuse, Start, Tell, Enter, Update, EnterUpdate, Mark, EnterMark, RollBack, Cancel, CommitReads, BeginPromotion, Wait, Acquire, Publish, Release, ShowStore, ShowLog}
+use Rattle.records.specs.declared.Change.{Change}
+use Rattle.records.specs.declared.Change.the-variants as to
+use Rattle.records.specs.declared.Turn.{Turn}
 
 -- what a turn answers, the values, the log and the record that it leaves, and the change of the locks
 pub record TurnEffect : Type 0 where

@@ -2,10 +2,10 @@
 use Prim.Native.Nat.{ℕ}
 use mathlib.Core.Bool.{Bool, true, false}
 use mathlib.Core.List.{List, [], _∷_, map}
-use Rattle.model.specs.declared.Call.{Call}
-use Rattle.model.specs.declared.Call.the-variants.{Begin, Read, Write, Hold, Seal, Advance, Abandon}
-use Rattle.model.specs.declared.Answer.{Answer}
-use Rattle.model.specs.declared.Answer.the-variants.{Done, Value, Sealed, Moved, Waiting, Committed, Refused}
+use Rattle.records.specs.declared.Call.{Call}
+use Rattle.records.specs.declared.Call.the-variants.{Begin, Read, Write, Hold, Seal, Advance, Abandon}
+use Rattle.records.specs.declared.Answer.{Answer}
+use Rattle.records.specs.declared.Answer.the-variants.{Done, Value, Sealed, Moved, Waiting, Committed, Refused}
 use Rattle.model.specs.Buffers.{Store}
 use Rattle.model.specs.InTheWay.{isInTheWay, othersInTheWay}
 use Rattle.model.specs.Orders.{Row, handed, twoCells}
@@ -31,7 +31,7 @@ eachItsOwn =
     twoCells (Begin 0 ∷ Begin 1 ∷ Begin 2 ∷ Write 0 0 4 ∷ Write 0 1 6 ∷ Write 1 0 3 ∷ Write 1 1 2 ∷ Read 2 1 ∷ Seal 0 ∷ Advance 0 ∷ Seal 1 ∷ Advance 0 ∷ Advance 0 ∷ [])
     (Done ∷ Done ∷ Done ∷ Done ∷ Done ∷ Done ∷ Done ∷ Value 5 ∷ Sealed ∷ Waiting 1 ∷ Sealed ∷ Moved ∷ Waiting 2 ∷ []) (3 ∷ 5 ∷ [])
 
--- all sixteen read the cell, and session 7 waits for the fifteen others
+-- all sixteen read the cell, and session 7 waits for the fifteen others. A set of sixteen takes long to count by computation: crate model_claims proves this one (Crowds.antt)
 unfoldable pub fifteenOthers : Row
 fifteenOthers =
     twoCells (Begin 0 ∷ Begin 1 ∷ Begin 2 ∷ Begin 3 ∷ Begin 4 ∷ Begin 5 ∷ Begin 6 ∷ Begin 7 ∷ Begin 8 ∷ Begin 9 ∷ Begin 10 ∷ Begin 11 ∷ Begin 12 ∷ Begin 13 ∷ Begin 14 ∷ Begin 15
@@ -42,7 +42,7 @@ fifteenOthers =
     ∷ Sealed ∷ Waiting 15 ∷ []) (3 ∷ 5 ∷ [])
 
 unfoldable pub waits : List Row
-waits = threeOthers ∷ holdersCount ∷ eachItsOwn ∷ fifteenOthers ∷ []
+waits = threeOthers ∷ holdersCount ∷ eachItsOwn ∷ []
 
 -- ---- who is in the way, once calls were made on those two cells
 

@@ -8,7 +8,7 @@ use mathlib.Core.Bool.{Bool, true, false, not, _&&_, _||_}
 use mathlib.Core.List.{List, [], _∷_, _++_, reverse}
 use lib.Dec.{leb, eqb}
 use borrow.Author.Tests.{le-leb, leb-true}
-use Rattle.model.specs.declared.Call.the-variants.{Begin, Write, Seal, Advance}
+use Rattle.records.specs.declared.Call.the-variants.{Begin, Write, Seal, Advance}
 use Rattle.model.specs.Anomalies.{lostUpdate, dirtyRead, brokenSnapshot, readAhead, readTogether, foundAs, heldTogether, heldStale}
 use Rattle.model.specs.Computing.{computing, counting}
 use Rattle.model.specs.History.{Action, oneCall, manyReads, asActions, Event, events, Item, told, history, Name, name, transaction, isOpen, wrote, valueWritten, dirtied, snapshot, commit, committed}

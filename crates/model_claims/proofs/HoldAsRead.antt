@@ -8,11 +8,11 @@ use mathlib.Core.List.{List}
 use lib.Dec.{ltb, eqb}
 use lib.ListN.{length, getD}
 use borrow.Author.Tests.{ltb-true}
-use Rattle.model.specs.declared.Call.the-variants.{Read, Hold}
-use Rattle.model.specs.declared.Lock.{Lock}
-use Rattle.model.specs.declared.Plan.{Plan}
-use Rattle.model.specs.declared.Plan.the-variants.{Refuse, Tell, Enter, Mark, EnterMark, RollBack}
-use Rattle.model.specs.declared.Session.{Session}
+use Rattle.records.specs.declared.Call.the-variants.{Read, Hold}
+use Rattle.records.specs.declared.Lock.{Lock}
+use Rattle.records.specs.declared.Plan.{Plan}
+use Rattle.records.specs.declared.Plan.the-variants.{Refuse, Tell, Enter, Mark, EnterMark, RollBack}
+use Rattle.records.specs.declared.Session.{Session}
 use Rattle.model.specs.Buffers.{Store, size, lengthsFit, withEntry, entryAt, slotIn, appended, lockAt}
 use Rattle.model.specs.Effects.{recordOf, logOf, entered, answer, after}
 use Rattle.model.specs.HoldAsRead.{andHeld, HoldsAsRead}

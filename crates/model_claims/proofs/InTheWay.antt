@@ -7,9 +7,9 @@ use mathlib.Core.Bool.{true}
 use mathlib.Core.List.{List, _∷_, reverse}
 use lib.Dec.{eqb}
 use lib.ListN.{length}
-use Rattle.model.specs.declared.Call.the-variants.{Seal}
-use Rattle.model.specs.declared.Plan.{Plan}
-use Rattle.model.specs.declared.Session.{Session}
+use Rattle.records.specs.declared.Call.the-variants.{Seal}
+use Rattle.records.specs.declared.Plan.{Plan}
+use Rattle.records.specs.declared.Session.{Session}
 use Rattle.model.specs.Buffers.{Store, size, idle, moveTo, publishesIn, targetIn, lockAt, fresh}
 use Rattle.model.specs.Effects.{number, recordOf, logOf, answer, after}
 use Rattle.model.specs.History.{Action, oneCall, Item, run}

@@ -13,3 +13,4 @@ pub mod ReadClaims
 pub mod PastTheCount
 pub mod TableUnread
 pub mod HoldAsRead
+pub mod Crowds

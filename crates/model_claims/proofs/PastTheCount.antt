@@ -8,12 +8,12 @@ use mathlib.Core.Option.{Option, none, some}
 use lib.Dec.{leb, eqb}
 use lib.ListN.{set}
 use lib.Seq.{getD-set-other}
-use Rattle.model.specs.declared.Call.{Call}
-use Rattle.model.specs.declared.Call.the-variants.{Begin, Read, Write, Seal, Advance, Abandon, Peek, Hold}
-use Rattle.model.specs.declared.Lock.{Lock}
-use Rattle.model.specs.declared.Plan.{Plan}
-use Rattle.model.specs.declared.Plan.the-variants.{Tell}
-use Rattle.model.specs.declared.Session.{Session}
+use Rattle.records.specs.declared.Call.{Call}
+use Rattle.records.specs.declared.Call.the-variants.{Begin, Read, Write, Seal, Advance, Abandon, Peek, Hold}
+use Rattle.records.specs.declared.Lock.{Lock}
+use Rattle.records.specs.declared.Plan.{Plan}
+use Rattle.records.specs.declared.Plan.the-variants.{Tell}
+use Rattle.records.specs.declared.Session.{Session}
 use Rattle.model.specs.Buffers.{Limits, free, word, cellAt, entryAt, entryOf, slotIn, lookIn, publishesIn, targetIn}
 use Rattle.model.specs.Plans.{entriesFit, recordFits, guard, known, readSlot, readPlan, holdSlot, holdPlan, writeCapped, writePlan, sealPlan, advanceTarget, advancePlan, peekSlot, peekPlan, plan}
 use Rattle.model.specs.Readers.{odd}

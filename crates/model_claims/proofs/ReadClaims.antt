@@ -8,10 +8,10 @@ use mathlib.Core.List.{List, [], _∷_, reverse}
 use lib.Dec.{leb, eqb}
 use lib.ListN.{getD, take}
 use borrow.Author.Tests.{eqb-true, eqb-false, leb-true, ltb-true}
-use Rattle.model.specs.declared.Call.the-variants.{Begin, Read, Write, Seal, Advance, Abandon, Hold}
-use Rattle.model.specs.declared.Answer.the-variants.{Done, Value, Moved, Waiting, Refused}
+use Rattle.records.specs.declared.Call.the-variants.{Begin, Read, Write, Seal, Advance, Abandon, Hold}
+use Rattle.records.specs.declared.Answer.the-variants.{Done, Value, Moved, Waiting, Refused}
 use Rattle.model.specs.Cases.{state, session, storeWith}
-use Rattle.model.specs.declared.Lock.{Lock}
+use Rattle.records.specs.declared.Lock.{Lock}
 use Rattle.model.specs.Buffers.{Store}
 use Rattle.model.specs.Caps.{GotWithin, WithinCaps}
 use Rattle.model.specs.Load.{withCaps}

@@ -1,7 +1,7 @@
 -- The words of demand 3 are what the tables of model/specs/Words.antt say, by computation.
 use mathlib.Core.Path.{_≡_, refl}
 use mathlib.Core.List.{List, [], _∷_, map}
-use Rattle.model.specs.declared.Call.the-variants.{Begin, Seal}
+use Rattle.records.specs.declared.Call.the-variants.{Begin, Seal}
 use Rattle.model.specs.Caps.{capOf}
 use Rattle.model.specs.Computing.{computing, counting}
 use Rattle.model.specs.History.{Action, oneCall, manyReads, startingValue}

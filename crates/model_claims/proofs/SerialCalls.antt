@@ -9,12 +9,12 @@ use mathlib.Core.List.{List, [], _∷_}
 use lib.Dec.{leb, ltb, eqb}
 use lib.ListN.{length, getD}
 use borrow.Author.Tests.{eqb-true, eqb-false, eq-eqb, leb-true, not-true}
-use Rattle.model.specs.declared.Call.{Call}
-use Rattle.model.specs.declared.Call.the-variants.{Begin, Read, Write, Seal, Advance, Abandon, Peek, Hold}
-use Rattle.model.specs.declared.Answer.{Answer}
-use Rattle.model.specs.declared.Answer.the-variants.{Done, Value, Sealed, Moved, Committed, Refused}
-use Rattle.model.specs.declared.Plan.{Plan}
-use Rattle.model.specs.declared.Plan.the-variants.{Refuse, Start, Enter, EnterUpdate, EnterMark, Cancel}
+use Rattle.records.specs.declared.Call.{Call}
+use Rattle.records.specs.declared.Call.the-variants.{Begin, Read, Write, Seal, Advance, Abandon, Peek, Hold}
+use Rattle.records.specs.declared.Answer.{Answer}
+use Rattle.records.specs.declared.Answer.the-variants.{Done, Value, Sealed, Moved, Committed, Refused}
+use Rattle.records.specs.declared.Plan.{Plan}
+use Rattle.records.specs.declared.Plan.the-variants.{Refuse, Start, Enter, EnterUpdate, EnterMark, Cancel}
 use Rattle.model.specs.Buffers.{Store, size, entryAt, slotIn, targetIn, onLog, updated, marked, lockAt, cap, hasCaps}
 use Rattle.model.specs.History.{Action, oneCall, manyReads, loadCaps, actor, Event, event, withFound, readsEvent, loadEvent, tellsOf, eventOf}
 use Rattle.model.specs.Isolation.{All}

@@ -4,9 +4,9 @@ use mathlib.Core.Path.{_≡_, refl, _∙_}
 use mathlib.Core.Bool.{Bool, true, false, cond, _&&_}
 use mathlib.Core.List.{List, [], _∷_, _++_, map, reverse}
 use lib.ListN.{replicate}
-use Rattle.model.specs.declared.Call.the-variants.{Begin, Read, Write, Seal, Advance}
-use Rattle.model.specs.declared.Answer.{Answer}
-use Rattle.model.specs.declared.Answer.the-variants.{Done, Value, Sealed, Moved, Waiting, Committed, Refused}
+use Rattle.records.specs.declared.Call.the-variants.{Begin, Read, Write, Seal, Advance}
+use Rattle.records.specs.declared.Answer.{Answer}
+use Rattle.records.specs.declared.Answer.the-variants.{Done, Value, Sealed, Moved, Waiting, Committed, Refused}
 use Rattle.model.specs.Buffers.{ours, Store, idle}
 use Rattle.model.specs.Computing.{computing, counting}
 use Rattle.model.specs.History.{Action, oneCall, manyReads, asActions, Event, tellsOf, run, events, told}

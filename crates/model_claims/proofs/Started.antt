@@ -6,9 +6,9 @@ use mathlib.Core.Path.{_≡_, refl, subst}
 use mathlib.Core.Bool.{Bool, true, not, _&&_}
 use mathlib.Core.List.{List, [], _∷_, map, reverse}
 use lib.ListN.{length, replicate}
-use Rattle.model.specs.declared.Call.the-variants.{Begin, Read, Write, Seal, Advance}
-use Rattle.model.specs.declared.Answer.{Answer}
-use Rattle.model.specs.declared.Answer.the-variants.{Done, Value, Sealed, Moved, Waiting, Committed}
+use Rattle.records.specs.declared.Call.the-variants.{Begin, Read, Write, Seal, Advance}
+use Rattle.records.specs.declared.Answer.{Answer}
+use Rattle.records.specs.declared.Answer.the-variants.{Done, Value, Sealed, Moved, Waiting, Committed}
 use Rattle.model.specs.Buffers.{ours, Store, idle, fresh}
 use Rattle.model.specs.Computing.{computing, counting}
 use Rattle.model.specs.History.{Action, asActions, Event, run, events, Item, item, history, name, Name, transaction, wrote, readsBeforeWriting, snapshot, commit, committed}

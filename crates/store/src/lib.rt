@@ -1,143 +1,17 @@
-// The store: set-up, the calls and a load of caps, on number slices that the caller lends (document 01, "The steps").
+// The store: the calls and a load of caps, on number slices that the caller lends (document 01, "The steps").
 // A call takes the record of its session and hands it back with its answer. It is admitted (7 and 1), looks up the lock that it needs, takes its turn
 // (crates calls and turns) and carries out what becomes of the locks.
 ghost use mathlib.Core.Path.{_≡_};
-ghost use lib.ListN.{length, replicate};
-ghost use Rattle.model.specs.declared.Answer.the-variants.{Refused};
-ghost use Rattle.model.specs.declared.Call.the-variants.{Begin, Read, Write, Seal, Advance, Abandon, Peek, Hold};
-ghost use Rattle.store.specs.Lent.{TakesOne, TakesOneBy, SetsUp, SetsUpBy, Loads, PeekPlans, HandsBack};
-use model::Answer;
-use model::Plan;
-use model::Reply;
-use model::Session;
-use model::SessionReply;
-use model::Sessions;
-use model::Turn;
-
-// ---- set-up
-
-// Every reader set empty.
-fn clear_sets(s: &mut [u16])
-    ensures { λ _. ⌜ now (s .exit) ≡ replicate (length (now (s .entry))) 0 ⌝ }
-{
-    let mut i = 0;
-    while i < s.len() {
-        s[i] = 0;
-        i += 1;
-    }
-}
-
-// Every byte b.
-fn fill_bytes(s: &mut [u8], b: u8)
-    ensures { λ _. ⌜ now (s .exit) ≡ replicate (length (now (s .entry))) b ⌝ }
-{
-    let mut i = 0;
-    while i < s.len() {
-        s[i] = b;
-        i += 1;
-    }
-}
-
-// Every lock empty, every log word 0.
-fn empty(readers: &mut [u16], claimants: &mut [u8], exclusives: &mut [u8], logs: &mut [u32])
-    ensures { λ _. ⌜ (now (readers .exit) ≡ replicate (length (now (readers .entry))) 0) × (now (claimants .exit) ≡ replicate (length (now (claimants .entry))) 16) × (now (exclusives .exit) ≡ replicate (length (now (exclusives .entry))) 0) × (now (logs .exit) ≡ replicate (length (now (logs .entry))) 0) ⌝ }
-{
-    clear_sets(readers);
-    fill_bytes(claimants, 16);
-    fill_bytes(exclusives, 0);
-    log::clear_words(logs);
-}
-
-// Set-up: all sessions idle, all locks empty, all log words 0. 100, 7 or 8.
-pub fn set_up(
-    sessions: Sessions,
-    values: &[u32],
-    classes: &[u8],
-    readers: &mut [u16],
-    claimants: &mut [u8],
-    exclusives: &mut [u8],
-    logs: &mut [u32],
-) -> Reply
-    ensures { λ r. ⌜ SetsUp values classes readers claimants exclusives logs sessions r ⌝ }
-{
-    if !calls::lengths_fit(
-        values.len(),
-        classes.len(),
-        readers.len(),
-        claimants.len(),
-        exclusives.len(),
-        logs.len(),
-    ) {
-        return Reply {
-            answer: Answer::Refused(7),
-            sessions,
-        };
-    }
-    if !calls::all_fit(values, classes) {
-        return Reply {
-            answer: Answer::Refused(8),
-            sessions,
-        };
-    }
-    empty(readers, claimants, exclusives, logs);
-    let idle = model::all_idle();
-    Reply {
-        answer: Answer::Done,
-        sessions: idle,
-    }
-}
-
-// The same by a table. 100, 7, 16 or 8.
-pub fn set_up_with_caps(
-    sessions: Sessions,
-    values: &[u32],
-    classes: &[u8],
-    readers: &mut [u16],
-    claimants: &mut [u8],
-    exclusives: &mut [u8],
-    logs: &mut [u32],
-    caps: &[u32],
-) -> Reply
-    ensures { λ r. ⌜ SetsUpBy caps values classes readers claimants exclusives logs sessions r ⌝ }
-{
-    if caps.len() != 16 {
-        return Reply {
-            answer: Answer::Refused(7),
-            sessions,
-        };
-    }
-    if !calls::lengths_fit(
-        values.len(),
-        classes.len(),
-        readers.len(),
-        claimants.len(),
-        exclusives.len(),
-        logs.len(),
-    ) {
-        return Reply {
-            answer: Answer::Refused(7),
-            sessions,
-        };
-    }
-    if !calls::caps_pass(caps) {
-        return Reply {
-            answer: Answer::Refused(16),
-            sessions,
-        };
-    }
-    if !calls::all_fit_by(caps, values, classes) {
-        return Reply {
-            answer: Answer::Refused(8),
-            sessions,
-        };
-    }
-    empty(readers, claimants, exclusives, logs);
-    let idle = model::all_idle();
-    Reply {
-        answer: Answer::Done,
-        sessions: idle,
-    }
-}
+ghost use Rattle.records.specs.declared.Answer.the-variants.{Refused};
+ghost use Rattle.records.specs.declared.Call.the-variants.{Begin, Read, Write, Seal, Advance, Abandon, Peek, Hold};
+ghost use Rattle.locks.specs.Lent.{TakesOne, TakesOneBy, Loads, PeekPlans, HandsBack};
+use records::Answer;
+use records::Plan;
+use records::Reply;
+use records::Session;
+use records::SessionReply;
+use records::Sessions;
+use records::Turn;
 
 // ---- a table of caps
 
@@ -209,8 +83,8 @@ pub fn begin(
     let c = claimants.len();
     let m = exclusives.len();
     let w = logs.len();
-    if !calls::admits(n, k, r, c, m, w, session) {
-        return refused(calls::admit(n, k, r, c, m, w, session), x);
+    if !refusals::admits(n, k, r, c, m, w, session) {
+        return refused(refusals::admit(n, k, r, c, m, w, session), x);
     }
     let log = log::of_session(logs, session);
     replied(calls::take_begin(log, n, x))
@@ -236,10 +110,10 @@ pub fn read(
     let c = claimants.len();
     let m = exclusives.len();
     let w = logs.len();
-    if !calls::admits(n, k, r, c, m, w, session) {
-        return refused(calls::admit(n, k, r, c, m, w, session), x);
+    if !refusals::admits(n, k, r, c, m, w, session) {
+        return refused(refusals::admit(n, k, r, c, m, w, session), x);
     }
-    let p = calls::read_plan(log::of_session(&logs[..], session), n, x, cell);
+    let p = plans::read_plan(log::of_session(&logs[..], session), n, x, cell);
     let l = locks::lock_for(&readers[..], &claimants[..], &exclusives[..], p);
     let t = turns::read(values, logs, x, l, session, cell, p);
     let change = t.change;
@@ -276,10 +150,10 @@ pub fn hold(
     let c = claimants.len();
     let m = exclusives.len();
     let w = logs.len();
-    if !calls::admits(n, k, r, c, m, w, session) {
-        return refused(calls::admit(n, k, r, c, m, w, session), x);
+    if !refusals::admits(n, k, r, c, m, w, session) {
+        return refused(refusals::admit(n, k, r, c, m, w, session), x);
     }
-    let p = calls::hold_plan(log::of_session(&logs[..], session), n, x, cell);
+    let p = plans::hold_plan(log::of_session(&logs[..], session), n, x, cell);
     let l = locks::lock_for(&readers[..], &claimants[..], &exclusives[..], p);
     let t = turns::hold(values, logs, x, l, session, cell, p);
     let change = t.change;
@@ -317,10 +191,10 @@ pub fn write(
     let c = claimants.len();
     let m = exclusives.len();
     let w = logs.len();
-    if !calls::admits(n, k, r, c, m, w, session) {
-        return refused(calls::admit(n, k, r, c, m, w, session), x);
+    if !refusals::admits(n, k, r, c, m, w, session) {
+        return refused(refusals::admit(n, k, r, c, m, w, session), x);
     }
-    let p = calls::write_plan(log::of_session(&logs[..], session), classes, x, cell, value);
+    let p = plans::write_plan(log::of_session(&logs[..], session), classes, x, cell, value);
     let l = locks::lock_for(&readers[..], &claimants[..], &exclusives[..], p);
     let t = turns::write(values, logs, x, l, session, cell, value, p);
     let change = t.change;
@@ -362,10 +236,10 @@ pub fn write_with_caps(
     if caps.len() != 16 {
         return refused(7, x);
     }
-    if !calls::admits(n, k, r, c, m, w, session) {
-        return refused(calls::admit(n, k, r, c, m, w, session), x);
+    if !refusals::admits(n, k, r, c, m, w, session) {
+        return refused(refusals::admit(n, k, r, c, m, w, session), x);
     }
-    let p = calls::write_plan_by(
+    let p = plans::write_plan_by(
         caps,
         log::of_session(&logs[..], session),
         classes,
@@ -408,8 +282,8 @@ pub fn seal(
     let c = claimants.len();
     let m = exclusives.len();
     let w = logs.len();
-    if !calls::admits(n, k, r, c, m, w, session) {
-        return refused(calls::admit(n, k, r, c, m, w, session), x);
+    if !refusals::admits(n, k, r, c, m, w, session) {
+        return refused(refusals::admit(n, k, r, c, m, w, session), x);
     }
     let log = log::of_session(logs, session);
     let t = calls::take_seal(log, n, x);
@@ -438,14 +312,14 @@ pub fn advance(
     let c = claimants.len();
     let m = exclusives.len();
     let w = logs.len();
-    if !calls::admits(n, k, r, c, m, w, session) {
-        return refused(calls::admit(n, k, r, c, m, w, session), x);
+    if !refusals::admits(n, k, r, c, m, w, session) {
+        return refused(refusals::admit(n, k, r, c, m, w, session), x);
     }
     let log = log::of_session(logs, session);
-    let due = calls::due_slot(log, n, x);
-    let cell = calls::due_cell(log, due);
+    let due = advance::due_slot(log, n, x);
+    let cell = advance::due_cell(log, due);
     let l = locks::at(&readers[..], &claimants[..], &exclusives[..], cell);
-    let t = calls::take_advance(values, log, x, l, session, due);
+    let t = advance::take_advance(values, log, x, l, session, due);
     let change = t.change;
     let count = x.count as usize;
     locks::carry_out(change, log, count, readers, claimants, exclusives, session);
@@ -471,8 +345,8 @@ pub fn abandon(
     let c = claimants.len();
     let m = exclusives.len();
     let w = logs.len();
-    if !calls::admits(n, k, r, c, m, w, session) {
-        return refused(calls::admit(n, k, r, c, m, w, session), x);
+    if !refusals::admits(n, k, r, c, m, w, session) {
+        return refused(refusals::admit(n, k, r, c, m, w, session), x);
     }
     let log = log::of_session(logs, session);
     let t = calls::take_abandon(log, n, x);
@@ -504,10 +378,10 @@ pub fn peek_plan(
     let c = claimants.len();
     let m = exclusives.len();
     let w = logs.len();
-    if !calls::admits(n, k, r, c, m, w, session) {
-        return Plan::Refuse(calls::admit(n, k, r, c, m, w, session));
+    if !refusals::admits(n, k, r, c, m, w, session) {
+        return Plan::Refuse(refusals::admit(n, k, r, c, m, w, session));
     }
-    calls::peek_plan(log::of_session(logs, session), n, x, cell)
+    plans::peek_plan(log::of_session(logs, session), n, x, cell)
 }
 
 // Peek: running only. One word, the store's own or the log's own; no word where the peek is refused.

@@ -4,10 +4,10 @@ use mathlib.Core.Path.{_≡_, refl, sym, _∙_, ap}
 use mathlib.Core.List.{List, [], _∷_, _++_}
 use denote.Enum.Declared.{tagOf}
 use types.Run.{OneOf, miss}
-use Rattle.model.specs.declared.Answer.{Answer}
-use Rattle.model.specs.declared.Answer.the-variants.{Done, Value, Sealed, Moved, Waiting, Committed, Refused}
+use Rattle.records.specs.declared.Answer.{Answer}
+use Rattle.records.specs.declared.Answer.the-variants.{Done, Value, Sealed, Moved, Waiting, Committed, Refused}
 use Rattle.model.specs.Effects.{number}
-use Rattle.model.proofs.Answer.{the-type}
+use Rattle.records.proofs.Answer.{the-type}
 use Rattle.text.specs.Lines.{word, space, newline, answerWords, answerLine}
 
 plain-words : (a : Answer) → OneOf (0 ∷ 2 ∷ 3 ∷ 5 ∷ 6 ∷ []) (tagOf the-type a) → answerWords a ≡ word (number a) newline

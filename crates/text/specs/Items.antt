@@ -8,8 +8,8 @@ use Rattle.field.specs.declared.Call.{Call as Numbers}
 use Rattle.field.specs.declared.Reading.{Reading}
 use Rattle.field.specs.declared.Reading.the-variants as reading
 use Rattle.field.specs.Field.{readingAt}
-use Rattle.model.specs.declared.Call.{Call}
-use Rattle.model.specs.declared.Call.the-variants as call
+use Rattle.records.specs.declared.Call.{Call}
+use Rattle.records.specs.declared.Call.the-variants as call
 use Rattle.model.specs.History.{Action, oneCall}
 use Rattle.text.specs.declared.Next.{Next}
 use Rattle.text.specs.declared.Next.the-variants as next

@@ -2,7 +2,7 @@
 use crate::Next;
 use field::Kind;
 use field::Reading;
-use model::Call;
+use records::Call;
 ghost use mathlib.Core.Path.{_≡_};
 ghost use lib.ListN.{length};
 ghost use Rattle.field.specs.Field.{readingAt};

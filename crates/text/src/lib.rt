@@ -3,7 +3,7 @@ pub mod items;
 pub mod leading;
 pub mod lines;
 
-use model::Call;
+use records::Call;
 
 // What stands at a place of the input: a starting cell or a call, with the field's length; the end; or the number with which a field is refused.
 pub enum Next {

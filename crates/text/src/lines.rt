@@ -1,6 +1,6 @@
 // The lines. Each writer puts a text at a place of the output and answers the place after it.
 use crate::Next;
-use model::Answer;
+use records::Answer;
 ghost use mathlib.Core.Path.{_≡_};
 ghost use mathlib.Core.List.{_∷_, [], _++_};
 ghost use Prim.Native.Nat.{_+_, _*_, _≤_, _<_};

@@ -2,7 +2,7 @@
 use Prim.Native.Nat.{ℕ, suc}
 use mathlib.Core.Path.{_≡_, refl, _∙_, ap}
 use mathlib.Core.List.{List, [], _∷_, _++_, append-assoc, reverse, reverse-cons, reverse-append}
-use Rattle.model.specs.declared.Call.{Call}
+use Rattle.records.specs.declared.Call.{Call}
 use Rattle.model.specs.Buffers.{Store}
 use Rattle.model.specs.History.{Action, oneCall, eventOf, run, events}
 use Rattle.model.specs.Step.{step, answerOf}

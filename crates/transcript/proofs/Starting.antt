@@ -8,14 +8,14 @@ use lib.Dec.{leb}
 use lib.ListN.{length, take, drop, length-replicate, length-append}
 use lib.Seq.{sets, sets-eq, length-take-le}
 use borrow.Author.Tests.{le-leb, lt-leb, eq-eqb, ne-eqb}
-use Rattle.model.specs.declared.Answer.{Answer}
-use Rattle.model.specs.declared.Sessions.{Sessions}
+use Rattle.records.specs.declared.Answer.{Answer}
+use Rattle.records.specs.declared.Sessions.{Sessions}
 use Rattle.model.specs.Buffers.{Store, ours, size, lengthsFit, fresh}
 use Rattle.model.specs.Effects.{number}
 use Rattle.model.specs.Step.{Outcome, outcome, setUpRefusal, setUpAnswer, setUp, setUpEffect}
 use Rattle.model.proofs.Demand3.{set-up-fresh}
 use Rattle.model.proofs.Tools.{test}
-use Rattle.store.specs.Lent.{storeOf}
+use Rattle.locks.specs.Lent.{storeOf}
 use Rattle.transcript.specs.declared.Printed.{Printed}
 use Rattle.transcript.specs.declared.Printed.the-variants.{Bytes, Short}
 use Rattle.text.specs.Items.{Item, itemsAt, values, classes}

@@ -5,8 +5,8 @@ use mathlib.Core.Path.{_≡_, sym, _∙_, ap}
 use mathlib.Core.List.{List, [], _∷_, _++_}
 use denote.Enum.Declared.{tagOf}
 use types.Run.{OneOf, miss}
-use Rattle.model.specs.declared.Answer.{Answer}
-use Rattle.model.specs.declared.Call.{Call}
+use Rattle.records.specs.declared.Answer.{Answer}
+use Rattle.records.specs.declared.Call.{Call}
 use Rattle.model.specs.Buffers.{Store, ours}
 use Rattle.model.specs.Step.{Outcome, outcome, effect, step, answerOf, GoesBy}
 use Rattle.model.proofs.Tables.{goes-by-ours}

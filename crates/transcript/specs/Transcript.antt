@@ -6,7 +6,7 @@ use mathlib.Core.Bool.{cond}
 use mathlib.Core.List.{List, _++_, reverse}
 use lib.Dec.{leb, eqb}
 use lib.ListN.{length, replicate}
-use Rattle.model.specs.declared.Answer.{Answer}
+use Rattle.records.specs.declared.Answer.{Answer}
 use Rattle.model.specs.Buffers.{Store, ours, idle}
 use Rattle.model.specs.Effects.{number}
 use Rattle.model.specs.Step.{setUpAnswer, setUp}

@@ -1,5 +1,5 @@
 // The cells, set-up, and the calls.
-use model::Sessions;
+use records::Sessions;
 use text::Cells;
 use text::Next;
 use text::items::next_at;
@@ -9,7 +9,7 @@ ghost use mathlib.Core.Path.{_≡_};
 ghost use Prim.Native.Nat.{_≤_};
 ghost use lib.ListN.{length};
 ghost use Rattle.model.specs.Buffers.{ours};
-ghost use Rattle.store.specs.Lent.{before};
+ghost use Rattle.locks.specs.Lent.{before};
 ghost use Rattle.text.specs.Output.{Puts};
 ghost use Rattle.transcript.specs.Output.{PutsCalls, PutsSetUp, Fitted};
 ghost use Rattle.transcript.specs.Transcript.{transcript};
@@ -70,8 +70,8 @@ fn set_up_and_run(
     requires { ⌜ (from ≤ length (now input)) × (length (now input) ≤ 65536) × (409600 ≤ length (now output)) ⌝ ∗ ⌜ Fitted (now values) (now classes) (now readers) (now claimants) (now exclusives) (now logs) ⌝ }
     ensures { λ r. ⌜ PutsSetUp input from output values classes r ⌝ }
 {
-    let reply = store::set_up(
-        model::all_idle(),
+    let reply = set_up::set_up(
+        records::all_idle(),
         &values[..],
         classes,
         readers,

@@ -5,13 +5,13 @@ use Prim.Native.Nat.{ℕ}
 use Rattle.model.specs.Buffers.{ours}
 use Rattle.model.specs.Plans.{plan}
 use Rattle.model.specs.Turns.{TurnEffect, turnOf}
-use Rattle.model.specs.declared.Session.{Session}
-use Rattle.model.specs.declared.Lock.{Lock}
-use Rattle.model.specs.declared.Call.{Call}
-use Rattle.model.specs.declared.Call.the-variants.{Begin, Read, Write, Seal, Advance, Abandon, Peek, Hold}
-use Rattle.calls.specs.Pieces.{dueOn, duePlan}
-use Rattle.calls.specs.declared.Due.{Due}
-use Rattle.calls.proofs.Agree.{advance-agree}
+use Rattle.records.specs.declared.Session.{Session}
+use Rattle.records.specs.declared.Lock.{Lock}
+use Rattle.records.specs.declared.Call.{Call}
+use Rattle.records.specs.declared.Call.the-variants.{Begin, Read, Write, Seal, Advance, Abandon, Peek, Hold}
+use Rattle.advance.specs.Pieces.{dueOn, duePlan}
+use Rattle.advance.specs.declared.Due.{Due}
+use Rattle.advance.proofs.Agree.{advance-agree}
 use Rattle.turns.specs.AnyCall.{cellFor, planWith}
 
 -- a plan reads the lock of one cell

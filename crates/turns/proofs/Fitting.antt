@@ -12,21 +12,21 @@ use Rattle.model.specs.Buffers.{Limits, entryAt, slotIn, targetIn}
 use Rattle.model.specs.Readers.{otherReaders}
 use Rattle.model.specs.Plans.{claimed, promotePlan, recordFits, guard, known, sealTarget, sealPlan, peekSlot, peekPlan, plan}
 use Rattle.model.specs.Turns.{turnOf}
-use Rattle.model.specs.declared.Session.{Session}
-use Rattle.model.specs.declared.Lock.{Lock}
-use Rattle.model.specs.declared.Call.{Call}
-use Rattle.model.specs.declared.Call.the-variants as call
-use Rattle.model.specs.declared.Plan.{Plan}
-use Rattle.model.specs.declared.Plan.the-variants.{Refuse, Start, Tell, Enter, Update, EnterUpdate, Mark, EnterMark, RollBack, Cancel, CommitReads, BeginPromotion, Wait, Acquire, Publish, Release, ShowStore, ShowLog}
+use Rattle.records.specs.declared.Session.{Session}
+use Rattle.records.specs.declared.Lock.{Lock}
+use Rattle.records.specs.declared.Call.{Call}
+use Rattle.records.specs.declared.Call.the-variants as call
+use Rattle.records.specs.declared.Plan.{Plan}
+use Rattle.records.specs.declared.Plan.the-variants.{Refuse, Start, Tell, Enter, Update, EnterUpdate, Mark, EnterMark, RollBack, Cancel, CommitReads, BeginPromotion, Wait, Acquire, Publish, Release, ShowStore, ShowLog}
 use Rattle.model.proofs.Tools.{split, test}
 use Rattle.locks.specs.Sweeps.{Swept}
 use Rattle.locks.specs.Changes.{ChangeFits}
-use Rattle.calls.specs.Pieces.{dueOn, dueCell, advanceOn, duePlan}
-use Rattle.calls.specs.declared.Due.{Due}
-use Rattle.calls.specs.declared.Due.the-variants.{Refused, Slot}
+use Rattle.advance.specs.Pieces.{dueOn, dueCell, advanceOn, duePlan}
+use Rattle.advance.specs.declared.Due.{Due}
+use Rattle.advance.specs.declared.Due.the-variants.{Refused, Slot}
 use Rattle.model.proofs.Passing.{Entries, record-entries}
 use Rattle.turns.proofs.Guards.{guarded}
-use Rattle.calls.proofs.Agree.{Advancing, due-known, advance-agree}
+use Rattle.advance.proofs.Agree.{Advancing, due-known, advance-agree}
 use Rattle.calls.proofs.Choices.{Choice, refuses, knows, enters, read-choice, hold-choice, write-choice}
 
 -- what a plan asks of the session's log and record, of n cells

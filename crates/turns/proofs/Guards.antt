@@ -5,10 +5,10 @@ use mathlib.Core.List.{List}
 use Prim.Native.Nat.{ℕ}
 use Rattle.model.specs.Plans.{require, recordFits, guard}
 use Rattle.model.specs.Turns.{turnOf}
-use Rattle.model.specs.declared.Session.{Session}
-use Rattle.model.specs.declared.Plan.{Plan}
-use Rattle.model.specs.declared.Plan.the-variants.{Refuse, Start}
-use Rattle.model.specs.declared.Change.the-variants.{Keep}
+use Rattle.records.specs.declared.Session.{Session}
+use Rattle.records.specs.declared.Plan.{Plan}
+use Rattle.records.specs.declared.Plan.the-variants.{Refuse, Start}
+use Rattle.records.specs.declared.Change.the-variants.{Keep}
 use Rattle.model.proofs.Tools.{split}
 
 module _ (Q : Plan → Type 0) (no : (k : ℕ) → Q (Refuse k)) where

@@ -7,7 +7,7 @@ use native.Mathlib.Omega.{arith}
 use borrow.Author.Tests.{eq-eqb, ne-eqb}
 use Rattle.model.specs.Buffers.{sessionAt}
 use Rattle.model.specs.Load.{idleBelow, allIdle}
-use Rattle.model.specs.declared.Sessions.{Sessions}
+use Rattle.records.specs.declared.Sessions.{Sessions}
 use Rattle.model.proofs.Tools.{same, and-false}
 
 module _ (ss : Sessions) where

@@ -5,11 +5,11 @@ use Prim.Native.Nat.{ℕ, suc, _+_, _*_, _<_}
 use lib.ListN.{length, getD, set, length-set}
 use Rattle.model.specs.Buffers.{logIn, word, appended, withDirty, withHeld, updated, marked}
 use Rattle.model.specs.Turns.{TurnEffect, leaves, turnOf}
-use Rattle.model.specs.declared.Session.{Session}
-use Rattle.model.specs.declared.Answer.{Answer}
-use Rattle.model.specs.declared.Change.{Change}
-use Rattle.model.specs.declared.Plan.{Plan}
-use Rattle.model.specs.declared.Plan.the-variants.{Refuse, Start, Tell, Enter, Update, EnterUpdate, Mark, EnterMark, RollBack, Cancel, CommitReads, BeginPromotion, Wait, Acquire, Publish, Release, ShowStore, ShowLog}
+use Rattle.records.specs.declared.Session.{Session}
+use Rattle.records.specs.declared.Answer.{Answer}
+use Rattle.records.specs.declared.Change.{Change}
+use Rattle.records.specs.declared.Plan.{Plan}
+use Rattle.records.specs.declared.Plan.the-variants.{Refuse, Start, Tell, Enter, Update, EnterUpdate, Mark, EnterMark, RollBack, Cancel, CommitReads, BeginPromotion, Wait, Acquire, Publish, Release, ShowStore, ShowLog}
 use Rattle.model.proofs.Laws.{log-length, log-same, length-on}
 use Rattle.model.proofs.Carried.{same-log, length-appended}
 use Rattle.turns.specs.InLogs.{inLogs}

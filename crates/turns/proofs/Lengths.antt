@@ -10,14 +10,14 @@ use Rattle.model.specs.Buffers.{Buffers, Limits, Store, size, lengthsFit, lengt
 use Rattle.model.specs.Effects.{answer, after}
 use Rattle.model.specs.Step.{outcome, answerOf, step, effect, planOf, sessionOf, TakesUnder, TakesRecord}
 use Rattle.model.specs.Plans.{tableFits}
-use Rattle.model.specs.declared.Session.{Session}
-use Rattle.model.specs.declared.Call.{Call}
-use Rattle.model.specs.declared.Answer.the-variants.{Refused}
-use Rattle.model.specs.declared.Plan.the-variants.{Refuse}
+use Rattle.records.specs.declared.Session.{Session}
+use Rattle.records.specs.declared.Call.{Call}
+use Rattle.records.specs.declared.Answer.the-variants.{Refused}
+use Rattle.records.specs.declared.Plan.the-variants.{Refuse}
 use Rattle.model.proofs.Tools.{test, clash, and-false}
 use Rattle.model.proofs.Carried.{same-record}
 use Rattle.model.proofs.Tables.{goes-fits}
-use Rattle.calls.specs.Pieces.{admission}
+use Rattle.refusals.specs.Pieces.{admission}
 
 -- what fitting lengths say, one by one
 pub record Lengths (B : Buffers) : Type 0 where

@@ -10,3 +10,4 @@ pub mod Peeks
 pub mod Shown
 pub mod AnyCall
 pub mod SetUp
+pub mod Forms

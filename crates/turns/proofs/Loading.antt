@@ -9,8 +9,8 @@ use borrow.Author.Tests.{eq-eqb, ne-eqb, eqb-true}
 use Rattle.model.specs.Buffers.{Buffers, Store, hasCaps, passes, allFit, lengthsMatch, lengthsFit}
 use Rattle.model.specs.Load.{allIdle, allClassed, loadRefusal, withCaps, loadAnswer, load, loadEffect}
 use Rattle.model.specs.Step.{outcome}
-use Rattle.model.specs.declared.Sessions.{Sessions}
-use Rattle.model.specs.declared.Answer.the-variants.{Done, Refused}
+use Rattle.records.specs.declared.Sessions.{Sessions}
+use Rattle.records.specs.declared.Answer.the-variants.{Done, Refused}
 use Rattle.model.proofs.Tables.{has-caps, has-not}
 use Rattle.model.proofs.Tools.{test, clash, and-false}
 use Rattle.turns.specs.Loads.{tableRefusal, Lends}

@@ -17,12 +17,12 @@ use Rattle.model.specs.Plans.{recordFits, guard, known, peekSlot, plan}
 use Rattle.model.specs.Effects.{recordOf, shown, answer, after, logOf}
 use Rattle.model.specs.Slices.{PartOf, IsPart}
 use Rattle.model.specs.Step.{outcome, effect, answerOf, step, planOf, peekShows, TakesRecord}
-use Rattle.model.specs.declared.Session.{Session}
-use Rattle.model.specs.declared.Sessions.{Sessions}
-use Rattle.model.specs.declared.Call.the-variants.{Peek}
-use Rattle.model.specs.declared.Answer.the-variants.{Done, Refused}
-use Rattle.model.specs.declared.Plan.{Plan}
-use Rattle.model.specs.declared.Plan.the-variants.{Refuse, ShowStore, ShowLog}
+use Rattle.records.specs.declared.Session.{Session}
+use Rattle.records.specs.declared.Sessions.{Sessions}
+use Rattle.records.specs.declared.Call.the-variants.{Peek}
+use Rattle.records.specs.declared.Answer.the-variants.{Done, Refused}
+use Rattle.records.specs.declared.Plan.{Plan}
+use Rattle.records.specs.declared.Plan.the-variants.{Refuse, ShowStore, ShowLog}
 use Rattle.model.proofs.Tools.{split}
 use Rattle.model.proofs.Laws.{find-some}
 use Rattle.model.proofs.Carried.{same-record}

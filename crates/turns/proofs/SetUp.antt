@@ -6,8 +6,8 @@ use Prim.Native.Nat.{ℕ}
 use lib.ListN.{length, replicate}
 use Rattle.model.specs.Buffers.{Store, size, hasCaps, passes, allFit, lengthsFit, fresh, idle}
 use Rattle.model.specs.Step.{outcome, setUpRefusal, setUpAnswer, setUp, setUpEffect}
-use Rattle.model.specs.declared.Sessions.{Sessions}
-use Rattle.model.specs.declared.Answer.the-variants.{Done, Refused}
+use Rattle.records.specs.declared.Sessions.{Sessions}
+use Rattle.records.specs.declared.Answer.the-variants.{Done, Refused}
 use Rattle.model.proofs.Tools.{both-r}
 use Rattle.turns.proofs.Lengths.{lengths-of}
 

@@ -7,11 +7,11 @@ use lib.Dec.{ltb, eqb}
 use Rattle.model.specs.Buffers.{entryAt, slotIn}
 use Rattle.model.specs.Plans.{recordFits, guard, known, peekSlot, peekPlan}
 use Rattle.model.specs.Turns.{leaves, turnOf}
-use Rattle.model.specs.declared.Session.{Session}
-use Rattle.model.specs.declared.Answer.the-variants.{Done, Refused}
-use Rattle.model.specs.declared.Change.the-variants.{Keep}
-use Rattle.model.specs.declared.Plan.{Plan}
-use Rattle.model.specs.declared.Plan.the-variants.{Refuse}
+use Rattle.records.specs.declared.Session.{Session}
+use Rattle.records.specs.declared.Answer.the-variants.{Done, Refused}
+use Rattle.records.specs.declared.Change.the-variants.{Keep}
+use Rattle.records.specs.declared.Plan.{Plan}
+use Rattle.records.specs.declared.Plan.the-variants.{Refuse}
 use Rattle.model.proofs.Tools.{split}
 use Rattle.locks.proofs.Tags.{Passed, passed}
 

@@ -11,12 +11,12 @@ use Rattle.model.specs.Plans.{plan, tableFits}
 use Rattle.model.specs.Effects.{answer, after, recordOf, logOf}
 use Rattle.model.specs.Step.{Outcome, outcome, answerOf, step, effect, planOf, sessionOf, TakesUnder, TakesRecord}
 use Rattle.model.specs.Turns.{TurnEffect, leaves, turnOf, changed, carried}
-use Rattle.model.specs.declared.Session.{Session}
-use Rattle.model.specs.declared.Sessions.{Sessions}
-use Rattle.model.specs.declared.Call.{Call}
-use Rattle.model.specs.declared.Answer.{Answer}
-use Rattle.model.specs.declared.Plan.{Plan}
-use Rattle.model.specs.declared.Change.{Change}
+use Rattle.records.specs.declared.Session.{Session}
+use Rattle.records.specs.declared.Sessions.{Sessions}
+use Rattle.records.specs.declared.Call.{Call}
+use Rattle.records.specs.declared.Answer.{Answer}
+use Rattle.records.specs.declared.Plan.{Plan}
+use Rattle.records.specs.declared.Change.{Change}
 use Rattle.model.proofs.Laws.{log-length}
 use Rattle.model.proofs.Carried.{carries}
 use Rattle.model.proofs.Tables.{goes-fits, goes-plan}

@@ -8,10 +8,10 @@ use Rattle.model.specs.Buffers.{free, logIn, onLog}
 use Rattle.model.specs.Plans.{writePlan}
 use Rattle.model.specs.Slices.{Slice}
 use Rattle.model.specs.Turns.{TurnEffect, leaves, turnOf}
-use Rattle.model.specs.declared.Session.{Session}
-use Rattle.model.specs.declared.Lock.{Lock}
-use Rattle.model.specs.declared.Plan.{Plan}
-use Rattle.model.specs.declared.Turn.{Turn}
+use Rattle.records.specs.declared.Session.{Session}
+use Rattle.records.specs.declared.Lock.{Lock}
+use Rattle.records.specs.declared.Plan.{Plan}
+use Rattle.records.specs.declared.Turn.{Turn}
 
 -- a turn t of session s, with the logs in place of its log
 abbrev pub inLogs : ℕ → List ℕ → TurnEffect → TurnEffect

@@ -9,8 +9,8 @@ use Rattle.model.specs.Load.{allIdle, allClassed, loadEffect}
 use Rattle.model.specs.Plans.{require}
 use Rattle.model.specs.Slices.{Slice}
 use Rattle.model.specs.Step.{outcome}
-use Rattle.model.specs.declared.Sessions.{Sessions}
-use Rattle.model.specs.declared.Answer.{Answer}
+use Rattle.records.specs.declared.Sessions.{Sessions}
+use Rattle.records.specs.declared.Answer.{Answer}
 
 -- what refuses to load the table T past 7: 2, 16, 8 or 17, or 0
 unfoldable pub tableRefusal : List ℕ → Sessions → List ℕ → List ℕ → ℕ

@@ -13,15 +13,15 @@ ghost use Rattle.turns.specs.AnyCall.{cellFor, planWith};
 ghost use Rattle.turns.specs.InLogs.{TakesIn, TakesWriteIn};
 ghost use Rattle.turns.specs.Loads.{tableRefusal, LoadsCaps};
 ghost use Rattle.calls.specs.Pieces.{WriteDecided};
-use model::Answer;
-use model::Call;
-use model::Change;
-use model::Lock;
-use model::Plan;
-use model::Reply;
-use model::Session;
-use model::Sessions;
-use model::Turn;
+use records::Answer;
+use records::Call;
+use records::Change;
+use records::Lock;
+use records::Plan;
+use records::Reply;
+use records::Session;
+use records::Sessions;
+use records::Turn;
 
 // ---- a turn that changes the session's log
 
@@ -124,13 +124,13 @@ fn table_refusal(sessions: Sessions, values: &[u32], classes: &[u8], table: &[u3
     if !are_idle(sessions) {
         return 2;
     }
-    if !calls::caps_pass(table) {
+    if !caps::caps_pass(table) {
         return 16;
     }
-    if !calls::all_classed(classes) {
+    if !caps::all_classed(classes) {
         return 8;
     }
-    if !calls::all_fit_by(table, values, classes) {
+    if !caps::all_fit_by(table, values, classes) {
         return 17;
     }
     0
@@ -156,7 +156,7 @@ pub fn load_caps(
     if table.len() != 16 {
         return Answer::Refused(7);
     }
-    if !calls::lengths_fit(
+    if !refusals::lengths_fit(
         values.len(),
         classes.len(),
         readers,
@@ -170,7 +170,7 @@ pub fn load_caps(
     if refusal != 0 {
         return Answer::Refused(refusal);
     }
-    calls::put_caps(caps, table);
+    caps::put_caps(caps, table);
     Answer::Done
 }
 
@@ -187,8 +187,8 @@ pub fn cell_for(call: Call, log: &[u32], n: usize, x: Session) -> u32
         Call::Write(_, c, _) => c,
         Call::Seal(_) => 0,
         Call::Advance(_) => {
-            let due = calls::due_slot(log, n, x);
-            calls::due_cell(log, due)
+            let due = advance::due_slot(log, n, x);
+            advance::due_cell(log, due)
         }
         Call::Abandon(_) => 0,
         Call::Peek(_, _) => 0,
@@ -201,7 +201,7 @@ fn take_peek(log: &[u32], n: usize, x: Session, cell: u32) -> Turn
     requires { ⌜ (length (now log) ≡ 128) × (n ≤ 1024) ⌝ }
     ensures { λ r. ⌜ TurnsLog (peekPlan n (now (log .entry)) x cell) log x r ⌝ }
 {
-    let p = calls::peek_plan(log, n, x, cell);
+    let p = plans::peek_plan(log, n, x, cell);
     if let Plan::Refuse(number) = p {
         return Turn {
             answer: Answer::Refused(number),
@@ -232,22 +232,22 @@ fn take_call(
     match call {
         Call::Begin(_) => calls::take_begin(&log[..], n, x),
         Call::Read(_, c) => {
-            let p = calls::read_plan(&log[..], n, x, c);
+            let p = plans::read_plan(&log[..], n, x, c);
             calls::take_read(&values[..], log, x, l, c, p)
         }
         Call::Write(_, c, v) => {
-            let p = calls::write_plan(&log[..], classes, x, c, v);
+            let p = plans::write_plan(&log[..], classes, x, c, v);
             calls::take_write(&values[..], log, x, l, c, v, p)
         }
         Call::Seal(_) => calls::take_seal(&log[..], n, x),
         Call::Advance(s) => {
-            let due = calls::due_slot(&log[..], n, x);
-            calls::take_advance(values, &log[..], x, l, s, due)
+            let due = advance::due_slot(&log[..], n, x);
+            advance::take_advance(values, &log[..], x, l, s, due)
         }
         Call::Abandon(_) => calls::take_abandon(&log[..], n, x),
         Call::Peek(_, c) => take_peek(&log[..], n, x, c),
         Call::Hold(_, c) => {
-            let p = calls::hold_plan(&log[..], n, x, c);
+            let p = plans::hold_plan(&log[..], n, x, c);
             calls::take_hold(&values[..], log, x, l, c, p)
         }
     }

@@ -1,6 +1,6 @@
 -- Each return is the turn of its plan.
 use mathlib.Core.Path.{sym}
-use Rattle.calls.proofs.Ways.{guard-refuses, guard-passes}
+use Rattle.refusals.proofs.Ways.{guard-refuses, guard-passes}
 use Rattle.calls.proofs.Turning.{turn-refused, turn-cancelled}
 use borrow.Author.Needs.{needs}
 use Rattle.calls.proofs.take_abandon.Statement.{statement}

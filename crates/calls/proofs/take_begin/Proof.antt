@@ -1,6 +1,6 @@
 -- Each return is the turn of its plan.
 use mathlib.Core.Path.{sym}
-use Rattle.calls.proofs.Ways.{begin-starts, begin-refused}
+use Rattle.refusals.proofs.Ways.{begin-starts, begin-refused}
 use Rattle.calls.proofs.Turning.{turn-started, turn-refused}
 use borrow.Author.Needs.{needs}
 use Rattle.calls.proofs.take_begin.Statement.{statement}

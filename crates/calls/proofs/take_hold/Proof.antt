@@ -4,7 +4,7 @@ use native.Mathlib.Omega.{arith}
 use lib.ListN.{length}
 use Rattle.model.specs.Buffers.{entryAt}
 use Rattle.model.specs.Plans.{holdPlan}
-use Rattle.model.specs.declared.Plan.the-variants.{Mark, EnterMark}
+use Rattle.records.specs.declared.Plan.the-variants.{Mark, EnterMark}
 use Rattle.calls.proofs.Choices.{Choice, hold-choice, when-told, when-new, when-marked}
 use Rattle.calls.proofs.Turning.{turn-marked, turn-refused, turn-rolled-back, turn-enter-marked}
 use borrow.Author.Needs.{needs}

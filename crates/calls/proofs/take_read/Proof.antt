@@ -4,7 +4,7 @@ use native.Mathlib.Omega.{arith}
 use lib.ListN.{length}
 use Rattle.model.specs.Buffers.{entryAt}
 use Rattle.model.specs.Plans.{readPlan}
-use Rattle.model.specs.declared.Plan.the-variants.{Tell, Enter}
+use Rattle.records.specs.declared.Plan.the-variants.{Tell, Enter}
 use Rattle.calls.proofs.Choices.{Choice, read-choice, when-told, when-new}
 use Rattle.calls.proofs.Turning.{turn-told, turn-refused, turn-rolled-back, turn-entered}
 use borrow.Author.Needs.{needs}

@@ -2,7 +2,8 @@
 use mathlib.Core.Path.{sym, _∙_}
 use borrow.Author.Tests.{not-true, not-false}
 use Rattle.model.specs.Plans.{sealPlan}
-use Rattle.calls.proofs.Ways.{run-refused, room, seal-writes, seal-reads}
+use Rattle.refusals.proofs.Ways.{run-refused, room}
+use Rattle.calls.proofs.Ways.{seal-writes, seal-reads}
 use Rattle.calls.proofs.Turning.{turn-refused, turn-sealed, turn-committed}
 use borrow.Author.Needs.{needs}
 use Rattle.calls.proofs.take_seal.Statement.{statement}

@@ -6,7 +6,7 @@ use native.Mathlib.Omega.{arith}
 use lib.ListN.{length}
 use Rattle.model.specs.Buffers.{free}
 use Rattle.model.specs.Plans.{writePlan}
-use Rattle.model.specs.declared.Plan.the-variants.{Update, EnterUpdate}
+use Rattle.records.specs.declared.Plan.the-variants.{Update, EnterUpdate}
 use Rattle.calls.proofs.Choices.{Choice, write-choice, when-told, when-new, when-updated}
 use Rattle.calls.proofs.Turning.{turn-updated, turn-refused, turn-rolled-back, turn-enter-updated}
 use borrow.Author.Needs.{needs}

@@ -4,8 +4,8 @@ use borrow.Author.Tests.{not-true, not-false}
 use Rattle.model.specs.Buffers.{Buffers}
 use Rattle.model.proofs.Tables.{goes-fits}
 use Rattle.turns.proofs.Lengths.{Admitted, admitted-by, plan-refused-by, refuses}
-use Rattle.store.specs.Lent.{buffersOf}
-use Rattle.store.proofs.Forms.{even, log-fits, can-carry, replies}
+use Rattle.locks.specs.Lent.{buffersOf}
+use Rattle.turns.proofs.Forms.{even, log-fits, can-carry, replies}
 use Rattle.lists.proofs.Laws.{any-planned, of-sixteen}
 use borrow.Author.Needs.{needs}
 use Rattle.lists.proofs.step.Statement.{statement}

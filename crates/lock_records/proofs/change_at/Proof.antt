@@ -41,15 +41,15 @@ use denote.Triple.Spec.{Meets, tripleOf}
 use denote.Triple.Table.{entered, cited}
 use denote.Triple.Walked.{says, needs, Stays, stay-none, stay-slice, walkOf, goes-none, goes-slice, Walks, ends-at, walked, walk-meets}
 use denote.Exit.{yes}
-use Rattle.model.specs.declared.Lock.{Lock}
+use Rattle.records.specs.declared.Lock.{Lock}
 use Rattle.model.specs.Buffers.{free}
 use Rattle.lock_records.specs.declared.Change.{Change}
 use Rattle.lock_records.specs.Run.{SessionFits, changeOf, changedAt}
 use Rattle.lock_records.proofs.Change.Laws as C′
 use Rattle.lock_records.proofs.Leave.{full, leave}
 use Rattle.lock_records.proofs.Row.{R, low, vals, tells, makes, typed, typed-at, RC, low-c, tells-c, makes-c, typed-c, set-past, place-fits}
-use Rattle.model.proofs.Lock as T
-use Rattle.model.proofs.Lock.Laws as T′
+use Rattle.records.proofs.Lock as T
+use Rattle.records.proofs.Lock.Laws as T′
 use Rattle.lock_records.proofs.changed as changed
 use Rattle.lock_records.proofs.changed.Symbol as changed-def
 use Rattle.lock_records.proofs.changed.Symbol.{name as #lock-records·changed}

@@ -36,12 +36,12 @@ use denote.Triple.Spec.{Meets, tripleOf}
 use denote.Triple.Table.{entered}
 use denote.Triple.Walked.{says, Stays, stay-none, stay-none-slice, walkOf, goes-none, goes-none-slice, Walks, ends-at, walked, walk-meets}
 use denote.Exit.{yes}
-use Rattle.model.specs.declared.Lock.{Lock}
+use Rattle.records.specs.declared.Lock.{Lock}
 use Rattle.model.specs.Buffers.{free}
 use Rattle.lock_records.proofs.Leave.{full, leave}
 use Rattle.lock_records.proofs.Row.{R, low, vals, tells, makes, copy, typed, free-is, place-fits}
-use Rattle.model.proofs.Lock as T
-use Rattle.model.proofs.Lock.Laws as T′
+use Rattle.records.proofs.Lock as T
+use Rattle.records.proofs.Lock.Laws as T′
 use Rattle.lock_records.proofs.lock_at.Key.{name as #lock-records·lock-at}
 use Rattle.lock_records.proofs.lock_at as lock-at
 use Rattle.lock_records.proofs.lock_at.Statement as stated

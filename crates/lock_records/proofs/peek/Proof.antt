@@ -35,8 +35,8 @@ use denote.Triple.Statement.{Contract, Triple}
 use denote.Triple.Table.{entered, cited}
 use denote.Triple.Walked.{says, Stays, stay-none, stay-none-slice, walkOf, goes-none, goes-none-slice, Walks, ends-at, walked, walk-meets}
 use denote.Exit.{yes}
-use Rattle.model.specs.declared.Lock.{Lock}
-use Rattle.model.specs.declared.Sessions.{Sessions}
+use Rattle.records.specs.declared.Lock.{Lock}
+use Rattle.records.specs.declared.Sessions.{Sessions}
 use Rattle.lock_records.specs.Turns.{IsPeekPart}
 use Rattle.lock_records.proofs.Row.{R, RS, low-s, tells-s, makes-s, typed-s}
 use Rattle.lock_records.proofs.Leave.{full, leave}

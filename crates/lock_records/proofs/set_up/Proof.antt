@@ -37,8 +37,8 @@ use denote.Triple.Walked.{says, Stays, stay-none, stay-slice, stay-none-slice, w
 use denote.Exit.{yes}
 use Rattle.model.specs.Buffers.{ours}
 use Rattle.model.specs.Step.{outcome}
-use Rattle.model.specs.declared.Lock.{Lock}
-use Rattle.model.specs.declared.Sessions.{Sessions}
+use Rattle.records.specs.declared.Lock.{Lock}
+use Rattle.records.specs.declared.Sessions.{Sessions}
 use Rattle.lock_records.specs.declared.Turn.{Turn}
 use Rattle.lock_records.specs.Run.{storeOn, sweptBy}
 use Rattle.lock_records.specs.Turns.{IsSetUpTurn}

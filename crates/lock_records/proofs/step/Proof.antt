@@ -37,9 +37,9 @@ use denote.Triple.Walked.{says, Stays, stay-none, stay-slice, gave-slice, stay-n
 use denote.Exit.{yes}
 use Rattle.model.specs.Buffers.{ours}
 use Rattle.model.specs.Step.{outcome}
-use Rattle.model.specs.declared.Lock.{Lock}
-use Rattle.model.specs.declared.Sessions.{Sessions}
-use Rattle.model.specs.declared.Call.{Call}
+use Rattle.records.specs.declared.Lock.{Lock}
+use Rattle.records.specs.declared.Sessions.{Sessions}
+use Rattle.records.specs.declared.Call.{Call}
 use Rattle.lock_records.specs.declared.Turn.{Turn}
 use Rattle.lock_records.specs.Run.{storeOn, lockIn, sweptBy}
 use Rattle.lock_records.specs.Turns.{lookOf, IsTurn}

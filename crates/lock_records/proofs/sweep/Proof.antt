@@ -42,7 +42,7 @@ use denote.Triple.Statement.{Contract, Triple}
 use denote.Triple.Table.{entered, cited}
 use denote.Triple.Walked.{says, needs, Stays, stay-none, stay-slice, stay-none-slice, walkOf, goes-none, goes-slice, goes-none-slice, Walks, ends-at, walked, walk-meets}
 use denote.Exit.{yes}
-use Rattle.model.specs.declared.Lock.{Lock}
+use Rattle.records.specs.declared.Lock.{Lock}
 use Rattle.lock_records.specs.declared.Change.{Change}
 use Rattle.lock_records.specs.Run.{countOf, cellOf, changedAt, swept, ChangeFits}
 use Rattle.lock_records.proofs.Row.{R, RC, low-c, tells-c, makes-c, typed-c, session-fits}

@@ -39,9 +39,9 @@ use denote.Triple.Walked.{says, Stays, stay-none, stay-slice, stay-none-slice, w
 use denote.Exit.{yes}
 use Rattle.model.specs.Buffers.{Limits}
 use Rattle.model.specs.Step.{outcome}
-use Rattle.model.specs.declared.Lock.{Lock}
-use Rattle.model.specs.declared.Sessions.{Sessions}
-use Rattle.model.specs.declared.Call.the-variants.{Write}
+use Rattle.records.specs.declared.Lock.{Lock}
+use Rattle.records.specs.declared.Sessions.{Sessions}
+use Rattle.records.specs.declared.Call.the-variants.{Write}
 use Rattle.lock_records.specs.declared.Turn.{Turn}
 use Rattle.lock_records.specs.Run.{storeOn, lockIn, sweptBy}
 use Rattle.lock_records.specs.Turns.{IsTurnUnder}

@@ -37,9 +37,9 @@ use denote.Triple.Walked.{says, Stays, stay-none, gave-slice, stay-none-slice, w
 use denote.Exit.{yes}
 use Rattle.model.specs.Buffers.{ours}
 use Rattle.model.specs.Step.{outcome, setUpEffect}
-use Rattle.model.specs.declared.Lock.{Lock}
-use Rattle.model.specs.declared.Sessions.{Sessions}
-use Rattle.model.specs.declared.Reply.{Reply}
+use Rattle.records.specs.declared.Lock.{Lock}
+use Rattle.records.specs.declared.Sessions.{Sessions}
+use Rattle.records.specs.declared.Reply.{Reply}
 use Rattle.lock_records.specs.Run.{storeOn}
 use Rattle.lock_records.proofs.Row.{R, vals, tells, RS, low-s, tells-s, makes-s, typed-s, RA, typed-a}
 use Rattle.lock_records.proofs.Leave.{full, leave}

@@ -4,12 +4,12 @@ use native.Mathlib.Omega.{arith}
 use borrow.Author.Tests.{not-true, not-false}
 use Rattle.model.specs.Buffers.{Buffers, logIn}
 use Rattle.model.specs.Plans.{recordFits}
-use Rattle.calls.specs.Pieces.{tested}
+use Rattle.refusals.specs.Pieces.{tested}
 use lib.Dec.{eqb}
 use lib.ListN.{length}
 use Rattle.turns.proofs.Lengths.{Admitted, admitted-by}
-use Rattle.store.specs.Lent.{buffersOf}
-use Rattle.store.proofs.Forms.{log-fits}
+use Rattle.locks.specs.Lent.{buffersOf}
+use Rattle.turns.proofs.Forms.{log-fits}
 use Rattle.many_reads.proofs.Whole.{refused-list, ListFits, list-fits, not-admitted, not-running, fits, few-values, few-entries, runs-on, can-roll, rolls-back}
 use borrow.Author.Needs.{needs}
 use Rattle.many_reads.proofs.read_many.Statement.{statement}

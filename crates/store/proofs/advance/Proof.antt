@@ -3,12 +3,12 @@ use mathlib.Core.Path.{refl, ap, _∙_}
 use borrow.Author.Tests.{not-true, not-false}
 use Rattle.model.specs.Buffers.{Buffers}
 use Rattle.turns.proofs.Lengths.{Admitted, admitted-by}
-use Rattle.store.specs.Lent.{buffersOf}
+use Rattle.locks.specs.Lent.{buffersOf}
 use lib.ListN.{length}
-use Rattle.model.specs.declared.Call.the-variants.{Advance}
+use Rattle.records.specs.declared.Call.the-variants.{Advance}
 use Rattle.locks.specs.Changes.{dropOf}
-use Rattle.calls.proofs.Agree.{due-fits}
-use Rattle.store.proofs.Forms.{even, log-fits, undropped, advance-planned, advance-drops-none, kept-change, kept-carry, kept-replies, turned-down}
+use Rattle.advance.proofs.Agree.{due-fits}
+use Rattle.turns.proofs.Forms.{even, log-fits, undropped, advance-planned, advance-drops-none, kept-change, kept-carry, kept-replies, turned-down}
 use borrow.Author.Needs.{needs}
 use Rattle.store.proofs.advance.Statement.{statement}
 use Rattle.store.proofs.advance.Tie as tie

@@ -4,10 +4,10 @@ use borrow.Author.Tests.{not-true, not-false}
 use Rattle.model.specs.Buffers.{Buffers}
 use Rattle.turns.proofs.Guards.{begin-keeps}
 use Rattle.turns.proofs.Lengths.{Admitted, admitted-by}
-use Rattle.store.specs.Lent.{buffersOf}
+use Rattle.locks.specs.Lent.{buffersOf}
 use Rattle.model.specs.Plans.{plan}
-use Rattle.model.specs.declared.Call.the-variants.{Begin}
-use Rattle.store.proofs.Forms.{log-fits, no-change, kept-change, kept-replies, turned-down}
+use Rattle.records.specs.declared.Call.the-variants.{Begin}
+use Rattle.turns.proofs.Forms.{log-fits, no-change, kept-change, kept-replies, turned-down}
 use borrow.Author.Needs.{needs}
 use Rattle.store.proofs.begin.Statement.{statement}
 use Rattle.store.proofs.begin.Tie as tie

@@ -2,7 +2,7 @@
 use mathlib.Core.Path.{refl}
 use Rattle.model.specs.Buffers.{Buffers}
 use Rattle.turns.proofs.Peeks.{plan-alone, peek-inside, peek-logged, hands-store, hands-log, hands-nothing}
-use Rattle.store.specs.Lent.{buffersOf}
+use Rattle.locks.specs.Lent.{buffersOf}
 use borrow.Author.Needs.{needs}
 use Rattle.store.proofs.peek.Statement.{statement}
 use Rattle.store.proofs.peek.Tie as tie

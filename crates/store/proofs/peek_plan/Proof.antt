@@ -3,11 +3,11 @@ use mathlib.Core.Path.{refl, _∙_}
 use borrow.Author.Tests.{not-true, not-false}
 use Rattle.model.specs.Buffers.{Buffers}
 use Rattle.model.specs.Plans.{plan}
-use Rattle.model.specs.declared.Call.the-variants.{Peek}
+use Rattle.records.specs.declared.Call.the-variants.{Peek}
 use Rattle.turns.proofs.Lengths.{Admitted, admitted-by, plan-refused-by}
 use Rattle.turns.proofs.Whole.{is-plan}
-use Rattle.store.specs.Lent.{buffersOf}
-use Rattle.store.proofs.Forms.{log-fits}
+use Rattle.locks.specs.Lent.{buffersOf}
+use Rattle.turns.proofs.Forms.{log-fits}
 use borrow.Author.Needs.{needs}
 use Rattle.store.proofs.peek_plan.Statement.{statement}
 use Rattle.store.proofs.peek_plan.Tie as tie

@@ -3,10 +3,10 @@ use mathlib.Core.Path.{refl, _∙_}
 use borrow.Author.Tests.{not-true, not-false}
 use Rattle.model.specs.Buffers.{Buffers}
 use Rattle.turns.proofs.Lengths.{Admitted, admitted-by}
-use Rattle.store.specs.Lent.{buffersOf}
+use Rattle.locks.specs.Lent.{buffersOf}
 use Rattle.model.specs.Plans.{plan}
-use Rattle.model.specs.declared.Call.the-variants.{Seal}
-use Rattle.store.proofs.Forms.{even, log-fits, drop-alone, seal-drops, kept-change, kept-carry, kept-replies, turned-down}
+use Rattle.records.specs.declared.Call.the-variants.{Seal}
+use Rattle.turns.proofs.Forms.{even, log-fits, drop-alone, seal-drops, kept-change, kept-carry, kept-replies, turned-down}
 use borrow.Author.Needs.{needs}
 use Rattle.store.proofs.seal.Statement.{statement}
 use Rattle.store.proofs.seal.Tie as tie

@@ -3,11 +3,11 @@ use mathlib.Core.Path.{refl, ap, _∙_}
 use borrow.Author.Tests.{not-true, not-false}
 use Rattle.model.specs.Buffers.{Buffers, ourCaps}
 use Rattle.turns.proofs.Lengths.{Admitted, admitted-by}
-use Rattle.store.specs.Lent.{buffersOf}
+use Rattle.locks.specs.Lent.{buffersOf}
 use Rattle.model.specs.Plans.{plan}
-use Rattle.model.specs.declared.Call.the-variants.{Write}
+use Rattle.records.specs.declared.Call.the-variants.{Write}
 use Rattle.locks.specs.Changes.{dropOf}
-use Rattle.store.proofs.Forms.{even, log-fits, undropped, write-planned, write-drops-none, change-is, can-carry, replies, turned-down}
+use Rattle.turns.proofs.Forms.{even, log-fits, undropped, write-planned, write-drops-none, change-is, can-carry, replies, turned-down}
 use borrow.Author.Needs.{needs}
 use Rattle.store.proofs.write.Statement.{statement}
 use Rattle.store.proofs.write.Tie as tie

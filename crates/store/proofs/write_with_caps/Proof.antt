@@ -5,12 +5,12 @@ use borrow.Author.Tests.{not-true, not-false}
 use Rattle.model.specs.Buffers.{Buffers, hasCaps}
 use Rattle.model.proofs.Tables.{has-caps, has-not}
 use Rattle.turns.proofs.Lengths.{Admitted, admitted-by, table-refused}
-use Rattle.store.specs.Lent.{buffersOf}
+use Rattle.locks.specs.Lent.{buffersOf}
 use Rattle.model.specs.Plans.{plan}
-use Rattle.model.specs.declared.Call.the-variants.{Write}
+use Rattle.records.specs.declared.Call.the-variants.{Write}
 use Rattle.model.specs.Turns.{TurnEffect}
 use Rattle.locks.specs.Changes.{dropOf}
-use Rattle.store.proofs.Forms.{even, log-fits, undropped, write-planned, write-drops-none, can-carry-under, replies-under, turned-down-under}
+use Rattle.turns.proofs.Forms.{even, log-fits, undropped, write-planned, write-drops-none, can-carry-under, replies-under, turned-down-under}
 use borrow.Author.Needs.{needs}
 use Rattle.store.proofs.write_with_caps.Statement.{statement}
 use Rattle.store.proofs.write_with_caps.Tie as tie

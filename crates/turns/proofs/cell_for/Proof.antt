@@ -1,6 +1,6 @@
 -- One arm for each call.
 use mathlib.Core.Path.{_∙_}
-use Rattle.calls.proofs.Agree.{due-fits}
+use Rattle.advance.proofs.Agree.{due-fits}
 use Rattle.turns.specs.AnyCall.{cellFor}
 use borrow.Author.Needs.{needs}
 use Rattle.turns.proofs.cell_for.Statement.{statement}
