@@ -1,0 +1,4 @@
+pub mod Answers
+pub mod CellLines
+pub mod Decimals
+pub mod Puts
