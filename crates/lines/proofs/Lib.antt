@@ -1,4 +1,1 @@
-pub mod Answers
-pub mod CellLines
-pub mod Decimals
 pub mod Puts

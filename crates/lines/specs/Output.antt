@@ -8,7 +8,7 @@ use denote.Ref.{now}
 use Rattle.model.specs.Slices.{Slice}
 use Rattle.items.specs.declared.Next.{Next}
 use Rattle.items.specs.declared.Next.the-variants as next
-use Rattle.lines.specs.Lines.{fieldLine}
+use Rattle.replay_text.specs.Lines.{fieldLine}
 
 -- ---- one text
 

@@ -5,8 +5,8 @@ ghost use mathlib.Core.Path.{_≡_};
 ghost use mathlib.Core.List.{_∷_, [], _++_};
 ghost use Prim.Native.Nat.{_+_, _*_, _≤_, _<_};
 ghost use lib.ListN.{length};
-ghost use Rattle.lines.specs.Decimal.{decimal};
-ghost use Rattle.lines.specs.Lines.{word, space, newline, sizeLine, setUpLine, fieldLine, cellLine, answerLine, cellLines};
+ghost use Rattle.replay_text.specs.Decimal.{decimal};
+ghost use Rattle.replay_text.specs.Lines.{word, space, newline, sizeLine, setUpLine, fieldLine, cellLine, answerLine, cellLines};
 ghost use Rattle.lines.specs.Output.{out, put, Puts, stopLine};
 
 const SPACE: u8 = 32;

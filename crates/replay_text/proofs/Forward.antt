@@ -8,7 +8,7 @@ use Rattle.model.specs.History.{Action, oneCall, eventOf, run, events}
 use Rattle.model.specs.Step.{step, answerOf}
 use Rattle.model.proofs.Firsts.{run-first, events-first}
 use Rattle.items.specs.Items.{Item, cell, asked, refused, calls}
-use Rattle.lines.specs.Lines.{fieldLine, answerLine, answerLines, cellLines, endLine}
+use Rattle.replay_text.specs.Lines.{fieldLine, answerLine, answerLines, cellLines, endLine}
 use Rattle.replay_text.specs.Transcript.{callsText}
 
 module _ (σ : Store) (k : Call) where

@@ -9,7 +9,7 @@ use Rattle.model.specs.Buffers.{size, lengthsFit}
 use Rattle.model.specs.Step.{setUpRefusal, setUpAnswer}
 use Rattle.items.specs.Items.{itemsAt, values, classes}
 use Rattle.items.specs.Leading.{Leading}
-use Rattle.lines.specs.Lines.{sizeLine, setUpLine}
+use Rattle.replay_text.specs.Lines.{sizeLine, setUpLine}
 use Rattle.replay_text.specs.Transcript.{given, afterSetUp, setUpText, itemsText, transcript}
 
 -- more than 65,536 bytes

@@ -5,9 +5,9 @@ use Rattle.model.specs.Computing.{computing, counting}
 use Rattle.field.specs.Field.{callAt, readingOf, readingAt}
 use Rattle.field.specs.LittleEndian.{number, numberAt}
 use Rattle.field.specs.Table.{table, find, layoutOf}
-use Rattle.lines.specs.Decimal.{digits, decimal}
+use Rattle.replay_text.specs.Decimal.{digits, decimal}
 use Rattle.items.specs.Items.{nextOfField, nextOf, following, itemsWithin, itemsAt, values, classes, later, calls}
-use Rattle.lines.specs.Lines.{word, sizeLine, setUpLine, fieldLine, cellLine, answerWords, answerLine, answerLines, cellLines, endLine}
+use Rattle.replay_text.specs.Lines.{word, sizeLine, setUpLine, fieldLine, cellLine, answerWords, answerLine, answerLines, cellLines, endLine}
 use Rattle.replay_text.specs.Transcript.{given, callsText, afterSetUp, setUpText, itemsText, transcript}
 use Rattle.replay_text.specs.Worked.{Worked, worked, replayed}
 

@@ -12,7 +12,7 @@ use Rattle.model.specs.Effects.{number}
 use Rattle.model.specs.Step.{setUpAnswer, setUp}
 use Rattle.model.specs.History.{Action, run, events}
 use Rattle.items.specs.Items.{Item, itemsAt, values, classes, later, calls}
-use Rattle.lines.specs.Lines.{sizeLine, setUpLine, answerLines, cellLines, endLine}
+use Rattle.replay_text.specs.Lines.{sizeLine, setUpLine, answerLines, cellLines, endLine}
 
 -- what set-up is given for the starting cells: nothing in locks, logs and records, and our caps
 unfoldable pub given : List ℕ → List ℕ → Store

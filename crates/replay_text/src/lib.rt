@@ -1,1 +1,2 @@
-// The text that the replay prints for an input (document 01, "Call fields"): definitions, worked inputs and laws. There is no code here; crate transcript prints it.
+// What the replay prints (document 01, "Call fields"): the lines, the whole text of an input, worked inputs, and laws. There is no code here: crate lines writes
+// the lines, and crate transcript the text.

@@ -18,7 +18,7 @@ use Rattle.locks.specs.Lent.{storeOf}
 use Rattle.transcript.specs.declared.Printed.{Printed}
 use Rattle.transcript.specs.declared.Printed.the-variants.{Bytes, Short}
 use Rattle.items.specs.Items.{Item}
-use Rattle.lines.specs.Lines.{setUpLine}
+use Rattle.replay_text.specs.Lines.{setUpLine}
 use Rattle.transcript.specs.Replay.{Replayed, replayed, replaying}
 use Rattle.lines.specs.Output.{Out, out, put}
 use Rattle.transcript.specs.Output.{Fitted}

@@ -13,7 +13,7 @@ use Rattle.model.proofs.Tables.{goes-by-ours}
 use Rattle.items.specs.declared.Next.{Next}
 use Rattle.items.specs.declared.Next.the-variants as next
 use Rattle.items.specs.Items.{Item, asked, following}
-use Rattle.lines.specs.Lines.{answerLine, cellLines}
+use Rattle.replay_text.specs.Lines.{answerLine, cellLines}
 use Rattle.lines.specs.Output.{out, put, stopLine}
 use Rattle.replay_text.specs.Transcript.{callsText}
 use Rattle.replay_text.proofs.Forward.{text-asked, text-end, text-refused, text-late-cell}

@@ -4,7 +4,7 @@ use Prim.Native.Nat.{ℕ, _<_, _+_}
 use native.Mathlib.Omega.{arith}
 use mathlib.Core.Path.{sym, _∙_, ap}
 use Rattle.lines.specs.Output.{put}
-use Rattle.lines.proofs.Decimals.{decimal-digit, decimal-more, length-digit, length-more}
+use Rattle.replay_text.proofs.Decimals.{decimal-digit, decimal-more, length-digit, length-more}
 use Rattle.lines.proofs.Puts.{ends-at, then}
 use borrow.Fn.Kinds.{In}
 use borrow.Fn.PlainCycle.{Measures, is, falls, and}

@@ -2,8 +2,8 @@
 use native.Mathlib.Omega.{arith}
 use mathlib.Core.Path.{_∙_, ap}
 use Rattle.lines.specs.Output.{put}
-use Rattle.lines.proofs.Answers.{plain-line, value-line, wait-line}
-use Rattle.lines.proofs.Decimals.{length-pair}
+use Rattle.replay_text.proofs.Answers.{plain-line, value-line, wait-line}
+use Rattle.replay_text.proofs.Decimals.{length-pair}
 use Rattle.lines.proofs.Puts.{ends-at}
 use borrow.Author.Needs.{needs}
 use Rattle.lines.proofs.put_answer.Statement.{statement}

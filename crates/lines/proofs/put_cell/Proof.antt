@@ -1,7 +1,7 @@
 -- `lines::put_cell` meets its contract: the letter, the cell and the value. Assumes nothing.
 use native.Mathlib.Omega.{arith}
-use Rattle.lines.specs.Lines.{cellLine}
-use Rattle.lines.proofs.Decimals.{length-pair}
+use Rattle.replay_text.specs.Lines.{cellLine}
+use Rattle.replay_text.proofs.Decimals.{length-pair}
 use Rattle.lines.proofs.Puts.{ends-at, then}
 use borrow.Author.Needs.{needs}
 use Rattle.lines.proofs.put_cell.Statement.{statement}

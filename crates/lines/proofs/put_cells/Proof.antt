@@ -4,10 +4,10 @@ use Prim.Native.Nat.{_+_, _-_, _*_, _≤_}
 use native.Mathlib.Omega.{arith}
 use mathlib.Core.Path.{_≡_, sym, _∙_, ap}
 use lib.ListN.{length, drop, getD}
-use Rattle.lines.specs.Lines.{cellLines}
+use Rattle.replay_text.specs.Lines.{cellLines}
 use Rattle.lines.specs.Output.{put}
-use Rattle.lines.proofs.Decimals.{length-cell}
-use Rattle.lines.proofs.CellLines.{cells-more, cells-none}
+use Rattle.replay_text.proofs.Decimals.{length-cell}
+use Rattle.replay_text.proofs.CellLines.{cells-more, cells-none}
 use Rattle.lines.proofs.Puts.{ends-at, after, put-nothing}
 use borrow.Author.Needs.{needs}
 use Rattle.lines.proofs.put_cells.Statement.{statement}

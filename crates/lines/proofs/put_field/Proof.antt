@@ -1,7 +1,7 @@
 -- `lines::put_field` meets its contract: the word `field`, the place and the number. Assumes nothing.
 use native.Mathlib.Omega.{arith}
-use Rattle.lines.specs.Lines.{fieldLine}
-use Rattle.lines.proofs.Decimals.{length-pair}
+use Rattle.replay_text.specs.Lines.{fieldLine}
+use Rattle.replay_text.proofs.Decimals.{length-pair}
 use Rattle.lines.proofs.Puts.{ends-at, then}
 use borrow.Author.Needs.{needs}
 use Rattle.lines.proofs.put_field.Statement.{statement}

@@ -1,7 +1,7 @@
 -- `lines::put_pair` meets its contract: one word after the other. Assumes nothing.
 use native.Mathlib.Omega.{arith}
 use lib.ListN.{length-append}
-use Rattle.lines.specs.Lines.{word}
+use Rattle.replay_text.specs.Lines.{word}
 use Rattle.lines.proofs.Puts.{ends-at, then}
 use borrow.Author.Needs.{needs}
 use Rattle.lines.proofs.put_pair.Statement.{statement}

@@ -1,7 +1,7 @@
 -- `lines::put_set_up` meets its contract: the word, then the number. Assumes nothing.
 use native.Mathlib.Omega.{arith}
-use Rattle.lines.specs.Lines.{setUpLine}
-use Rattle.lines.proofs.Decimals.{length-word}
+use Rattle.replay_text.specs.Lines.{setUpLine}
+use Rattle.replay_text.proofs.Decimals.{length-word}
 use Rattle.lines.proofs.Puts.{ends-at, then}
 use borrow.Author.Needs.{needs}
 use Rattle.lines.proofs.put_set_up.Statement.{statement}

@@ -1,6 +1,6 @@
 -- `lines::put_size` meets its contract: the text as it is. Assumes nothing.
 use native.Mathlib.Omega.{arith}
-use Rattle.lines.specs.Lines.{sizeLine}
+use Rattle.replay_text.specs.Lines.{sizeLine}
 use Rattle.lines.proofs.Puts.{ends-at}
 use borrow.Author.Needs.{needs}
 use Rattle.lines.proofs.put_size.Statement.{statement}

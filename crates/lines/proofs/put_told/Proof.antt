@@ -2,9 +2,9 @@
 use native.Mathlib.Omega.{arith}
 use mathlib.Core.Path.{_∙_, ap}
 use mathlib.Core.List.{append-assoc}
-use Rattle.lines.specs.Lines.{word, space}
+use Rattle.replay_text.specs.Lines.{word, space}
 use Rattle.lines.specs.Output.{put}
-use Rattle.lines.proofs.Decimals.{length-word, length-pair}
+use Rattle.replay_text.proofs.Decimals.{length-word, length-pair}
 use Rattle.lines.proofs.Puts.{ends-at, then}
 use borrow.Author.Needs.{needs}
 use Rattle.lines.proofs.put_told.Statement.{statement}

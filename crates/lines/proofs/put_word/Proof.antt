@@ -2,8 +2,8 @@
 use native.Mathlib.Omega.{arith}
 use mathlib.Core.List.{[], _∷_}
 use lib.ListN.{length-append}
-use Rattle.lines.specs.Decimal.{decimal}
-use Rattle.lines.specs.Lines.{word}
+use Rattle.replay_text.specs.Decimal.{decimal}
+use Rattle.replay_text.specs.Lines.{word}
 use Rattle.lines.proofs.Puts.{ends-at, then}
 use borrow.Author.Needs.{needs}
 use Rattle.lines.proofs.put_word.Statement.{statement}

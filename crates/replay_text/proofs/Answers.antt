@@ -8,7 +8,7 @@ use Rattle.records.specs.declared.Answer.{Answer}
 use Rattle.records.specs.declared.Answer.the-variants.{Done, Value, Sealed, Moved, Waiting, Committed, Refused}
 use Rattle.model.specs.Effects.{number}
 use Rattle.records.proofs.Answer.{the-type}
-use Rattle.lines.specs.Lines.{word, space, newline, answerWords, answerLine}
+use Rattle.replay_text.specs.Lines.{word, space, newline, answerWords, answerLine}
 
 plain-words : (a : Answer) → OneOf (0 ∷ 2 ∷ 3 ∷ 5 ∷ 6 ∷ []) (tagOf the-type a) → answerWords a ≡ word (number a) newline
 unfolding answerWords

@@ -7,8 +7,8 @@ use lib.Dec.{ltb}
 use lib.ListN.{length, length-append}
 use Rattle.model.proofs.Tools.{test}
 use borrow.Author.Tests.{lt-ltb, le-ltb, ltb-true, ltb-false}
-use Rattle.lines.specs.Decimal.{digit, digits, decimal}
-use Rattle.lines.specs.Lines.{word, space, newline, cellLine}
+use Rattle.replay_text.specs.Decimal.{digit, digits, decimal}
+use Rattle.replay_text.specs.Lines.{word, space, newline, cellLine}
 
 -- one digit below 10, however many divisions are left
 one-digit : (k n : ℕ) → n < 10 → digits k n ≡ digit n ∷ []

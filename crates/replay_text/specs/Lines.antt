@@ -6,7 +6,7 @@ use Rattle.records.specs.declared.Answer.{Answer}
 use Rattle.records.specs.declared.Answer.the-variants.{Done, Value, Sealed, Moved, Waiting, Committed, Refused}
 use Rattle.model.specs.Effects.{number}
 use Rattle.model.specs.History.{Event}
-use Rattle.lines.specs.Decimal.{decimal}
+use Rattle.replay_text.specs.Decimal.{decimal}
 use Rattle.items.specs.Items.{Item, cell, asked, refused}
 
 -- a number and what parts it from the next word or ends the line

@@ -5,7 +5,7 @@ use mathlib.Core.Path.{_≡_}
 use mathlib.Core.List.{List, [], _++_}
 use lib.ListN.{length, drop, getD, drop-of-length-le}
 use lib.Seq.{drop-cons}
-use Rattle.lines.specs.Lines.{cellLine, cellLines}
+use Rattle.replay_text.specs.Lines.{cellLine, cellLines}
 
 pub cells-more : (i : ℕ) (vs : List ℕ) → i < length vs → cellLines i (drop i vs) ≡ cellLine i (getD vs i 0) ++ cellLines (i + 1) (drop (i + 1) vs)
 unfolding cellLines
