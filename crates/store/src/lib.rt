@@ -4,7 +4,7 @@
 ghost use mathlib.Core.Path.{_≡_};
 ghost use Rattle.records.specs.declared.Answer.the-variants.{Refused};
 ghost use Rattle.records.specs.declared.Call.the-variants.{Begin, Read, Write, Seal, Advance, Abandon, Peek, Hold};
-ghost use Rattle.locks.specs.Lent.{TakesOne, TakesOneBy, Loads, PeekPlans, HandsBack};
+ghost use Rattle.contracts.specs.Lent.{TakesOne, TakesOneBy, Loads, PeekPlans, HandsBack};
 use records::Answer;
 use records::Plan;
 use records::Reply;
@@ -29,7 +29,7 @@ pub fn load_caps(
 ) -> Reply
     ensures { λ r. ⌜ Loads caps table values classes readers claimants exclusives logs sessions r ⌝ }
 {
-    let answer = turns::load_caps(
+    let answer = loads::load_caps(
         sessions,
         values,
         classes,
