@@ -8,16 +8,15 @@ use borrow.Author.Tests.{lt-ltb, le-ltb, eq-eqb, ne-eqb, ltb-true}
 use lib.Dec.{ltb, eqb}
 use lib.ListN.{length, getD, set, drop, length-set, drop-of-length-le}
 use lib.Seq.{drop-cons}
-use Rattle.model.specs.Buffers.{logIn, entryAt, slotIn, appended}
+use Rattle.model.specs.Buffers.{entryAt, slotIn, appended}
 use Rattle.model.specs.Readers.{withReader}
 use Rattle.model.proofs.Carried.{length-appended}
 use Rattle.model.proofs.Laws.{appended-below}
 use Rattle.model.proofs.Tools.{split, test, which}
 use Rattle.log.specs.Slots.{found}
 use Rattle.refusals.proofs.Ways.{found-here, found-nowhere}
-use Rattle.turns.proofs.Logs.{cut, puts, cut-is, puts-is}
-use Rattle.many_reads.specs.Cells.{Fits, Covers, CellRead, cellRead, newRead, slotRead, readCell, CellsRead, cellsRead, readCells, cellsInLogs}
-use Rattle.many_reads.specs.declared.CellReply.{CellReply}
+use Rattle.cell_reads.specs.Cells.{Fits, Covers, CellRead, cellRead, newRead, slotRead, readCell, CellsRead, cellsRead, readCells}
+use Rattle.cell_reads.specs.declared.CellReply.{CellReply}
 
 -- a refusal n, as the code replies it, with the marks as they were
 pub refused-is : (n k : ℕ) (R W E : List ℕ) (o : CellRead) → cellRead n 0 R W k ≡ o → Covers E W k → (r : CellReply) → r ≡ record { number = n; value = 0; entries = k }
@@ -117,15 +116,3 @@ reads-few vs C s i (c ∷ cs) T R W k =
     let o = readCell vs C s R W k c in
     split (λ (q : CellsRead). q .count ≤ i + suc (length cs)) (eqb (o .number) 101)
     (λ _. let l = reads-few vs C s (suc i) cs (set T i (o .value)) (o .readers) (o .log) (o .entries) in omega arith) (λ _. omega arith)
-
--- ---- the session's log as a part of the logs
-
-pub in-part : (logs : List ℕ) (s n r c k : ℕ) → Fits s n r c (logIn logs s) k → Fits s n r c (cut logs s) k
-in-part logs s n r c k f = subst (λ (W : List ℕ). Fits s n r c W k) (sym (cut-is logs s)) f
-
--- and put back
-pub put-in-logs : (logs vs C : List ℕ) (s : ℕ) (cs T R : List ℕ) (k n i : ℕ) (T′ R′ W : List ℕ) (k′ : ℕ) → cellsRead n i T′ R′ W k′ ≡ readCells vs C s 0 cs T R (cut logs s) k
-    → cellsRead n i T′ R′ (puts logs s W) k′ ≡ cellsInLogs s logs (readCells vs C s 0 cs T R (logIn logs s) k)
-put-in-logs logs vs C s cs T R k n i T′ R′ W k′ e =
-    ap (λ (l : List ℕ). cellsRead n i T′ R′ l k′) (puts-is logs s W)
-    ∙ ap (cellsInLogs s logs) (e ∙ ap (λ (l : List ℕ). readCells vs C s 0 cs T R l k) (cut-is logs s))

@@ -10,12 +10,12 @@ use lib.ListN.{length, getD, set}
 use denote.Ref.{now}
 use Rattle.model.specs.Search.{below}
 use Rattle.model.specs.Readers.{withReader}
-use Rattle.model.specs.Buffers.{logIn, onLog, cellAt, entryAt, slotIn, appended}
+use Rattle.model.specs.Buffers.{cellAt, entryAt, slotIn, appended}
 use Rattle.model.specs.Plans.{require}
 use Rattle.model.specs.Slices.{Slice}
 use Rattle.locks.specs.Sweeps.{marked}
-use Rattle.many_reads.specs.declared.CellReply.{CellReply}
-use Rattle.many_reads.specs.declared.CellsReply.{CellsReply}
+use Rattle.cell_reads.specs.declared.CellReply.{CellReply}
+use Rattle.cell_reads.specs.declared.CellsReply.{CellsReply}
 
 -- past the tests, of n cells, r reader sets and c claimants: the session is one of sixteen, and the k entries of its log, at most 32, are of cells below n
 pub record Fits (s n r c : ℕ) (log : List ℕ) (k : ℕ) : Type 0 where
@@ -101,13 +101,3 @@ abbrev pub ReadsCells : Slice → Slice → Slice → Slice → ℕ → ℕ → 
 ReadsCells values readers claimants log k s cells target r =
     cellsRead (r .number) (r .count) (now (target .exit)) (now (readers .exit)) (now (log .exit)) (r .entries)
     ≡ readCells (now (values .entry)) (now (claimants .entry)) s 0 (now (cells .entry)) (now (target .entry)) (now (readers .entry)) (now (log .entry)) k
-
--- the same with the logs of all sessions in place of the session's
-abbrev pub cellsInLogs : ℕ → List ℕ → CellsRead → CellsRead
-cellsInLogs s logs o = cellsRead (o .number) (o .count) (o .target) (o .readers) (onLog s (λ log. o .log) logs) (o .entries)
-
-abbrev pub ReadsIn : Slice → Slice → Slice → Slice → ℕ → ℕ → Slice → Slice → CellsReply → Type 0
-ReadsIn values readers claimants logs k s cells target r =
-    cellsRead (r .number) (r .count) (now (target .exit)) (now (readers .exit)) (now (logs .exit)) (r .entries)
-    ≡ cellsInLogs s (now (logs .entry))
-    (readCells (now (values .entry)) (now (claimants .entry)) s 0 (now (cells .entry)) (now (target .entry)) (now (readers .entry)) (logIn (now (logs .entry)) s) k)

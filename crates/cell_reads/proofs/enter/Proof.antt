@@ -1,8 +1,8 @@
 -- The reader set with the session, and the entry.
 use mathlib.Core.Path.{refl}
 use borrow.Author.Needs.{needs}
-use Rattle.many_reads.proofs.enter.Statement.{statement}
-use Rattle.many_reads.proofs.enter.Tie as tie
+use Rattle.cell_reads.proofs.enter.Statement.{statement}
+use Rattle.cell_reads.proofs.enter.Tie as tie
 
 returns : tie.Need-returns
 returns c = (refl, rw (c .before .before .before .before .with-reader .ensures) refl, c .before .before .append .ensures)

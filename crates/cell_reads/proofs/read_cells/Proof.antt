@@ -3,12 +3,12 @@ use Prim.Native.Nat.{_≤_, _-_}
 use native.Mathlib.Omega.{arith}
 use mathlib.Core.Path.{_≡_, refl, sym, _∙_}
 use lib.ListN.{length, drop, length-set}
-use Rattle.many_reads.specs.Cells.{Fits, Covers, readCells}
-use Rattle.many_reads.proofs.Marks.{below-less}
-use Rattle.many_reads.proofs.Ways.{fits-after, reads-end, reads-stop, reads-go-on}
+use Rattle.cell_reads.specs.Cells.{Fits, Covers, readCells}
+use Rattle.cell_reads.proofs.Marks.{below-less}
+use Rattle.cell_reads.proofs.Ways.{fits-after, reads-end, reads-stop, reads-go-on}
 use borrow.Author.Needs.{needs}
-use Rattle.many_reads.proofs.read_cells.Statement.{statement}
-use Rattle.many_reads.proofs.read_cells.Tie as tie
+use Rattle.cell_reads.proofs.read_cells.Statement.{statement}
+use Rattle.cell_reads.proofs.read_cells.Tie as tie
 
 abbrev Inv-loop : tie.InvT-loop
 Inv-loop values readers₀ claimants log₀ count session cells target₀ entered₀ entries₀ i₀ readers log target entered entries i =

@@ -1,11 +1,11 @@
 -- One law for each return.
 use native.Mathlib.Omega.{arith}
 use mathlib.Core.Path.{refl}
-use Rattle.many_reads.proofs.Marks.{covers-entered}
-use Rattle.many_reads.proofs.Ways.{refused-is, cell-outside, cell-known, cell-full, cell-claimed, cell-entered}
+use Rattle.cell_reads.proofs.Marks.{covers-entered}
+use Rattle.cell_reads.proofs.Ways.{refused-is, cell-outside, cell-known, cell-full, cell-claimed, cell-entered}
 use borrow.Author.Needs.{needs}
-use Rattle.many_reads.proofs.read_cell.Statement.{statement}
-use Rattle.many_reads.proofs.read_cell.Tie as tie
+use Rattle.cell_reads.proofs.read_cell.Statement.{statement}
+use Rattle.cell_reads.proofs.read_cell.Tie as tie
 
 returns : tie.Need-returns
 returns c = refused-is _ _ _ _ _ _ (cell-outside _ _ _ _ _ _ _ (c .before .if1 .taken)) (c .before .before .before .before .before .before .pre .1) _ (c .refused-cell .ensures)

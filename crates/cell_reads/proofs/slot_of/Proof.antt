@@ -1,10 +1,10 @@
 -- A cell that is not marked is not in the log.
 use mathlib.Core.Path.{sym, _∙_}
 use borrow.Author.Tests.{not-true}
-use Rattle.many_reads.proofs.Marks.{unmarked}
+use Rattle.cell_reads.proofs.Marks.{unmarked}
 use borrow.Author.Needs.{needs}
-use Rattle.many_reads.proofs.slot_of.Statement.{statement}
-use Rattle.many_reads.proofs.slot_of.Tie as tie
+use Rattle.cell_reads.proofs.slot_of.Statement.{statement}
+use Rattle.cell_reads.proofs.slot_of.Tie as tie
 
 is-marked-requires : tie.Need-is-marked-requires
 is-marked-requires c κs = c .before .pre .1

@@ -1,7 +1,7 @@
 -- One law for each return.
-use Rattle.many_reads.proofs.Lists.{list-wrong, list-narrow, list-fit}
-use Rattle.many_reads.proofs.list_refusal.Statement.{statement}
-use Rattle.many_reads.proofs.list_refusal.Tie as tie
+use Rattle.cell_reads.proofs.Lists.{list-wrong, list-narrow, list-fit}
+use Rattle.cell_reads.proofs.list_refusal.Statement.{statement}
+use Rattle.cell_reads.proofs.list_refusal.Tie as tie
 
 returns : tie.Need-returns
 returns c = list-wrong _ _ (c .if1 .taken)

@@ -4,10 +4,10 @@ use mathlib.Core.Path.{_≡_}
 use native.Mathlib.Omega.{arith}
 use Rattle.model.specs.Buffers.{cellAt}
 use Rattle.model.proofs.Laws.{below-is}
-use Rattle.many_reads.specs.Cells.{Covers}
-use Rattle.many_reads.proofs.Marks.{covers-none, covers-next}
-use Rattle.many_reads.proofs.mark_entries.Statement.{statement}
-use Rattle.many_reads.proofs.mark_entries.Tie as tie
+use Rattle.cell_reads.specs.Cells.{Covers}
+use Rattle.cell_reads.proofs.Marks.{covers-none, covers-next}
+use Rattle.cell_reads.proofs.mark_entries.Statement.{statement}
+use Rattle.cell_reads.proofs.mark_entries.Tie as tie
 
 abbrev Inv-loop : tie.InvT-loop
 Inv-loop log count entered₀ i₀ entered i = (i ≤ count) × Covers entered log i

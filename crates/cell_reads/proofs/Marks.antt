@@ -16,7 +16,7 @@ use Rattle.log.proofs.Searches.{slot-nowhere}
 use Rattle.log.proofs.Targets.{slot-some}
 use Rattle.locks.specs.Sweeps.{marked, mark}
 use Rattle.locks.proofs.Digits.{marked-same, marked-other}
-use Rattle.many_reads.specs.Cells.{Covers}
+use Rattle.cell_reads.specs.Cells.{Covers}
 
 -- cells below n are below any larger number
 pub below-less : (n m : ℕ) (f : ℕ → ℕ) (k : ℕ) → n ≤ m → below n f k ≡ true → below m f k ≡ true
