@@ -9,8 +9,8 @@ use Rattle.turns.proofs.Whole.{is-plan}
 use Rattle.locks.specs.Lent.{buffersOf}
 use Rattle.turns.proofs.Forms.{log-fits}
 use borrow.Author.Needs.{needs}
-use Rattle.store.proofs.peek_plan.Statement.{statement}
-use Rattle.store.proofs.peek_plan.Tie as tie
+use Rattle.peeks.proofs.peek_plan.Statement.{statement}
+use Rattle.peeks.proofs.peek_plan.Tie as tie
 
 -- the buffers at the entry, and what is known past 7 and 1
 abbrev lent : tie.Start → Buffers

@@ -1,9 +1,9 @@
--- `store::peek_number` meets its contract: a refusal's number, or 100 where a word is handed back.
+-- `peeks::peek_number` meets its contract: a refusal's number, or 100 where a word is handed back.
 use Rattle.model.specs.Buffers.{Buffers}
 use Rattle.turns.proofs.Peeks.{twin-refused, twin-done}
 use Rattle.locks.specs.Lent.{buffersOf}
-use Rattle.store.proofs.peek_number.Statement.{statement}
-use Rattle.store.proofs.peek_number.Tie as tie
+use Rattle.peeks.proofs.peek_number.Statement.{statement}
+use Rattle.peeks.proofs.peek_number.Tie as tie
 
 abbrev lent : tie.Start → Buffers
 lent c = buffersOf (c .args .values .now) (c .args .classes .now) (c .args .readers .now) (c .args .claimants .now) (c .args .exclusives .now) (c .args .logs .now)
