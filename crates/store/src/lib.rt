@@ -1,4 +1,4 @@
-// The store: the calls and a load of caps, on number slices that the caller lends (document 01, "The steps").
+// The store: the calls but peek (crate peeks), and a load of caps, on number slices that the caller lends (document 01, "The steps").
 // A call takes the record of its session and hands it back with its answer. It is admitted (7 and 1), looks up the lock that it needs, takes its turn
 // (crates calls and turns) and carries out what becomes of the locks.
 ghost use mathlib.Core.Path.{_≡_};
