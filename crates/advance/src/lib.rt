@@ -60,7 +60,7 @@ fn loses(l: Lock, session: u8) -> bool
     ensures { λ r. ⌜ r ≡ (claimed l && not (eqb (l .claimant) session)) ⌝ }
 {
     let claimant = l.claimant;
-    if !calls::is_claimed(l) {
+    if !lock::is_claimed(l) {
         return false;
     }
     claimant != session
@@ -107,11 +107,11 @@ fn promote(x: Session, l: Lock, session: u8, cell: u32, more: bool) -> Turn
     ensures { λ r. ⌜ (Promotes x l session cell more r) × (TellsOthers l session (r .answer)) ⌝ }
 {
     if loses(l, session) {
-        return calls::rolled_back(x);
+        return records::rolled_back(x);
     }
     let readers = l.readers;
-    if !locks::alone(readers, session) {
-        let others = locks::others(readers, session);
+    if !lock::alone(readers, session) {
+        let others = lock::others(readers, session);
         return Turn {
             answer: Answer::Waiting(others),
             session: x,
@@ -150,7 +150,7 @@ fn take_entry(
     let y = h.session;
     if phase == 3 {
         values[cell as usize] = log::current(log, k as usize);
-        return calls::keeps(Answer::Moved, y);
+        return records::keeps(Answer::Moved, y);
     }
     Turn {
         answer,
@@ -172,7 +172,7 @@ pub fn take_advance(
     ensures { λ r. ⌜ TakesTurn (duePlan session (now (log .entry)) x l due) values log x r ⌝ }
 {
     match due {
-        Due::Refused(number) => calls::keeps(Answer::Refused(number), x),
+        Due::Refused(number) => records::keeps(Answer::Refused(number), x),
         Due::Slot(k, more) => take_entry(values, log, x, l, session, k, more),
     }
 }

@@ -21,7 +21,7 @@ use Rattle.records.specs.declared.Call.{Call}
 use Rattle.records.specs.declared.Session.{Session}
 use Rattle.records.specs.declared.Sessions.{Sessions}
 use Rattle.records.specs.declared.SessionReply.{SessionReply}
-use Rattle.locks.specs.Lent.{before, afterwards}
+use Rattle.contracts.specs.Lent.{before, afterwards}
 use Rattle.c_api.specs.declared.NumberReply.{NumberReply}
 use Rattle.c_api.specs.declared.SetUpReply.{SetUpReply}
 

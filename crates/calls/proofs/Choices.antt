@@ -17,7 +17,7 @@ use Rattle.records.specs.declared.Plan.{Plan}
 use Rattle.records.specs.declared.Plan.the-variants.{Refuse, Tell, Enter, Update, EnterUpdate, Mark, EnterMark, RollBack}
 use Rattle.model.proofs.Tools.{test, which}
 use Rattle.log.proofs.Targets.{slot-some}
-use Rattle.locks.proofs.Tags.{tag, Passed, Passes, passed, clashes}
+use Rattle.records.proofs.Tags.{tag, Passed, Passes, passed, clashes}
 use Rattle.model.proofs.Passing.{Entries, record-entries}
 
 -- p is decided as if nobody were claimant, q with the lock l: both refuse; both are that of entry k in the log; or the cell is new

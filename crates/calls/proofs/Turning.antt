@@ -8,18 +8,13 @@ use Rattle.model.specs.Turns.{leaves, turnOf}
 use Rattle.records.specs.declared.Session.{Session}
 use Rattle.records.specs.declared.Answer.the-variants as say
 use Rattle.records.specs.declared.Plan.{Plan}
-use Rattle.records.specs.declared.Plan.the-variants.{Refuse, Start, Tell, Enter, Update, EnterUpdate, Mark, EnterMark, RollBack, Cancel, CommitReads, BeginPromotion}
+use Rattle.records.specs.declared.Plan.the-variants.{Start, Tell, Enter, Update, EnterUpdate, Mark, EnterMark, Cancel, CommitReads, BeginPromotion}
 use Rattle.records.specs.declared.Change.the-variants as to
 use Rattle.records.specs.declared.Turn.{Turn}
 
 -- p is the plan
 module _ (vs log : List ℕ) (x : Session) (p : Plan) where
   module _ (t : Turn) where
-    pub turn-refused : (r : ℕ) → p ≡ Refuse r → t ≡ record { answer = say.Refused r; session = x; change = to.Keep }
-        → leaves (t .answer) vs log (t .session) (t .change) ≡ turnOf p vs log x
-    unfolding turnOf
-    turn-refused r h f = rw (h, f)
-
     pub turn-started : (y : Session) → p ≡ Start → y ≡ running → t ≡ record { answer = say.Done; session = y; change = to.Keep }
         → leaves (t .answer) vs log (t .session) (t .change) ≡ turnOf p vs log x
     unfolding turnOf
@@ -34,11 +29,6 @@ module _ (vs log : List ℕ) (x : Session) (p : Plan) where
         → leaves (t .answer) vs W (t .session) (t .change) ≡ turnOf p vs log x
     unfolding turnOf
     turn-updated k v W h i f = rw (h, f, i)
-
-    pub turn-rolled-back : p ≡ RollBack → t ≡ record { answer = say.Refused 6; session = idle; change = to.Withdraw }
-        → leaves (t .answer) vs log (t .session) (t .change) ≡ turnOf p vs log x
-    unfolding turnOf
-    turn-rolled-back h f = rw (h, f)
 
     pub turn-entered : (c v : ℕ) (W : List ℕ) → p ≡ Enter c → v ≡ getD vs c 0 → W ≡ appended log (x .count) c v
         → t ≡ record { answer = say.Value v; session = withEntry x; change = to.Join c } → leaves (t .answer) vs W (t .session) (t .change) ≡ turnOf p vs log x

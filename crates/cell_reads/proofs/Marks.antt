@@ -14,8 +14,8 @@ use Rattle.model.proofs.Tools.{same, which, clash, both-l, both-r}
 use Rattle.log.specs.Slots.{found}
 use Rattle.log.proofs.Searches.{slot-nowhere}
 use Rattle.log.proofs.Targets.{slot-some}
-use Rattle.locks.specs.Sweeps.{marked, mark}
-use Rattle.locks.proofs.Digits.{marked-same, marked-other}
+use Rattle.sweeps.specs.Sweeps.{marked, mark}
+use Rattle.sweeps.proofs.Marks.{marked-same, marked-other}
 use Rattle.cell_reads.specs.Cells.{Covers}
 
 -- cells below n are below any larger number

@@ -13,7 +13,7 @@ use Rattle.model.specs.Readers.{withReader}
 use Rattle.model.specs.Buffers.{cellAt, entryAt, slotIn, appended}
 use Rattle.model.specs.Plans.{require}
 use Rattle.model.specs.Slices.{Slice}
-use Rattle.locks.specs.Sweeps.{marked}
+use Rattle.sweeps.specs.Sweeps.{marked}
 use Rattle.cell_reads.specs.declared.CellReply.{CellReply}
 use Rattle.cell_reads.specs.declared.CellsReply.{CellsReply}
 

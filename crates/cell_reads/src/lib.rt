@@ -34,7 +34,7 @@ fn mark_entries(log: &[u32], count: usize, entered: &mut [u64; 16])
     let mut i = 0;
     while i < count {
         let cell = log::cell_at(log, i);
-        locks::put_mark(entered, cell);
+        sweeps::put_mark(entered, cell);
         i += 1;
     }
 }
@@ -44,7 +44,7 @@ fn slot_of(log: &[u32], count: usize, entered: &[u64; 16], cell: u32) -> usize
     requires { ⌜ (4 * count ≤ length (now log)) × (cell < 1024) × Covers (now entered) (now log) count ⌝ }
     ensures { λ r. ⌜ found count r ≡ slotIn (now (log .entry)) count cell ⌝ }
 {
-    if !locks::is_marked(entered, cell) {
+    if !sweeps::is_marked(entered, cell) {
         return count;
     }
     let place = look_ups::locate(log, count, cell);
@@ -68,7 +68,7 @@ fn enter(
     let c = cell as usize;
     let value = values[c];
     let set = readers[c];
-    readers[c] = locks::with_reader(set, session);
+    readers[c] = lock::with_reader(set, session);
     log::append(log, count, cell, value);
     value
 }
@@ -123,7 +123,7 @@ fn read_cell(
     if claimants[c] != 16 {
         return refused_cell(6, count);
     }
-    locks::put_mark(entered, cell);
+    sweeps::put_mark(entered, cell);
     let value = enter(values, readers, log, count, session, cell);
     CellReply {
         number: 101,

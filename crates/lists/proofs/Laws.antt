@@ -11,8 +11,8 @@ use Rattle.records.specs.declared.Sessions.{Sessions}
 use Rattle.records.specs.declared.Call.{Call}
 use Rattle.records.specs.declared.Turn.{Turn}
 use Rattle.records.specs.declared.Reply.{Reply}
-use Rattle.turns.specs.AnyCall.{cellFor, planWith}
-use Rattle.turns.proofs.AnyCall.{one-lock}
+use Rattle.any_call.specs.AnyCall.{cellFor, planWith}
+use Rattle.any_call.proofs.AnyCall.{one-lock}
 
 -- with the lock of the cell that it may need
 pub any-planned : (k : Call) (n : ℕ) (ks log W : List ℕ) (x : Session) (L : Locks) (l : Lock) (c : ℕ) → W ≡ log → c ≡ cellFor k n W x → l ≡ lockAt L c

@@ -1,7 +1,7 @@
 // Any call of a list, on the records of all sixteen sessions and the locks as number slices: for the replay, and for code that has a `Call` in hand.
 // It calls the functions that the calls on one record do (crate store), as the call's kind says.
 ghost use mathlib.Core.Path.{_≡_};
-ghost use Rattle.locks.specs.Lent.{Takes};
+ghost use Rattle.contracts.specs.Lent.{Takes};
 use records::Answer;
 use records::Call;
 use records::Reply;
@@ -34,9 +34,9 @@ pub fn step(
         };
     }
     let x = turns::record_of(sessions, session);
-    let cell = turns::cell_for(call, log::of_session(&logs[..], session), n, x);
+    let cell = any_call::cell_for(call, log::of_session(&logs[..], session), n, x);
     let l = locks::at(&readers[..], &claimants[..], &exclusives[..], cell);
-    let t = turns::any(call, values, classes, logs, x, l, session);
+    let t = any_call::any(call, values, classes, logs, x, l, session);
     let change = t.change;
     let count = x.count as usize;
     let log = log::of_session(&logs[..], session);

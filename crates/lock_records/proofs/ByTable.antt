@@ -19,8 +19,8 @@ use Rattle.records.specs.declared.Call.the-variants.{Write}
 use Rattle.refusals.specs.Pieces.{admission}
 use Rattle.calls.specs.Pieces.{WriteDecided}
 use Rattle.turns.specs.InLogs.{inLogs}
-use Rattle.turns.specs.Loads.{Lends}
-use Rattle.turns.proofs.Lengths
+use Rattle.loads.specs.Loads.{Lends}
+use Rattle.refusals.proofs.Lengths
 use Rattle.lock_records.specs.declared.Change.{Change}
 use Rattle.lock_records.specs.declared.Turn.{Turn}
 use Rattle.lock_records.specs.Run.{unzipped, lentOn, storeOn, countOf, swept, onRun}

@@ -21,14 +21,14 @@ use Rattle.records.specs.declared.Call.{Call}
 use Rattle.model.proofs.Tables.{goes-fits, goes-plan}
 use Rattle.locks.specs.Changes.{ChangeFits as Fits}
 use Rattle.refusals.specs.Pieces.{admission}
-use Rattle.turns.specs.AnyCall.{cellFor, planWith}
+use Rattle.any_call.specs.AnyCall.{cellFor, planWith}
 use Rattle.turns.specs.InLogs.{inLogs}
 use Rattle.turns.proofs.Fitting.{call-fits}
-use Rattle.turns.proofs.Lengths
-use Rattle.turns.proofs.Lengths.{Admitted, plan-refused}
+use Rattle.refusals.proofs.Lengths
+use Rattle.refusals.proofs.Lengths.{Admitted, plan-refused}
 use Rattle.turns.proofs.Logs.{log-long}
 use Rattle.turns.proofs.InLogs.{left, still}
-use Rattle.turns.proofs.AnyCall.{one-lock}
+use Rattle.any_call.proofs.AnyCall.{one-lock}
 use Rattle.turns.proofs.Whole.{planUnder, planIn, takes-under}
 use Rattle.lock_records.specs.declared.Change.{Change}
 use Rattle.lock_records.specs.declared.Turn.{Turn}

@@ -16,10 +16,10 @@ use Rattle.records.specs.declared.Lock.{Lock}
 use Rattle.records.specs.declared.Plan.{Plan}
 use Rattle.records.specs.declared.Plan.the-variants.{Refuse, ShowStore, ShowLog}
 use Rattle.records.specs.declared.Call.the-variants.{Peek}
-use Rattle.locks.proofs.Tags.{Passed}
+use Rattle.records.proofs.Tags.{Passed}
 use Rattle.refusals.specs.Pieces.{admission}
 use Rattle.turns.proofs.Whole.{planned}
-use Rattle.turns.proofs.Peeks.{peek-inside, peek-logged, hands-store, hands-log, hands-nothing}
+use Rattle.plans.proofs.Peeks.{peek-inside, peek-logged, hands-store, hands-log, hands-nothing}
 use Rattle.lock_records.specs.Run.{storeOn}
 use Rattle.lock_records.specs.Turns.{IsPeekPlan, IsPeekPart}
 use Rattle.lock_records.proofs.OnRun.{refuses, admits, low}

@@ -9,8 +9,8 @@ use Rattle.model.specs.Buffers.{Limits, free, idle, hasCaps, passes, allFit, le
 use Rattle.records.specs.declared.Sessions.{Sessions}
 use Rattle.records.specs.declared.Lock.{Lock}
 use Rattle.records.specs.declared.Answer.the-variants.{Done, Refused}
-use Rattle.turns.proofs.Lengths.{Lengths, lengths-of, match-is}
-use Rattle.turns.proofs.SetUp.{set-7, set-16, set-8, set-done}
+use Rattle.refusals.proofs.Lengths.{Lengths, lengths-of, match-is}
+use Rattle.refusals.proofs.SetUp.{set-7, set-16, set-8, set-done}
 use Rattle.lock_records.specs.declared.Change.the-variants.{Clear}
 use Rattle.lock_records.specs.declared.Turn.{Turn}
 use Rattle.lock_records.specs.Run.{each, lentOn, storeOn, countOf, swept, sweptBy}

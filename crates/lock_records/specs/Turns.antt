@@ -18,7 +18,7 @@ use Rattle.records.specs.declared.Plan.{Plan}
 use Rattle.records.specs.declared.Call.{Call}
 use Rattle.records.specs.declared.Call.the-variants.{Write, Peek}
 use Rattle.refusals.specs.Pieces.{admission}
-use Rattle.turns.specs.AnyCall.{cellFor}
+use Rattle.any_call.specs.AnyCall.{cellFor}
 use Rattle.lock_records.specs.declared.Change.the-variants.{Keep}
 use Rattle.lock_records.specs.declared.Turn.{Turn}
 use Rattle.lock_records.specs.Run.{storeOn, lockIn, sweptBy, ChangeFits}

@@ -92,12 +92,12 @@ fn changed(l: Lock, change: Change) -> Lock
 {
     match change {
         Change::Keep => l,
-        Change::Join(s, _) => locks::joined(l, s),
-        Change::Claim(s, _) => locks::claimed(l, s),
-        Change::Acquire(s, _) => locks::acquired(l, s),
-        Change::Vacate(s, _) => locks::vacated(l, s),
-        Change::Withdraw(s, _) => locks::withdrawn(l, s),
-        Change::Leave(s, _) => locks::left(l, s),
+        Change::Join(s, _) => lock::joined(l, s),
+        Change::Claim(s, _) => lock::claimed(l, s),
+        Change::Acquire(s, _) => lock::acquired(l, s),
+        Change::Vacate(s, _) => lock::vacated(l, s),
+        Change::Withdraw(s, _) => lock::withdrawn(l, s),
+        Change::Leave(s, _) => lock::left(l, s),
         Change::Clear(_) => Lock {
             readers: 0,
             claimant: 16,
@@ -251,7 +251,7 @@ fn look_up(
         return 0;
     }
     let x = sessions.records[session as usize];
-    turns::cell_for(call, log::of_session(logs, session), n, x) as usize
+    any_call::cell_for(call, log::of_session(logs, session), n, x) as usize
 }
 
 // A turn's change as one of the run.
@@ -296,7 +296,7 @@ fn take_turn(
     }
     let i = session as usize;
     let x = sessions.records[i];
-    let t = turns::any(call, values, classes, logs, x, l, session);
+    let t = any_call::any(call, values, classes, logs, x, l, session);
     let y = t.session;
     let answer = t.answer;
     let change = t.change;
@@ -374,7 +374,7 @@ fn load_turn(
 ) -> Reply
     ensures { λ r. ⌜ LoadsOnRun caps table values classes locks logs sessions r ⌝ }
 {
-    let answer = turns::load_caps(
+    let answer = loads::load_caps(
         sessions,
         values,
         classes,

@@ -15,10 +15,11 @@ use Rattle.records.specs.declared.Plan.{Plan}
 use Rattle.records.specs.declared.Plan.the-variants.{Enter, EnterUpdate, EnterMark}
 use Rattle.records.specs.declared.Change.{Change}
 use Rattle.records.specs.declared.Change.the-variants.{Keep, Join, Claim, Acquire, Vacate, Withdraw, DropReads}
-use Rattle.locks.specs.Sweeps.{locksOf, Swept, DropsReads}
+use Rattle.contracts.specs.Lent.{locksOf}
+use Rattle.sweeps.specs.Sweeps.{Swept, DropsReads}
 use Rattle.locks.specs.Changes.{LockFor, oneOf, withdrawOf, dropOf, ChangeFits, DropsIf}
 use Rattle.records.proofs.Change as change
-use Rattle.locks.proofs.Tags.{Passed, passed, clashes}
+use Rattle.records.proofs.Tags.{Passed, passed, clashes}
 
 -- ---- the lock of a plan
 

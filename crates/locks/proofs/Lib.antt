@@ -1,4 +1,1 @@
-pub mod Digits
-pub mod Sweeps
-pub mod Tags
 pub mod Changes

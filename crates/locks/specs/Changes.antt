@@ -12,7 +12,8 @@ use Rattle.records.specs.declared.Plan.{Plan}
 use Rattle.records.specs.declared.Plan.the-variants.{Enter, EnterUpdate, EnterMark}
 use Rattle.records.specs.declared.Change.{Change}
 use Rattle.records.specs.declared.Change.the-variants.{Keep, Join, Claim, Acquire, Vacate, Withdraw, DropReads}
-use Rattle.locks.specs.Sweeps.{locksOf, locksBefore, locksAfter, Swept}
+use Rattle.contracts.specs.Lent.{locksOf, locksBefore, locksAfter}
+use Rattle.sweeps.specs.Sweeps.{Swept}
 
 -- l is the lock of the cell that a plan enters
 pub record LockFor (p : Plan) (L : Locks) (l : Lock) : Type 0 where

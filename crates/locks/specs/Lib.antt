@@ -1,3 +1,1 @@
-pub mod Sweeps
 pub mod Changes
-pub mod Lent

@@ -16,7 +16,7 @@ use Rattle.records.specs.declared.Sessions.{Sessions}
 use Rattle.records.specs.declared.Answer.{Answer}
 use Rattle.records.specs.declared.Call.the-variants.{Read}
 use Rattle.model.proofs.Tools.{test}
-use Rattle.turns.proofs.Lengths.{Admitted}
+use Rattle.refusals.proofs.Lengths.{Admitted}
 use Rattle.cell_reads.specs.Cells.{Fits, CellRead, readCell, CellsRead, readCells}
 use Rattle.many_reads.proofs.OneRead.{storeWith, rolledWith, read-is}
 use Rattle.cell_reads.proofs.Ways.{fits-still}

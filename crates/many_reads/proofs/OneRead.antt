@@ -24,11 +24,11 @@ use Rattle.records.specs.declared.Plan.the-variants.{Refuse, Tell, Enter, RollB
 use Rattle.model.proofs.Carried.{over}
 use Rattle.model.proofs.Laws.{log-same, length-on}
 use Rattle.model.proofs.Tools.{test, which}
-use Rattle.locks.specs.Sweeps.{locksOf}
+use Rattle.contracts.specs.Lent.{locksOf}
 use Rattle.locks.specs.Changes.{oneOf}
 use Rattle.locks.proofs.Changes.{joins}
-use Rattle.locks.proofs.Sweeps.{lock-here}
-use Rattle.turns.proofs.Lengths.{Admitted}
+use Rattle.sweeps.proofs.Sweeps.{lock-here}
+use Rattle.refusals.proofs.Lengths.{Admitted}
 use Rattle.cell_reads.specs.Cells.{Fits, CellRead, cellRead, newRead, slotRead, readCell}
 
 -- the lent buffers B, which fit, any limits, and sixteen records; the running session s has this next cell

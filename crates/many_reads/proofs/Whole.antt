@@ -25,8 +25,9 @@ use Rattle.model.proofs.Tools.{test, both-l, both-r}
 use Rattle.refusals.specs.Pieces.{admission, tested}
 use Rattle.model.proofs.Passing.{record-entries}
 use Rattle.refusals.proofs.Ways.{passes, run-passes, run-refused}
-use Rattle.locks.specs.Sweeps.{locksOf, Swept}
-use Rattle.turns.proofs.Lengths.{Admitted, plan-refused-by}
+use Rattle.contracts.specs.Lent.{locksOf}
+use Rattle.sweeps.specs.Sweeps.{Swept}
+use Rattle.refusals.proofs.Lengths.{Admitted, plan-refused-by}
 use Rattle.turns.proofs.Whole.{is-plan}
 use Rattle.cell_reads.specs.Cells.{Fits, CellsRead, cellsRead, readCells}
 use Rattle.cell_reads.specs.declared.CellsReply.{CellsReply}

@@ -111,7 +111,7 @@ pub fn read_many(
             session: y,
         };
     }
-    locks::roll_back(
+    sweeps::roll_back(
         log::of_session(&logs[..], session),
         entries,
         readers,

@@ -1,6 +1,6 @@
 // A peek on number slices that the caller lends (document 01, "The steps"): what it decides, the part that it hands back, and its number.
 ghost use Rattle.records.specs.declared.Call.the-variants.{Peek};
-ghost use Rattle.locks.specs.Lent.{TakesOne, PeekPlans, HandsBack};
+ghost use Rattle.contracts.specs.Lent.{TakesOne, PeekPlans, HandsBack};
 use records::Answer;
 use records::Plan;
 use records::Session;

@@ -3,6 +3,8 @@
 ghost use mathlib.Core.Path.{_≡_};
 ghost use Prim.Native.Nat.{suc, _<_};
 ghost use lib.ListN.{replicate};
+ghost use Rattle.records.specs.declared.Answer.the-variants.{Refused};
+ghost use Rattle.records.specs.declared.Change.the-variants.{Keep, Join, Withdraw};
 ghost use Rattle.records.specs.Records.{idle, running, withEntry, withEntries, moveTo, number, valueOf, sessionOf};
 
 // A session's record: phase (0 idle, 1 running, 2 promoting, 3 publishing, 4 releasing), entry count, next cell.
@@ -264,4 +266,42 @@ pub fn all_idle() -> Sessions
         next: 0,
     }; 16];
     Sessions { records }
+}
+
+// ---- how a turn ends
+
+// An answer with the locks as they were.
+pub fn keeps(answer: Answer, session: Session) -> Turn
+    ensures { λ r. ⌜ r ≡ record { answer = answer; session = session; change = Keep } ⌝ }
+{
+    Turn {
+        answer,
+        session,
+        change: Change::Keep,
+    }
+}
+
+// A claim in the way: the session is rolled back, 6.
+pub fn rolled_back(x: Session) -> Turn
+    ensures { λ r. ⌜ r ≡ record { answer = Refused 6; session = idle; change = Withdraw } ⌝ }
+{
+    let y = x.idled();
+    Turn {
+        answer: Answer::Refused(6),
+        session: y,
+        change: Change::Withdraw,
+    }
+}
+
+// An answer with one entry more, of a cell whose readers the session joins.
+pub fn enters(answer: Answer, x: Session, cell: u32) -> Turn
+    requires { ⌜ x .count < 32 ⌝ }
+    ensures { λ r. ⌜ r ≡ record { answer = answer; session = withEntry x; change = Join cell } ⌝ }
+{
+    let y = x.with_entry();
+    Turn {
+        answer,
+        session: y,
+        change: Change::Join(cell),
+    }
 }

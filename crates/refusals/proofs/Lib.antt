@@ -1,1 +1,4 @@
 pub mod Ways
+pub mod Turned
+pub mod Lengths
+pub mod SetUp

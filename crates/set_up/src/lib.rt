@@ -1,7 +1,7 @@
 // Set-up, on number slices that the caller lends (document 01, "What the caller lends"), by our caps and by a table.
 ghost use mathlib.Core.Path.{_≡_};
 ghost use lib.ListN.{length, replicate};
-ghost use Rattle.locks.specs.Lent.{SetsUp, SetsUpBy};
+ghost use Rattle.contracts.specs.Lent.{SetsUp, SetsUpBy};
 use records::Answer;
 use records::Reply;
 use records::Sessions;

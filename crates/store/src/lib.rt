@@ -4,7 +4,7 @@
 ghost use mathlib.Core.Path.{_≡_};
 ghost use Rattle.records.specs.declared.Answer.the-variants.{Refused};
 ghost use Rattle.records.specs.declared.Call.the-variants.{Begin, Read, Write, Seal, Advance, Abandon, Hold};
-ghost use Rattle.locks.specs.Lent.{TakesOne, TakesOneBy, Loads};
+ghost use Rattle.contracts.specs.Lent.{TakesOne, TakesOneBy, Loads};
 use records::Answer;
 use records::Reply;
 use records::Session;
@@ -28,7 +28,7 @@ pub fn load_caps(
 ) -> Reply
     ensures { λ r. ⌜ Loads caps table values classes readers claimants exclusives logs sessions r ⌝ }
 {
-    let answer = turns::load_caps(
+    let answer = loads::load_caps(
         sessions,
         values,
         classes,

@@ -15,7 +15,7 @@ use Rattle.model.specs.Effects.{number}
 use Rattle.model.specs.Step.{Outcome, outcome, setUpRefusal, setUpAnswer, setUp, setUpEffect}
 use Rattle.model.proofs.Demand3.{set-up-fresh}
 use Rattle.model.proofs.Tools.{test}
-use Rattle.locks.specs.Lent.{storeOf}
+use Rattle.contracts.specs.Lent.{storeOf}
 use Rattle.transcript.specs.declared.Printed.{Printed}
 use Rattle.transcript.specs.declared.Printed.the-variants.{Bytes, Short}
 use Rattle.text.specs.Items.{Item, itemsAt, values, classes}

@@ -9,7 +9,7 @@ ghost use mathlib.Core.Path.{_≡_};
 ghost use Prim.Native.Nat.{_≤_};
 ghost use lib.ListN.{length};
 ghost use Rattle.model.specs.Buffers.{ours};
-ghost use Rattle.locks.specs.Lent.{before};
+ghost use Rattle.contracts.specs.Lent.{before};
 ghost use Rattle.text.specs.Output.{Puts};
 ghost use Rattle.transcript.specs.Output.{PutsCalls, PutsSetUp, Fitted};
 ghost use Rattle.transcript.specs.Transcript.{transcript};

@@ -19,7 +19,7 @@ use Rattle.records.specs.declared.Call.the-variants as call
 use Rattle.records.specs.declared.Plan.{Plan}
 use Rattle.records.specs.declared.Plan.the-variants.{Refuse, Start, Tell, Enter, Update, EnterUpdate, Mark, EnterMark, RollBack, Cancel, CommitReads, BeginPromotion, Wait, Acquire, Publish, Release, ShowStore, ShowLog}
 use Rattle.model.proofs.Tools.{split, test}
-use Rattle.locks.specs.Sweeps.{Swept}
+use Rattle.sweeps.specs.Sweeps.{Swept}
 use Rattle.locks.specs.Changes.{ChangeFits}
 use Rattle.advance.specs.Pieces.{dueOn, dueCell, advanceOn, duePlan}
 use Rattle.advance.specs.declared.Due.{Due}

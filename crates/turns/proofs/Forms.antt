@@ -26,7 +26,7 @@ use Rattle.records.specs.declared.Change.the-variants.{Keep}
 use Rattle.model.proofs.Tools.{split}
 use Rattle.locks.specs.Changes.{LockFor, oneOf, withdrawOf, dropOf, ChangeFits}
 use Rattle.locks.proofs.Changes.{in-three}
-use Rattle.locks.proofs.Tags.{tag}
+use Rattle.records.proofs.Tags.{tag}
 use Rattle.refusals.specs.Pieces.{admission}
 use Rattle.advance.specs.Pieces.{dueOn, dueCell, advanceOn, duePlan}
 use Rattle.advance.specs.declared.Due.{Due}
@@ -34,7 +34,7 @@ use Rattle.advance.specs.declared.Due.the-variants.{Refused, Slot}
 use Rattle.advance.proofs.Agree.{advance-agree}
 use Rattle.calls.proofs.Choices.{Choice, refuses, knows, enters, read-choice, hold-choice, write-choice, when-told}
 use Rattle.turns.specs.InLogs.{inLogs}
-use Rattle.turns.proofs.Lengths.{Admitted, refused-by, refused-under-by}
+use Rattle.refusals.proofs.Lengths.{Admitted, refused-by, refused-under-by}
 use Rattle.turns.proofs.Guards.{guarded}
 use Rattle.turns.proofs.InLogs.{kept-in}
 use Rattle.turns.proofs.Logs.{log-long}

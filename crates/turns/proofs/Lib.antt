@@ -1,13 +1,6 @@
-pub mod Lengths
-pub mod Idling
-pub mod Loading
 pub mod Logs
 pub mod InLogs
 pub mod Guards
 pub mod Fitting
 pub mod Whole
-pub mod Peeks
-pub mod Shown
-pub mod AnyCall
-pub mod SetUp
 pub mod Forms

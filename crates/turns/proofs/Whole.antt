@@ -21,7 +21,7 @@ use Rattle.model.proofs.Laws.{log-length}
 use Rattle.model.proofs.Carried.{carries}
 use Rattle.model.proofs.Tables.{goes-fits, goes-plan}
 use Rattle.locks.specs.Changes.{ChangeFits}
-use Rattle.turns.proofs.Lengths.{Admitted}
+use Rattle.refusals.proofs.Lengths.{Admitted}
 use Rattle.turns.specs.InLogs.{inLogs}
 use Rattle.turns.proofs.InLogs.{left}
 use Rattle.turns.proofs.Fitting.{call-fits}

@@ -1,3 +1,1 @@
-pub mod AnyCall
 pub mod InLogs
-pub mod Loads

@@ -3,7 +3,7 @@ use mathlib.Core.Path.{sym, ap}
 use borrow.Author.Tests.{not-true, not-false}
 use Rattle.records.specs.declared.Turn.{Turn}
 use Rattle.advance.proofs.Ways.{promote-loses, promote-waits, promote-acquires, tells-lost, tells-acquired, tells-others}
-use Rattle.calls.proofs.Turning.{turn-rolled-back}
+use Rattle.refusals.proofs.Turned.{turn-rolled-back}
 use Rattle.advance.proofs.Turning.{turn-waiting, turn-acquired}
 use borrow.Author.Needs.{needs}
 use Rattle.advance.proofs.promote.Statement.{statement}

@@ -1,7 +1,7 @@
 -- A refusal, or the turn at the entry that is due.
 use mathlib.Core.Path.{sym, _∙_}
 use Rattle.advance.proofs.Agree.{plan-refused, plan-due}
-use Rattle.calls.proofs.Turning.{turn-refused}
+use Rattle.refusals.proofs.Turned.{turn-refused}
 use Rattle.advance.proofs.Turning.{turn-at}
 use borrow.Author.Needs.{needs}
 use Rattle.advance.proofs.take_advance.Statement.{statement}

@@ -1,6 +1,6 @@
 -- `rukkanei_hold` meets its contract: the store's `hold`, its reply in numbers.
 use Rattle.model.specs.Buffers.{Buffers}
-use Rattle.locks.specs.Lent.{buffersOf}
+use Rattle.contracts.specs.Lent.{buffersOf}
 use Rattle.c_api.proofs.Answers.{hold-gives}
 use Rattle.c_api.proofs.Laws.{told}
 use Rattle.c_api.proofs.rukkanei_hold.Statement.{statement}

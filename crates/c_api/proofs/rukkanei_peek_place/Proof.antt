@@ -1,7 +1,7 @@
 -- `rukkanei_peek_place` meets its contract: the place of the word that the plan names.
 use Rattle.model.specs.Buffers.{Buffers}
-use Rattle.turns.proofs.Peeks.{peek-neither}
-use Rattle.locks.specs.Lent.{buffersOf}
+use Rattle.plans.proofs.Peeks.{peek-neither}
+use Rattle.contracts.specs.Lent.{buffersOf}
 use Rattle.c_api.proofs.Laws.{place-store, place-log, place-none}
 use borrow.Author.Needs.{needs}
 use Rattle.c_api.proofs.rukkanei_peek_place.Statement.{statement}

@@ -1,6 +1,6 @@
 -- `rukkanei_write` meets its contract: the store's `write`, its reply in numbers.
 use Rattle.model.specs.Buffers.{Buffers}
-use Rattle.locks.specs.Lent.{buffersOf}
+use Rattle.contracts.specs.Lent.{buffersOf}
 use Rattle.c_api.proofs.Laws.{told}
 use Rattle.c_api.proofs.rukkanei_write.Statement.{statement}
 use Rattle.c_api.proofs.rukkanei_write.Tie as tie

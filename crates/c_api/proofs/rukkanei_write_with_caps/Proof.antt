@@ -1,6 +1,6 @@
 -- `rukkanei_write_with_caps` meets its contract: the store's `write_with_caps`, its reply in numbers.
 use Rattle.model.specs.Buffers.{Buffers}
-use Rattle.locks.specs.Lent.{buffersOf}
+use Rattle.contracts.specs.Lent.{buffersOf}
 use Rattle.c_api.proofs.Laws.{told-under}
 use Rattle.c_api.proofs.rukkanei_write_with_caps.Statement.{statement}
 use Rattle.c_api.proofs.rukkanei_write_with_caps.Tie as tie

@@ -1,7 +1,8 @@
 -- Each return is the turn of its plan.
 use mathlib.Core.Path.{sym}
 use Rattle.refusals.proofs.Ways.{guard-refuses, guard-passes}
-use Rattle.calls.proofs.Turning.{turn-refused, turn-cancelled}
+use Rattle.refusals.proofs.Turned.{turn-refused}
+use Rattle.calls.proofs.Turning.{turn-cancelled}
 use borrow.Author.Needs.{needs}
 use Rattle.calls.proofs.take_abandon.Statement.{statement}
 use Rattle.calls.proofs.take_abandon.Tie as tie

@@ -1,7 +1,8 @@
 -- Each return is the turn of its plan.
 use mathlib.Core.Path.{sym}
 use Rattle.refusals.proofs.Ways.{begin-starts, begin-refused}
-use Rattle.calls.proofs.Turning.{turn-started, turn-refused}
+use Rattle.refusals.proofs.Turned.{turn-refused}
+use Rattle.calls.proofs.Turning.{turn-started}
 use borrow.Author.Needs.{needs}
 use Rattle.calls.proofs.take_begin.Statement.{statement}
 use Rattle.calls.proofs.take_begin.Tie as tie

@@ -6,7 +6,8 @@ use Rattle.model.specs.Buffers.{entryAt}
 use Rattle.model.specs.Plans.{holdPlan}
 use Rattle.records.specs.declared.Plan.the-variants.{Mark, EnterMark}
 use Rattle.calls.proofs.Choices.{Choice, hold-choice, when-told, when-new, when-marked}
-use Rattle.calls.proofs.Turning.{turn-marked, turn-refused, turn-rolled-back, turn-enter-marked}
+use Rattle.refusals.proofs.Turned.{turn-refused, turn-rolled-back}
+use Rattle.calls.proofs.Turning.{turn-marked, turn-enter-marked}
 use borrow.Author.Needs.{needs}
 use Rattle.calls.proofs.take_hold.Statement.{statement}
 use Rattle.calls.proofs.take_hold.Tie as tie

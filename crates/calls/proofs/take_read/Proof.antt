@@ -6,7 +6,8 @@ use Rattle.model.specs.Buffers.{entryAt}
 use Rattle.model.specs.Plans.{readPlan}
 use Rattle.records.specs.declared.Plan.the-variants.{Tell, Enter}
 use Rattle.calls.proofs.Choices.{Choice, read-choice, when-told, when-new}
-use Rattle.calls.proofs.Turning.{turn-told, turn-refused, turn-rolled-back, turn-entered}
+use Rattle.refusals.proofs.Turned.{turn-refused, turn-rolled-back}
+use Rattle.calls.proofs.Turning.{turn-told, turn-entered}
 use borrow.Author.Needs.{needs}
 use Rattle.calls.proofs.take_read.Statement.{statement}
 use Rattle.calls.proofs.take_read.Tie as tie

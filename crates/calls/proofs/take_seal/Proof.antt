@@ -4,7 +4,8 @@ use borrow.Author.Tests.{not-true, not-false}
 use Rattle.model.specs.Plans.{sealPlan}
 use Rattle.refusals.proofs.Ways.{run-refused, room}
 use Rattle.calls.proofs.Ways.{seal-writes, seal-reads}
-use Rattle.calls.proofs.Turning.{turn-refused, turn-sealed, turn-committed}
+use Rattle.refusals.proofs.Turned.{turn-refused}
+use Rattle.calls.proofs.Turning.{turn-sealed, turn-committed}
 use borrow.Author.Needs.{needs}
 use Rattle.calls.proofs.take_seal.Statement.{statement}
 use Rattle.calls.proofs.take_seal.Tie as tie

@@ -8,7 +8,8 @@ use Rattle.model.specs.Buffers.{free}
 use Rattle.model.specs.Plans.{writePlan}
 use Rattle.records.specs.declared.Plan.the-variants.{Update, EnterUpdate}
 use Rattle.calls.proofs.Choices.{Choice, write-choice, when-told, when-new, when-updated}
-use Rattle.calls.proofs.Turning.{turn-updated, turn-refused, turn-rolled-back, turn-enter-updated}
+use Rattle.refusals.proofs.Turned.{turn-refused, turn-rolled-back}
+use Rattle.calls.proofs.Turning.{turn-updated, turn-enter-updated}
 use borrow.Author.Needs.{needs}
 use Rattle.calls.proofs.take_write.Statement.{statement}
 use Rattle.calls.proofs.take_write.Tie as tie

@@ -3,8 +3,8 @@ use mathlib.Core.Path.{refl, sym, _∙_}
 use borrow.Author.Tests.{not-true, not-false}
 use Rattle.model.specs.Buffers.{Buffers}
 use Rattle.model.proofs.Tables.{goes-fits}
-use Rattle.turns.proofs.Lengths.{Admitted, admitted-by, plan-refused-by, refuses}
-use Rattle.locks.specs.Lent.{buffersOf}
+use Rattle.refusals.proofs.Lengths.{Admitted, admitted-by, plan-refused-by, refuses}
+use Rattle.contracts.specs.Lent.{buffersOf}
 use Rattle.turns.proofs.Forms.{even, log-fits, can-carry, replies}
 use Rattle.lists.proofs.Laws.{any-planned, of-sixteen}
 use borrow.Author.Needs.{needs}

@@ -1,6 +1,6 @@
 -- Past the last cell each list gives its default; within the lists the default does not matter.
 use borrow.Author.Needs.{needs}
-use Rattle.locks.proofs.Sweeps.{lock-past, lock-here}
+use Rattle.sweeps.proofs.Sweeps.{lock-past, lock-here}
 use Rattle.locks.proofs.at.Statement.{statement}
 use Rattle.locks.proofs.at.Tie as tie
 

@@ -7,8 +7,8 @@ use Rattle.model.specs.Plans.{recordFits}
 use Rattle.refusals.specs.Pieces.{tested}
 use lib.Dec.{eqb}
 use lib.ListN.{length}
-use Rattle.turns.proofs.Lengths.{Admitted, admitted-by}
-use Rattle.locks.specs.Lent.{buffersOf}
+use Rattle.refusals.proofs.Lengths.{Admitted, admitted-by}
+use Rattle.contracts.specs.Lent.{buffersOf}
 use Rattle.turns.proofs.Forms.{log-fits}
 use Rattle.many_reads.proofs.Whole.{refused-list, ListFits, list-fits, not-admitted, not-running, fits, few-values, few-entries, runs-on, can-roll, rolls-back}
 use borrow.Author.Needs.{needs}

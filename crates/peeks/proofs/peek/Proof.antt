@@ -1,8 +1,8 @@
--- `peeks::peek` meets its contract: the part handed back is the word that the plan names, by its pointer; Peeks.antt of crate turns has the three ways.
+-- `peeks::peek` meets its contract: the part handed back is the word that the plan names, by its pointer; Peeks.antt of crate plans has the three ways.
 use mathlib.Core.Path.{refl}
 use Rattle.model.specs.Buffers.{Buffers}
-use Rattle.turns.proofs.Peeks.{plan-alone, peek-inside, peek-logged, hands-store, hands-log, hands-nothing}
-use Rattle.locks.specs.Lent.{buffersOf}
+use Rattle.plans.proofs.Peeks.{plan-alone, peek-inside, peek-logged, hands-store, hands-log, hands-nothing}
+use Rattle.contracts.specs.Lent.{buffersOf}
 use borrow.Author.Needs.{needs}
 use Rattle.peeks.proofs.peek.Statement.{statement}
 use Rattle.peeks.proofs.peek.Tie as tie

@@ -1,7 +1,7 @@
 -- `peeks::peek_number` meets its contract: a refusal's number, or 100 where a word is handed back.
 use Rattle.model.specs.Buffers.{Buffers}
-use Rattle.turns.proofs.Peeks.{twin-refused, twin-done}
-use Rattle.locks.specs.Lent.{buffersOf}
+use Rattle.plans.proofs.Peeks.{twin-refused, twin-done}
+use Rattle.contracts.specs.Lent.{buffersOf}
 use Rattle.peeks.proofs.peek_number.Statement.{statement}
 use Rattle.peeks.proofs.peek_number.Tie as tie
 

@@ -4,9 +4,9 @@ use borrow.Author.Tests.{not-true, not-false}
 use Rattle.model.specs.Buffers.{Buffers}
 use Rattle.model.specs.Plans.{plan}
 use Rattle.records.specs.declared.Call.the-variants.{Peek}
-use Rattle.turns.proofs.Lengths.{Admitted, admitted-by, plan-refused-by}
+use Rattle.refusals.proofs.Lengths.{Admitted, admitted-by, plan-refused-by}
 use Rattle.turns.proofs.Whole.{is-plan}
-use Rattle.locks.specs.Lent.{buffersOf}
+use Rattle.contracts.specs.Lent.{buffersOf}
 use Rattle.turns.proofs.Forms.{log-fits}
 use borrow.Author.Needs.{needs}
 use Rattle.peeks.proofs.peek_plan.Statement.{statement}

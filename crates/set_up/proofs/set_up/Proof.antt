@@ -4,9 +4,9 @@ use mathlib.Core.Bool.{true, _&&_}
 use borrow.Author.Tests.{not-true, not-false}
 use Rattle.model.specs.Buffers.{Store, ours, ourCaps, hasCaps, lengthsFit}
 use Rattle.model.proofs.Tables.{ours-fit, ours-pass}
-use Rattle.locks.specs.Lent.{storeOf}
-use Rattle.turns.proofs.Lengths.{match-is, lengths-of}
-use Rattle.turns.proofs.SetUp.{set-7, set-8, set-done}
+use Rattle.contracts.specs.Lent.{storeOf}
+use Rattle.refusals.proofs.Lengths.{match-is, lengths-of}
+use Rattle.refusals.proofs.SetUp.{set-7, set-8, set-done}
 use Rattle.set_up.proofs.set_up.Statement.{statement}
 use Rattle.set_up.proofs.set_up.Tie as tie
 

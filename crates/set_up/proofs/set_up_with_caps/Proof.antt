@@ -4,9 +4,9 @@ use mathlib.Core.Bool.{true, _&&_}
 use borrow.Author.Tests.{not-true, not-false}
 use Rattle.model.specs.Buffers.{Store, hasCaps, lengthsFit}
 use Rattle.model.proofs.Tables.{has-caps, has-not}
-use Rattle.locks.specs.Lent.{storeOf}
-use Rattle.turns.proofs.Lengths.{match-is, lengths-of}
-use Rattle.turns.proofs.SetUp.{set-7, set-16, set-8, set-done}
+use Rattle.contracts.specs.Lent.{storeOf}
+use Rattle.refusals.proofs.Lengths.{match-is, lengths-of}
+use Rattle.refusals.proofs.SetUp.{set-7, set-16, set-8, set-done}
 use Rattle.set_up.proofs.set_up_with_caps.Statement.{statement}
 use Rattle.set_up.proofs.set_up_with_caps.Tie as tie
 

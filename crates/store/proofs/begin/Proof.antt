@@ -3,8 +3,8 @@ use mathlib.Core.Path.{refl, _∙_}
 use borrow.Author.Tests.{not-true, not-false}
 use Rattle.model.specs.Buffers.{Buffers}
 use Rattle.turns.proofs.Guards.{begin-keeps}
-use Rattle.turns.proofs.Lengths.{Admitted, admitted-by}
-use Rattle.locks.specs.Lent.{buffersOf}
+use Rattle.refusals.proofs.Lengths.{Admitted, admitted-by}
+use Rattle.contracts.specs.Lent.{buffersOf}
 use Rattle.model.specs.Plans.{plan}
 use Rattle.records.specs.declared.Call.the-variants.{Begin}
 use Rattle.turns.proofs.Forms.{log-fits, no-change, kept-change, kept-replies, turned-down}

@@ -1,6 +1,6 @@
 -- `store::load_caps` meets its contract: what `turns::load_caps` answers and leaves of all buffers with these lengths, it does of these.
 use mathlib.Core.Path.{refl}
-use Rattle.locks.specs.Lent.{buffersOf}
+use Rattle.contracts.specs.Lent.{buffersOf}
 use Rattle.store.proofs.load_caps.Statement.{statement}
 use Rattle.store.proofs.load_caps.Tie as tie
 

@@ -4,8 +4,8 @@ use mathlib.Core.Bool.{true}
 use borrow.Author.Tests.{not-true, not-false}
 use Rattle.model.specs.Buffers.{Buffers, hasCaps}
 use Rattle.model.proofs.Tables.{has-caps, has-not}
-use Rattle.turns.proofs.Lengths.{Admitted, admitted-by, table-refused}
-use Rattle.locks.specs.Lent.{buffersOf}
+use Rattle.refusals.proofs.Lengths.{Admitted, admitted-by, table-refused}
+use Rattle.contracts.specs.Lent.{buffersOf}
 use Rattle.model.specs.Plans.{plan}
 use Rattle.records.specs.declared.Call.the-variants.{Write}
 use Rattle.model.specs.Turns.{TurnEffect}

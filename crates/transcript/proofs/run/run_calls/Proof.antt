@@ -5,7 +5,7 @@ use native.Mathlib.Omega.{arith}
 use mathlib.Core.Path.{_≡_, refl, sym, _∙_, ap, subst}
 use lib.ListN.{length}
 use Rattle.model.specs.Buffers.{ours}
-use Rattle.locks.specs.Lent.{storeOf}
+use Rattle.contracts.specs.Lent.{storeOf}
 use Rattle.text.specs.Items.{itemsAt, following}
 use Rattle.text.specs.Output.{put}
 use Rattle.text.proofs.Scanning.{Advances, advances, items-by}

@@ -1,0 +1,2 @@
+pub mod Idling
+pub mod Loading
