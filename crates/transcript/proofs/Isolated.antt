@@ -16,9 +16,9 @@ use Rattle.model.proofs.CommitOrder.{in-commit-order}
 use Rattle.model.proofs.Demand3.{demand3, set-up-fresh}
 use Rattle.model.proofs.Firsts.{run-first}
 use Rattle.model.proofs.Waiting.{waits-for-those}
-use Rattle.text.specs.Items.{Item, cell, asked, refused, itemsAt, later, calls}
-use Rattle.text.specs.Lines.{answerLines, cellLines, endLine}
-use Rattle.transcript.specs.Transcript.{given, callsText, afterSetUp, setUpText, itemsText, transcript, givenBy, callsOf, Accepted}
+use Rattle.items.specs.Items.{Item, cell, asked, refused, itemsAt, later, calls}
+use Rattle.replay_text.specs.Lines.{answerLines, cellLines, endLine}
+use Rattle.replay_text.specs.Transcript.{given, callsText, afterSetUp, setUpText, itemsText, transcript, givenBy, callsOf, Accepted}
 
 -- a line for each event, in the order of the calls, then what ends them, then the values that the calls leave
 pub printed-is-events : (input : List ℕ) → Accepted input

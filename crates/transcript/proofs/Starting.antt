@@ -1,8 +1,7 @@
--- Set-up: whatever stands in the locks, logs and records that are handed to it, it answers and leaves what the text takes; and the whole text from there.
+-- Set-up: whatever stands in the locks, logs and records that are handed to it, it answers and leaves what the text takes; and the whole answer from there.
 use Prim.Native.Nat.{ℕ, _+_, _≤_, _<_}
 use native.Mathlib.Omega.{arith}
 use mathlib.Core.Path.{_≡_, refl, sym, _∙_, ap}
-use mathlib.Core.Bool.{false, and-false}
 use mathlib.Core.List.{List, _++_}
 use lib.Dec.{leb}
 use lib.ListN.{length, take, drop, length-replicate, length-append}
@@ -18,13 +17,13 @@ use Rattle.model.proofs.Tools.{test}
 use Rattle.contracts.specs.Lent.{storeOf}
 use Rattle.transcript.specs.declared.Printed.{Printed}
 use Rattle.transcript.specs.declared.Printed.the-variants.{Bytes, Short}
-use Rattle.text.specs.Items.{Item, itemsAt, values, classes}
-use Rattle.text.specs.Lines.{sizeLine, setUpLine}
+use Rattle.items.specs.Items.{Item}
+use Rattle.replay_text.specs.Lines.{setUpLine}
 use Rattle.transcript.specs.Replay.{Replayed, replayed, replaying}
-use Rattle.text.specs.Output.{Out, out, put, Leading}
+use Rattle.lines.specs.Output.{Out, out, put}
 use Rattle.transcript.specs.Output.{Fitted}
-use Rattle.transcript.specs.Transcript.{given, callsText, afterSetUp, setUpText, itemsText, transcript}
-use Rattle.text.proofs.Puts.{ends-at}
+use Rattle.replay_text.specs.Transcript.{given, callsText, afterSetUp, setUpText, transcript}
+use Rattle.lines.proofs.Puts.{ends-at}
 
 -- ---- set-up on lent buffers
 
@@ -68,27 +67,6 @@ module _ (vs ks readers claimants exclusives logs : List ℕ) (ss : Sessions) (f
     accepted-text n items k h =
         let done : number (setUpAnswer (given vs ks)) ≡ 100 = sym (ap number said) ∙ sym k ∙ h in
         ap (λ (x : Store). callsText 1 x items) (left (sym k ∙ h)) ∙ rw (eq-eqb _ _ done)
-
--- ---- the whole text
-
--- more than 65,536 bytes
-pub size-text : (input : List ℕ) → 65536 < length input → sizeLine ≡ transcript input
-unfolding transcript
-size-text input h = simp (lt-leb _ _ h)
-
--- more than 1,024 cells
-over : (vs ks : List ℕ) → 1025 ≤ length vs → lengthsFit (given vs ks .lent) ≡ false
-unfolding lengthsFit size given
-over vs ks h = simp (lt-leb (length vs) 1024 h, and-false)
-
-pub too-many-text : (input : List ℕ) → length input ≤ 65536 → 1025 ≤ length (values (itemsAt input 0)) → setUpLine 7 ≡ transcript input
-unfolding transcript itemsText setUpText afterSetUp setUpAnswer setUpRefusal
-too-many-text input h k = simp (le-leb _ _ h, over (values (itemsAt input 0)) (classes (itemsAt input 0)) k, and-false)
-
--- the cells that were read, and the items from the field that closes them
-pub leading-text : (input vs ks : List ℕ) (n place : ℕ) → length input ≤ 65536 → Leading input vs ks n place → setUpText (given (take n vs) (take n ks)) (itemsAt input place) ≡ transcript input
-unfolding transcript itemsText
-leading-text input vs ks n place h l = simp (le-leb _ _ h, l .cells, l .kinds, l .closed)
 
 -- ---- what is lent
 

@@ -10,15 +10,15 @@ use Rattle.records.specs.declared.Call.{Call}
 use Rattle.model.specs.Buffers.{Store, ours}
 use Rattle.model.specs.Step.{Outcome, outcome, effect, step, answerOf, GoesBy}
 use Rattle.model.proofs.Tables.{goes-by-ours}
-use Rattle.text.specs.declared.Next.{Next}
-use Rattle.text.specs.declared.Next.the-variants as next
-use Rattle.text.specs.Items.{Item, asked, following}
-use Rattle.text.specs.Lines.{answerLine, cellLines}
-use Rattle.text.specs.Output.{out, put, stopLine}
-use Rattle.transcript.specs.Transcript.{callsText}
-use Rattle.transcript.proofs.Forward.{text-asked, text-end, text-refused, text-late-cell}
-use Rattle.text.proofs.Next.{the-type}
-use Rattle.text.proofs.Puts.{after}
+use Rattle.items.specs.declared.Next.{Next}
+use Rattle.items.specs.declared.Next.the-variants as next
+use Rattle.items.specs.Items.{Item, asked, following}
+use Rattle.replay_text.specs.Lines.{answerLine, cellLines}
+use Rattle.lines.specs.Output.{out, put, stopLine}
+use Rattle.replay_text.specs.Transcript.{callsText}
+use Rattle.replay_text.proofs.Forward.{text-asked, text-end, text-refused, text-late-cell}
+use Rattle.items.proofs.Next.{the-type}
+use Rattle.lines.proofs.Puts.{after}
 
 module _ (k : Call) (i : ℕ) (o : List ℕ) (at : ℕ) (σ : Store) where
   -- what is left of the text after a call by our caps

@@ -1,4 +1,2 @@
 pub mod Output
 pub mod Replay
-pub mod Transcript
-pub mod Worked

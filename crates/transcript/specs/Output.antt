@@ -6,9 +6,9 @@ use lib.ListN.{length}
 use denote.Ref.{now}
 use Rattle.model.specs.Buffers.{Store}
 use Rattle.model.specs.Slices.{Slice}
-use Rattle.text.specs.Items.{itemsAt}
-use Rattle.text.specs.Output.{Puts}
-use Rattle.transcript.specs.Transcript.{given, callsText, setUpText}
+use Rattle.items.specs.Items.{itemsAt}
+use Rattle.lines.specs.Output.{Puts}
+use Rattle.replay_text.specs.Transcript.{given, callsText, setUpText}
 
 -- the text of the calls from a place of a lent input on, from the store σ
 abbrev pub PutsCalls : Slice → ℕ → Slice → Store → ℕ → Type 0

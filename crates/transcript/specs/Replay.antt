@@ -6,7 +6,7 @@ use lib.Dec.{leb}
 use lib.ListN.{length, drop}
 use Rattle.transcript.specs.declared.Printed.{Printed}
 use Rattle.transcript.specs.declared.Printed.the-variants.{Bytes, Short}
-use Rattle.transcript.specs.Transcript.{transcript}
+use Rattle.replay_text.specs.Transcript.{transcript}
 
 -- the answer, and the output afterwards
 pub record Replayed : Type 0 where

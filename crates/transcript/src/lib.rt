@@ -4,7 +4,7 @@ mod run;
 ghost use mathlib.Core.Path.{_≡_};
 ghost use Prim.Native.Nat.{_≤_};
 ghost use lib.ListN.{length};
-ghost use Rattle.transcript.specs.Transcript.{transcript};
+ghost use Rattle.replay_text.specs.Transcript.{transcript};
 ghost use Rattle.transcript.specs.Replay.{replayed, replaying};
 
 // The replay's answer: how many bytes of the output it wrote, or that the output is too short.

@@ -1,18 +1,17 @@
 // The cells, set-up, and the calls.
+use items::Cells;
+use items::Next;
+use items::next_at;
+use items::read_cells;
 use records::Sessions;
-use text::Cells;
-use text::Next;
-use text::items::next_at;
-use text::leading::read_cells;
-use text::lines;
 ghost use mathlib.Core.Path.{_≡_};
 ghost use Prim.Native.Nat.{_≤_};
 ghost use lib.ListN.{length};
 ghost use Rattle.model.specs.Buffers.{ours};
 ghost use Rattle.contracts.specs.Lent.{before};
-ghost use Rattle.text.specs.Output.{Puts};
+ghost use Rattle.lines.specs.Output.{Puts};
 ghost use Rattle.transcript.specs.Output.{PutsCalls, PutsSetUp, Fitted};
-ghost use Rattle.transcript.specs.Transcript.{transcript};
+ghost use Rattle.replay_text.specs.Transcript.{transcript};
 
 // The calls from a place on, each with its line, then the line of what ends them and the cells.
 fn run_calls(

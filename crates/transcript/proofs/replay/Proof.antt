@@ -1,6 +1,6 @@
 -- `transcript::replay` meets its contract: a long enough output has the text at its front, and a shorter one is left as before. Assumes nothing.
 use native.Mathlib.Omega.{arith}
-use Rattle.text.proofs.Puts.{ends-at}
+use Rattle.lines.proofs.Puts.{ends-at}
 use Rattle.transcript.proofs.Starting.{printed-text, short}
 use borrow.Author.Needs.{needs}
 use Rattle.transcript.proofs.replay.Statement.{statement}

@@ -2,8 +2,10 @@
 use native.Mathlib.Omega.{arith}
 use mathlib.Core.Path.{sym, _∙_, ap, subst}
 use lib.Seq.{length-take-le}
-use Rattle.text.specs.Output.{put, ReadCells}
-use Rattle.transcript.proofs.Starting.{size-text, too-many-text, leading-text, taken-few, taken-both}
+use Rattle.items.specs.Leading.{ReadCells}
+use Rattle.lines.specs.Output.{put}
+use Rattle.replay_text.proofs.Inputs.{size-text, too-many-text, leading-text}
+use Rattle.transcript.proofs.Starting.{taken-few, taken-both}
 use borrow.Author.Needs.{needs}
 use Rattle.transcript.proofs.run.print.Statement.{statement}
 use Rattle.transcript.proofs.run.print.Tie as tie

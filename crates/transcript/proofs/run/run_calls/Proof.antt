@@ -6,10 +6,10 @@ use mathlib.Core.Path.{_≡_, refl, sym, _∙_, ap, subst}
 use lib.ListN.{length}
 use Rattle.model.specs.Buffers.{ours}
 use Rattle.contracts.specs.Lent.{storeOf}
-use Rattle.text.specs.Items.{itemsAt, following}
-use Rattle.text.specs.Output.{put}
-use Rattle.text.proofs.Scanning.{Advances, advances, items-by}
-use Rattle.transcript.specs.Transcript.{callsText}
+use Rattle.items.specs.Items.{itemsAt, following}
+use Rattle.lines.specs.Output.{put}
+use Rattle.items.proofs.Scanning.{Advances, advances, items-by}
+use Rattle.replay_text.specs.Transcript.{callsText}
 use Rattle.transcript.proofs.Turns.{turned-text, stops}
 use borrow.Author.Needs.{needs}
 use Rattle.transcript.proofs.run.run_calls.Statement.{statement}

@@ -1,7 +1,7 @@
 -- `transcript::run::set_up_and_run` meets its contract: set-up's answer decides what is printed. Assumes nothing.
 use native.Mathlib.Omega.{arith}
 use mathlib.Core.Path.{_∙_, ap}
-use Rattle.text.specs.Output.{put}
+use Rattle.lines.specs.Output.{put}
 use Rattle.transcript.proofs.Starting.{refused-text, accepted-text}
 use borrow.Author.Needs.{needs}
 use Rattle.transcript.proofs.run.set_up_and_run.Statement.{statement}

@@ -1,0 +1,21 @@
+-- `lines::put_byte` meets its contract. Assumes nothing.
+use Rattle.lines.specs.Output.{put}
+use borrow.Author.Needs.{needs}
+use Rattle.lines.proofs.put_byte.Statement.{statement}
+use Rattle.lines.proofs.put_byte.Tie as tie
+
+slice-write-output : tie.Need-slice-write-output
+slice-write-output c = search needs
+
+add-result : tie.Need-add-result
+add-result c = search needs
+
+same-length : tie.Need-same-length
+same-length c = search needs
+
+returns : tie.Need-returns
+unfolding put
+returns c = search needs
+
+pub put-byte-spec : {M : Type 1} → statement M
+put-byte-spec = tie.close (tie.spec slice-write-output add-result same-length returns)

@@ -1,5 +1,0 @@
-pub mod Answers
-pub mod CellLines
-pub mod Decimals
-pub mod Puts
-pub mod Scanning
