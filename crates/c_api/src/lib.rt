@@ -487,7 +487,7 @@ pub extern "C" fn rukkanei_peek_number(
 ) -> NumberReply
     ensures { λ r. ⌜ TakesInNumbers (Peek session cell) values classes readers claimants exclusives logs x r ⌝ }
 {
-    in_numbers(store::peek_number(
+    in_numbers(peeks::peek_number(
         x,
         values,
         classes,
@@ -516,7 +516,7 @@ pub extern "C" fn rukkanei_peek_place(
 ) -> u8
     ensures { λ r. ⌜ TellsPlace session cell values classes readers claimants exclusives logs x index r ⌝ }
 {
-    let p = store::peek_plan(
+    let p = peeks::peek_plan(
         x,
         values,
         classes,

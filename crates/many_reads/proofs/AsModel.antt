@@ -17,9 +17,9 @@ use Rattle.records.specs.declared.Answer.{Answer}
 use Rattle.records.specs.declared.Call.the-variants.{Read}
 use Rattle.model.proofs.Tools.{test}
 use Rattle.refusals.proofs.Lengths.{Admitted}
-use Rattle.many_reads.specs.Cells.{Fits, CellRead, readCell, CellsRead, readCells}
+use Rattle.cell_reads.specs.Cells.{Fits, CellRead, readCell, CellsRead, readCells}
 use Rattle.many_reads.proofs.OneRead.{storeWith, rolledWith, read-is}
-use Rattle.many_reads.proofs.Ways.{fits-still}
+use Rattle.cell_reads.proofs.Ways.{fits-still}
 
 module _ (B : Buffers) (s : ℕ) (z : Admitted B s) (G : Limits) (ss : Sessions) (next : ℕ) (here : s < length (ss .records)) where
   -- the store that the reads leave

@@ -1,6 +1,4 @@
-pub mod Lists
-pub mod Marks
-pub mod Ways
 pub mod OneRead
 pub mod AsModel
+pub mod InLogs
 pub mod Whole

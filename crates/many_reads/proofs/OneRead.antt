@@ -29,7 +29,7 @@ use Rattle.locks.specs.Changes.{oneOf}
 use Rattle.locks.proofs.Changes.{joins}
 use Rattle.sweeps.proofs.Sweeps.{lock-here}
 use Rattle.refusals.proofs.Lengths.{Admitted}
-use Rattle.many_reads.specs.Cells.{Fits, CellRead, cellRead, newRead, slotRead, readCell}
+use Rattle.cell_reads.specs.Cells.{Fits, CellRead, cellRead, newRead, slotRead, readCell}
 
 -- the lent buffers B, which fit, any limits, and sixteen records; the running session s has this next cell
 module _ (B : Buffers) (s : ℕ) (z : Admitted B s) (G : Limits) (ss : Sessions) (next : ℕ) (here : s < length (ss .records)) where

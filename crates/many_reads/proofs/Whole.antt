@@ -29,11 +29,12 @@ use Rattle.contracts.specs.Lent.{locksOf}
 use Rattle.sweeps.specs.Sweeps.{Swept}
 use Rattle.refusals.proofs.Lengths.{Admitted, plan-refused-by}
 use Rattle.turns.proofs.Whole.{is-plan}
-use Rattle.many_reads.specs.Cells.{Fits, CellsRead, cellsRead, readCells, cellsInLogs}
-use Rattle.many_reads.specs.declared.CellsReply.{CellsReply}
+use Rattle.cell_reads.specs.Cells.{Fits, CellsRead, cellsRead, readCells}
+use Rattle.cell_reads.specs.declared.CellsReply.{CellsReply}
+use Rattle.many_reads.specs.InLogs.{cellsInLogs}
 use Rattle.many_reads.proofs.AsModel.{leftBy, Same, same-reads}
 use Rattle.many_reads.proofs.OneRead.{storeWith}
-use Rattle.many_reads.proofs.Ways.{reads-fit, reads-few}
+use Rattle.cell_reads.proofs.Ways.{reads-fit, reads-few}
 
 -- ---- the list and the target
 

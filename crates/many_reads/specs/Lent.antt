@@ -1,4 +1,4 @@
--- What the call on number slices is given and leaves, as the model's store: `store/specs/Lent.antt` has the other calls.
+-- What the call on number slices is given and leaves, as the model's store: `contracts/specs/Lent.antt` has the other calls.
 use Prim.Native.Nat.{ℕ}
 use denote.Ref.{now}
 use Rattle.model.specs.ManyReads.{TakesReads}
