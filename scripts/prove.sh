@@ -1,4 +1,10 @@
-# Sourced from the repository's root, under 'set -o pipefail', by what proves crates while somebody waits.
+# Sourced from the repository's root, under 'set -o pipefail', by what proves crates.
+
+# at_once MOST: how many checks to run at a time: MOST, or as many as there is memory for, and two at the least. rt waits for a whole batch of checks before it
+# starts the next, so that a batch larger than the processors' number leaves them idle less.
+at_once() {
+    awk -v most="$1" '/^MemAvailable/ { n = int($2 / 1200000); print (n > most ? most : n < 2 ? 2 : n) }' /proc/meminfo
+}
 
 # under CRATE: the crates that CRATE stands on and CRATE itself, a line each. The kit's libraries have no line in crates.txt and are not among them.
 under() {
@@ -52,7 +58,7 @@ told() {
 prove() {
     local log
     log=$(mktemp)
-    if ! rt "$1" "$2" 2>&1 | tee "$log" | told "$(under "$2" | wc -l)"; then
+    if ! RT_JOBS=${RT_JOBS:-$(at_once 4)} rt "$1" "$2" 2>&1 | tee "$log" | told "$(under "$2" | wc -l)"; then
         tail -n 20 "$log" >&2
         rm -f "$log"
         return 1
