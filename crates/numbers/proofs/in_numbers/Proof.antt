@@ -1,7 +1,7 @@
 -- By what an answer's number and value are.
 use borrow.Author.Needs.{needs}
-use Rattle.c_api.proofs.in_numbers.Statement.{statement}
-use Rattle.c_api.proofs.in_numbers.Tie as tie
+use Rattle.numbers.proofs.in_numbers.Statement.{statement}
+use Rattle.numbers.proofs.in_numbers.Tie as tie
 
 returns : tie.Need-returns
 returns c = rw (c .before .number .ensures, c .value .ensures)

@@ -1,9 +1,9 @@
 -- A value, or what is left of a read's answers: a refusal.
 use mathlib.Core.Path.{refl, _∙_}
 use borrow.Author.Needs.{needs}
-use Rattle.c_api.proofs.Answers.{read-left, numbers}
-use Rattle.c_api.proofs.read_in_numbers.Statement.{statement}
-use Rattle.c_api.proofs.read_in_numbers.Tie as tie
+use Rattle.numbers.proofs.Answers.{read-left, numbers}
+use Rattle.numbers.proofs.read_in_numbers.Statement.{statement}
+use Rattle.numbers.proofs.read_in_numbers.Tie as tie
 
 returns : tie.Need-returns
 returns c = numbers _ _ (c .before .answer .given .1) _ _ refl refl

@@ -1,9 +1,8 @@
--- `field::exported::rukkanei_field_read` meets its contract: each arm hands over what the definition says of its reading.
--- Assumes nothing.
+-- Each arm hands over what the definition says of its reading.
 use Rattle.field.specs.Exported.{handing}
 use borrow.Author.Needs.{needs}
-use Rattle.c_api.proofs.fields.rukkanei_field_read.Statement.{statement}
-use Rattle.c_api.proofs.fields.rukkanei_field_read.Tie as tie
+use Rattle.field_numbers.proofs.read.Statement.{statement}
+use Rattle.field_numbers.proofs.read.Tie as tie
 
 returns : tie.Need-returns
 unfolding handing
@@ -17,8 +16,8 @@ returns-3 : tie.Need-returns-3
 unfolding handing
 returns-3 c = rw (← c .before .before .before .read-field .ensures, c .before .number .given .1)
 
-pub rukkanei-field-read-spec : {M : Type 1} → statement M
-rukkanei-field-read-spec =
+pub read-spec : {M : Type 1} → statement M
+read-spec =
     tie.close
     (tie.spec
     (λ c κs. search needs) (λ c. search needs) (λ c. search needs) (λ c. search needs) returns returns-2 returns-3)

@@ -1,8 +1,8 @@
 -- Where it is no refusal the answer's tag is another.
 use borrow.Author.Needs.{needs}
-use Rattle.c_api.proofs.Answers.{not-refused}
-use Rattle.c_api.proofs.refusal.Statement.{statement}
-use Rattle.c_api.proofs.refusal.Tie as tie
+use Rattle.numbers.proofs.Answers.{not-refused}
+use Rattle.numbers.proofs.refusal.Statement.{statement}
+use Rattle.numbers.proofs.refusal.Tie as tie
 
 returns-2 : tie.Need-returns-2
 returns-2 c = not-refused (c .before .args .answer) (c .match .keys2)
