@@ -1,34 +1,26 @@
 -- Which answers a begin, a read, a hold and a seal give, by the plans that they make; and so does the code, whose answer is the model's.
 use Prim.Native.Nat.{ℕ, _%_}
-use mathlib.Core.Path.{_≡_, refl, sym, ap, _∙_}
-use mathlib.Core.Bool.{Bool, true, false}
-use mathlib.Core.List.{List, [], _∷_}
+use mathlib.Core.Path.{_≡_, refl, ap, _∙_}
+use mathlib.Core.Bool.{Bool, true}
 use native.Mathlib.Omega.{arith}
 use lib.Dec.{ltb, eqb}
 use lib.ListN.{replicate}
-use types.Run.{OneOf, miss}
-use denote.Enum.Declared.{tagOf}
 use Rattle.model.specs.Buffers.{Buffers, ours, Store, idle, size, withSession, lockAt, lengthsFit, slotIn, targetIn}
-use Rattle.model.specs.Effects.{number, valueOf, recordOf, logOf, answer, planEffect}
+use Rattle.model.specs.Effects.{recordOf, logOf, answer, planEffect}
 use Rattle.model.specs.Plans.{require, admit, guard, known, claimed, newCell, readSlot, readPlan, holdSlot, holdPlan, sealTarget, sealPlan, plan}
 use Rattle.model.specs.Step.{Outcome, answerOf, planOf, effect, sessionOf, TakesRecord}
 use Rattle.records.specs.declared.Answer.{Answer}
-use Rattle.records.specs.declared.Answer.the-variants.{Done, Value, Sealed, Moved, Waiting, Committed, Refused}
 use Rattle.records.specs.declared.Call.{Call}
 use Rattle.records.specs.declared.Call.the-variants.{Begin, Read, Seal, Hold}
 use Rattle.records.specs.declared.Lock.{Lock}
 use Rattle.records.specs.declared.Plan.{Plan}
 use Rattle.records.specs.declared.Plan.the-variants.{Refuse, Enter, EnterMark}
 use Rattle.records.specs.declared.Session.{Session}
-use Rattle.records.specs.declared.SessionReply.{SessionReply}
-use Rattle.records.proofs.Answer as answers
 use Rattle.model.proofs.Laws.{session-same}
 use Rattle.model.proofs.Tables.{goes-by-ours}
-use Rattle.model.proofs.Tools.{split, which, clash}
+use Rattle.model.proofs.Tools.{split, which}
 use Rattle.turns.proofs.Guards.{required, guarded}
-use Rattle.c_api.specs.declared.NumberReply.{NumberReply}
-use Rattle.c_api.specs.InNumbers.{numbersOf}
-use Rattle.c_api.specs.Answers.{refusalOf, ofBegin, ofRead, ofSeal}
+use Rattle.numbers.specs.Answers.{ofBegin, ofRead, ofSeal}
 
 -- what holds of every refusal holds of a plan behind the tests of 7 and 1
 admitted : (Q : Plan → Type 0) → ((k : ℕ) → Q (Refuse k)) → (B : Buffers) (s : ℕ) (p : Plan) → Q p → Q (admit B s p)
@@ -98,49 +90,3 @@ module _ (s : ℕ) (B C : Buffers) (x y : Session) (a : Answer) where
 
   pub seal-gives : TakesRecord (Seal s) B x a C y → ofSeal a ≡ true
   seal-gives = given ofSeal (Seal s) B C x y a (seal-answers s)
-
--- ---- what is left of an answer where matches have passed over variants: its tag is one of the others
-
-abbrev Tagged : List ℕ → Answer → Type 0
-Tagged ks a = OneOf ks (tagOf answers.the-type a)
-
-pub not-refused : (a : Answer) → Tagged (0 ∷ 1 ∷ 2 ∷ 3 ∷ 4 ∷ 5 ∷ []) a → 0 ≡ refusalOf a
-not-refused Done h = refl
-not-refused (Value v) h = refl
-not-refused Sealed h = refl
-not-refused Moved h = refl
-not-refused (Waiting k) h = refl
-not-refused Committed h = refl
-not-refused (Refused k) h = absurd (miss (0 ∷ 1 ∷ 2 ∷ 3 ∷ 4 ∷ 5 ∷ []) 6 tt h)
-
-pub begin-left : (a : Answer) → ofBegin a ≡ true → Tagged (0 ∷ 1 ∷ 2 ∷ 3 ∷ 4 ∷ 5 ∷ []) a → a ≡ Done
-begin-left Done g h = refl
-begin-left (Value v) g h = absurd (clash false g refl)
-begin-left Sealed g h = absurd (clash false g refl)
-begin-left Moved g h = absurd (clash false g refl)
-begin-left (Waiting k) g h = absurd (clash false g refl)
-begin-left Committed g h = absurd (clash false g refl)
-begin-left (Refused k) g h = absurd (miss (0 ∷ 1 ∷ 2 ∷ 3 ∷ 4 ∷ 5 ∷ []) 6 tt h)
-
-pub read-left : (a : Answer) → ofRead a ≡ true → Tagged (0 ∷ 2 ∷ 3 ∷ 4 ∷ 5 ∷ 6 ∷ []) a → (refusalOf a ≡ number a) × (0 ≡ valueOf a)
-read-left Done g h = absurd (clash false g refl)
-read-left (Value v) g h = absurd (miss (0 ∷ 2 ∷ 3 ∷ 4 ∷ 5 ∷ 6 ∷ []) 1 tt h)
-read-left Sealed g h = absurd (clash false g refl)
-read-left Moved g h = absurd (clash false g refl)
-read-left (Waiting k) g h = absurd (clash false g refl)
-read-left Committed g h = absurd (clash false g refl)
-read-left (Refused k) g h = (refl, refl)
-
-pub seal-left : (a : Answer) → ofSeal a ≡ true → Tagged (0 ∷ 1 ∷ 2 ∷ 3 ∷ 4 ∷ 5 ∷ []) a → Tagged (0 ∷ 1 ∷ 2 ∷ 3 ∷ 4 ∷ 6 ∷ []) a → a ≡ Sealed
-seal-left Done g h i = absurd (clash false g refl)
-seal-left (Value v) g h i = absurd (clash false g refl)
-seal-left Sealed g h i = refl
-seal-left Moved g h i = absurd (clash false g refl)
-seal-left (Waiting k) g h i = absurd (clash false g refl)
-seal-left Committed g h i = absurd (miss (0 ∷ 1 ∷ 2 ∷ 3 ∷ 4 ∷ 6 ∷ []) 5 tt i)
-seal-left (Refused k) g h i = absurd (miss (0 ∷ 1 ∷ 2 ∷ 3 ∷ 4 ∷ 5 ∷ []) 6 tt h)
-
--- an answer's numbers, beside the record
-pub numbers : (r : SessionReply) (a : Answer) → r .answer ≡ a → (n v : ℕ) → n ≡ number a → v ≡ valueOf a
-    → _≡_ {A = NumberReply} (record { number = n; value = v; session = r .session }) (numbersOf r)
-numbers r a e n v p q = λ i. record { number = (p ∙ ap number (sym e)) i; value = (q ∙ ap valueOf (sym e)) i; session = r .session }

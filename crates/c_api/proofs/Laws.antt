@@ -1,8 +1,8 @@
 -- A call's outcome in numbers, from its answer taken apart: the one law behind every exported call; and where a peek's word is, by its plan.
-use Prim.Native.Nat.{ℕ, _+_, _*_, _%_}
+use Prim.Native.Nat.{ℕ, _%_}
 use mathlib.Core.Path.{_≡_, sym, ap, _∙_}
 use Rattle.model.specs.Buffers.{Buffers, Limits, Store, sessionAt, withSession}
-use Rattle.model.specs.Effects.{number, valueOf, shown}
+use Rattle.model.specs.Effects.{number, valueOf, Part, logWord, shown}
 use Rattle.model.specs.Step.{Outcome, outcome, effect, sessionOf, TakesUnder, GoesBy, TakesRecord}
 use Rattle.records.specs.declared.Answer.{Answer}
 use Rattle.records.specs.declared.Session.{Session}
@@ -11,8 +11,9 @@ use Rattle.records.specs.declared.SessionReply.{SessionReply}
 use Rattle.records.specs.declared.Call.{Call}
 use Rattle.records.specs.declared.Plan.{Plan}
 use Rattle.records.specs.declared.Plan.the-variants.{Refuse, ShowStore, ShowLog}
-use Rattle.c_api.specs.declared.NumberReply.{NumberReply}
-use Rattle.c_api.specs.InNumbers.{numbersOf, replied, inNumbers, at, placeOf}
+use Rattle.numbers.specs.declared.NumberReply.{NumberReply}
+use Rattle.numbers.specs.Answers.{numbersOf}
+use Rattle.c_api.specs.InNumbers.{replied, inNumbers, at, placeOf}
 
 pub in-numbers : (a : Answer) (σ : Store) (o : Outcome) (n v : ℕ) → outcome a σ ≡ o → n ≡ number a → v ≡ valueOf a → replied n v σ ≡ inNumbers o
 in-numbers a σ o n v e p q = rw (p, q) (ap inNumbers e)
@@ -37,9 +38,8 @@ module _ (s j : ℕ) (σ : Store) {p q : Plan} (e : p ≡ q) where
   unfolding shown
   place-store f = rw (sym e ∙ f)
 
-  pub place-log : {k : ℕ} → p ≡ ShowLog k → at 2 (128 * s + (4 * k + 2)) ≡ placeOf (shown s q σ) j
-  unfolding shown
-  place-log f = rw (sym e ∙ f)
+  pub place-log : {k i : ℕ} → logWord i ≡ shown s (ShowLog k) σ → p ≡ ShowLog k → at 2 i ≡ placeOf (shown s q σ) j
+  place-log {k = k} g f = ap (λ (w : Part). placeOf w j) (g ∙ ap (λ (r : Plan). shown s r σ) (sym f ∙ e))
 
   pub place-none : {r : ℕ} → p ≡ Refuse r → at 0 j ≡ placeOf (shown s q σ) j
   unfolding shown

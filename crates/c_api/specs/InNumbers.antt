@@ -20,14 +20,9 @@ use Rattle.records.specs.declared.Answer.{Answer}
 use Rattle.records.specs.declared.Call.{Call}
 use Rattle.records.specs.declared.Session.{Session}
 use Rattle.records.specs.declared.Sessions.{Sessions}
-use Rattle.records.specs.declared.SessionReply.{SessionReply}
 use Rattle.contracts.specs.Lent.{before, afterwards}
-use Rattle.c_api.specs.declared.NumberReply.{NumberReply}
-use Rattle.c_api.specs.declared.SetUpReply.{SetUpReply}
-
--- a reply in numbers
-abbrev pub numbersOf : SessionReply → NumberReply
-numbersOf r = record { number = number (r .answer); value = valueOf (r .answer); session = r .session }
+use Rattle.numbers.specs.declared.NumberReply.{NumberReply}
+use Rattle.numbers.specs.declared.SetUpReply.{SetUpReply}
 
 -- a call's number, value, and all that it leaves
 pub record NumberOutcome : Type 0 where

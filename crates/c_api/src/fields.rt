@@ -1,8 +1,4 @@
 // The reader and the writer for makers' firmware in C, which include/rukkanei.h declares: numbers and byte slices, and no enum.
-use field::Call;
-use field::Reading;
-use field::read_field;
-use field::write_field;
 ghost use mathlib.Core.Path.{_≡_};
 ghost use Rattle.field.specs.Field.{call, readingAt, writeReply, writing};
 ghost use Rattle.field.specs.Exported.{lent, readReply, handing};
@@ -25,23 +21,7 @@ pub extern "C" fn rukkanei_field_read(
         ≡ handing (readingAt (now (bytes .entry)) place)
         (lent (now (tag .entry)) (now (session .entry)) (now (class .entry)) (now (cell .entry)) (now (value .entry)) (now (length .entry))) ⌝ }
 {
-    match read_field(bytes, place) {
-        Reading::Field {
-            kind: _,
-            call: found,
-            length: n,
-        } => {
-            *tag = found.tag;
-            *session = found.session;
-            *class = found.class;
-            *cell = found.cell;
-            *value = found.value;
-            *length = n;
-            field::DONE
-        }
-        Reading::End => field::END_OF_FIELDS,
-        Reading::Refused(number, _) => number,
-    }
+    field_numbers::read(bytes, place, tag, session, class, cell, value, length)
 }
 
 // Writes the field of a call, given as numbers, at the front of `target`. With 100 `length` is the field's. With 11 and 13 it is 0 and the
@@ -59,16 +39,5 @@ pub extern "C" fn rukkanei_field_write(
     ensures { λ r. ⌜ writeReply r (now (length .exit)) (now (target .exit))
         ≡ writing (now (target .entry)) (call tag session class cell value) ⌝ }
 {
-    let written = write_field(
-        target,
-        Call {
-            tag,
-            session,
-            class,
-            cell,
-            value,
-        },
-    );
-    *length = written.length;
-    written.number
+    field_numbers::write(target, tag, session, class, cell, value, length)
 }

@@ -1,125 +1,15 @@
 // The calls for C: the fields, and each call of the store with the record of its session passed in and handed back by value, the answer as two numbers beside it; many reads; and a load of caps.
 mod fields;
 
-ghost use mathlib.Core.Path.{_≡_};
-ghost use mathlib.Core.Bool.{true};
 ghost use Rattle.records.specs.declared.Call.the-variants.{Begin, Read, Write, Seal, Advance, Abandon, Peek, Hold};
 ghost use Rattle.many_reads.specs.Lent.{ReadsMany};
-ghost use Rattle.c_api.specs.InNumbers.{SetsUpInNumbers, SetsUpInNumbersBy, LoadsInNumbers, TakesInNumbers, TakesInNumbersBy, TellsPlace, numbersOf};
-ghost use Rattle.c_api.specs.Answers.{refusalOf, ofBegin, ofRead, ofSeal};
-use records::Answer;
+ghost use Rattle.c_api.specs.InNumbers.{SetsUpInNumbers, SetsUpInNumbersBy, LoadsInNumbers, TakesInNumbers, TakesInNumbersBy, TellsPlace};
+use numbers::NumberReply;
+use numbers::SetUpReply;
 use records::Plan;
 use records::ReadManyReply;
 use records::Session;
-use records::SessionReply;
 use records::Sessions;
-
-// A call's answer as document 01's number and value, and the record that it hands back.
-#[repr(C)]
-pub struct NumberReply {
-    pub number: u32,
-    pub value: u32,
-    pub session: Session,
-}
-
-// The answer of set-up and of a load, and the sixteen records.
-#[repr(C)]
-pub struct SetUpReply {
-    pub number: u32,
-    pub value: u32,
-    pub sessions: Sessions,
-}
-
-// An answer in numbers.
-fn in_numbers(r: SessionReply) -> NumberReply
-    ensures { λ n. ⌜ n ≡ numbersOf r ⌝ }
-{
-    let answer = r.answer;
-    let x = r.session;
-    NumberReply {
-        number: answer.number() as u32,
-        value: answer.value(),
-        session: x,
-    }
-}
-
-// The same for begin, and below for read and seal, each by the answers that it gives: one test or two in place of a jump by the tag.
-fn begin_in_numbers(r: SessionReply) -> NumberReply
-    requires { ⌜ ofBegin (r .answer) ≡ true ⌝ }
-    ensures { λ n. ⌜ n ≡ numbersOf r ⌝ }
-{
-    let answer = r.answer;
-    let session = r.session;
-    if let Answer::Refused(number) = answer {
-        return NumberReply {
-            number: number as u32,
-            value: 0,
-            session,
-        };
-    }
-    NumberReply {
-        number: 100,
-        value: 0,
-        session,
-    }
-}
-
-// The number of a refusal, 0 of any other answer.
-fn refusal(answer: Answer) -> u32
-    ensures { λ n. ⌜ n ≡ refusalOf answer ⌝ }
-{
-    if let Answer::Refused(number) = answer {
-        return number as u32;
-    }
-    0
-}
-
-fn read_in_numbers(r: SessionReply) -> NumberReply
-    requires { ⌜ ofRead (r .answer) ≡ true ⌝ }
-    ensures { λ n. ⌜ n ≡ numbersOf r ⌝ }
-{
-    let answer = r.answer;
-    let session = r.session;
-    if let Answer::Value(value) = answer {
-        return NumberReply {
-            number: 101,
-            value,
-            session,
-        };
-    }
-    NumberReply {
-        number: refusal(answer),
-        value: 0,
-        session,
-    }
-}
-
-fn seal_in_numbers(r: SessionReply) -> NumberReply
-    requires { ⌜ ofSeal (r .answer) ≡ true ⌝ }
-    ensures { λ n. ⌜ n ≡ numbersOf r ⌝ }
-{
-    let answer = r.answer;
-    let session = r.session;
-    if let Answer::Refused(number) = answer {
-        return NumberReply {
-            number: number as u32,
-            value: 0,
-            session,
-        };
-    }
-    if let Answer::Committed = answer {
-        return NumberReply {
-            number: 105,
-            value: 0,
-            session,
-        };
-    }
-    NumberReply {
-        number: 102,
-        value: 0,
-        session,
-    }
-}
 
 // Set-up: 100, 7 or 8.
 #[no_mangle]
@@ -234,7 +124,7 @@ pub extern "C" fn rukkanei_begin(
 ) -> NumberReply
     ensures { λ r. ⌜ TakesInNumbers (Begin session) values classes readers claimants exclusives logs x r ⌝ }
 {
-    begin_in_numbers(store::begin(
+    numbers::begin_in_numbers(store::begin(
         x,
         values,
         classes,
@@ -261,7 +151,7 @@ pub extern "C" fn rukkanei_read(
 ) -> NumberReply
     ensures { λ r. ⌜ TakesInNumbers (Read session cell) values classes readers claimants exclusives logs x r ⌝ }
 {
-    read_in_numbers(store::read(
+    numbers::read_in_numbers(store::read(
         x,
         values,
         classes,
@@ -289,7 +179,7 @@ pub extern "C" fn rukkanei_hold(
 ) -> NumberReply
     ensures { λ r. ⌜ TakesInNumbers (Hold session cell) values classes readers claimants exclusives logs x r ⌝ }
 {
-    read_in_numbers(store::hold(
+    numbers::read_in_numbers(store::hold(
         x,
         values,
         classes,
@@ -348,7 +238,7 @@ pub extern "C" fn rukkanei_write(
 ) -> NumberReply
     ensures { λ r. ⌜ TakesInNumbers (Write session cell written) values classes readers claimants exclusives logs x r ⌝ }
 {
-    in_numbers(store::write(
+    numbers::in_numbers(store::write(
         x,
         values,
         classes,
@@ -379,7 +269,7 @@ pub extern "C" fn rukkanei_write_with_caps(
 ) -> NumberReply
     ensures { λ r. ⌜ TakesInNumbersBy caps (Write session cell written) values classes readers claimants exclusives logs x r ⌝ }
 {
-    in_numbers(store::write_with_caps(
+    numbers::in_numbers(store::write_with_caps(
         x,
         values,
         classes,
@@ -408,7 +298,7 @@ pub extern "C" fn rukkanei_seal(
 ) -> NumberReply
     ensures { λ r. ⌜ TakesInNumbers (Seal session) values classes readers claimants exclusives logs x r ⌝ }
 {
-    seal_in_numbers(store::seal(
+    numbers::seal_in_numbers(store::seal(
         x,
         values,
         classes,
@@ -434,7 +324,7 @@ pub extern "C" fn rukkanei_advance(
 ) -> NumberReply
     ensures { λ r. ⌜ TakesInNumbers (Advance session) values classes readers claimants exclusives logs x r ⌝ }
 {
-    in_numbers(store::advance(
+    numbers::in_numbers(store::advance(
         x,
         values,
         classes,
@@ -460,7 +350,7 @@ pub extern "C" fn rukkanei_abandon(
 ) -> NumberReply
     ensures { λ r. ⌜ TakesInNumbers (Abandon session) values classes readers claimants exclusives logs x r ⌝ }
 {
-    in_numbers(store::abandon(
+    numbers::in_numbers(store::abandon(
         x,
         values,
         classes,
@@ -487,7 +377,7 @@ pub extern "C" fn rukkanei_peek_number(
 ) -> NumberReply
     ensures { λ r. ⌜ TakesInNumbers (Peek session cell) values classes readers claimants exclusives logs x r ⌝ }
 {
-    in_numbers(peeks::peek_number(
+    numbers::in_numbers(peeks::peek_number(
         x,
         values,
         classes,
@@ -532,7 +422,7 @@ pub extern "C" fn rukkanei_peek_place(
         return 1;
     }
     if let Plan::ShowLog(k) = p {
-        *index = 128 * (session as usize) + (4 * (k as usize) + 2);
+        *index = numbers::shown_at(session, k);
         return 2;
     }
     0

@@ -11,7 +11,7 @@ use Rattle.records.specs.declared.Lock.{Lock}
 use Rattle.records.specs.declared.Sessions.{Sessions}
 use Rattle.records.specs.declared.Answer.{Answer}
 use Rattle.records.specs.declared.Call.{Call}
-use Rattle.lock_records.specs.Run.{unzipped, storeOn}
+use Rattle.run_changes.specs.Run.{unzipped, storeOn}
 use Rattle.lock_records.specs.Forms.{zipped, OutcomeIn}
 
 -- the store that three lists are, under the limits G

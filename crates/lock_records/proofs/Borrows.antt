@@ -27,9 +27,10 @@ use Rattle.records.specs.declared.Lock.{Lock}
 use Rattle.records.specs.declared.Sessions.{Sessions}
 use Rattle.records.specs.declared.Reply.{Reply}
 use Rattle.records.specs.declared.Call.{Call}
-use Rattle.lock_records.specs.Run.{storeOn}
+use Rattle.run_changes.specs.Run.{storeOn}
 use Rattle.lock_records.proofs.Numbers.{rows, spell}
-use Rattle.lock_records.proofs.Row.{R, RS, low-s}
+use Rattle.lock_run.proofs.Row.{R}
+use Rattle.lock_records.proofs.Row.{RS, low-s}
 
 pub record Borrows : Type 0 where
   pub κ₀ : Lft

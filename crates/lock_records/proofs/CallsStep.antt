@@ -25,7 +25,8 @@ use denote.Triple.Spec.{tripleOf}
 use Rattle.records.specs.declared.Lock.{Lock}
 use Rattle.records.specs.declared.Reply.{Reply}
 use Rattle.records.specs.declared.Call.{Call}
-use Rattle.lock_records.proofs.Row.{R, RS, low-s, makes-s, RA, RK, makes-k}
+use Rattle.lock_run.proofs.Row.{R}
+use Rattle.lock_records.proofs.Row.{RS, low-s, makes-s, RA, RK, makes-k}
 use Rattle.lock_records.proofs.Borrows.{Borrows, κsOf, qsOf, Leaves, Sound, Classes, Tokens}
 use Rattle.lock_records.proofs.step as step
 

@@ -1,16 +1,5 @@
-pub mod Again
-pub mod Lent
 pub mod Row
-pub mod Leave
-pub mod Short
-pub mod Calls
 pub mod Numbers
 pub mod Borrows
 pub mod CallsStep
-pub mod Changes
-pub mod OnRun
-pub mod ByTable
-pub mod Replies
-pub mod Cells
-pub mod SetUps
 pub mod Agreement

@@ -12,7 +12,7 @@ use Rattle.records.specs.declared.Sessions.{Sessions}
 use Rattle.records.specs.declared.Reply.{Reply}
 use Rattle.records.specs.declared.Call.{Call}
 use Rattle.model.specs.Slices.{Slice, capsBefore, capsAfter, IsPart}
-use Rattle.lock_records.specs.Run.{storeOn}
+use Rattle.run_changes.specs.Run.{storeOn}
 
 -- a lent run, as it is passed and as it is left
 abbrev pub LockSlice : Type 0

@@ -1,4 +1,2 @@
-pub mod Run
 pub mod Lent
-pub mod Turns
 pub mod Forms

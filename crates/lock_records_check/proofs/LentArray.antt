@@ -31,7 +31,7 @@ use denote.Index.{row, whole-out, whole-in}
 use denote.Steps.{only, peeks}
 use denote.Triple.Statement.{Contract, Triple}
 use denote.Triple.Call.{calls-at}
-use Rattle.lock_records.proofs.Lent.{ref-at}
+use Rattle.lock_run.proofs.Lent.{ref-at}
 
 module _ (R : RattleType) (n : ℕ) where
   -- the array's one MIR type

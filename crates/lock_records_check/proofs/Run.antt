@@ -19,7 +19,8 @@ use Rattle.records.specs.declared.Lock.{Lock}
 use Rattle.records.specs.declared.Reply.{Reply}
 use Rattle.records.proofs.Lock as T
 use Rattle.records.proofs.Lock.Laws as T′
-use Rattle.lock_records.proofs.Row.{R, makes, RA}
+use Rattle.lock_run.proofs.Row.{R, makes}
+use Rattle.lock_records.proofs.Row.{RA}
 use Rattle.lock_records_check.specs.declared.RunReply.{RunReply}
 use Rattle.lock_records_check.proofs.RunReply as X
 use Rattle.lock_records_check.proofs.RunReply.Laws as X′

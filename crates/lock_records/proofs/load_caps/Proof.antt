@@ -39,14 +39,15 @@ use denote.Exit.{yes}
 use Rattle.records.specs.declared.Lock.{Lock}
 use Rattle.records.specs.declared.Sessions.{Sessions}
 use Rattle.records.specs.declared.Reply.{Reply}
-use Rattle.lock_records.specs.Turns.{IsLoad}
-use Rattle.lock_records.proofs.Row.{R, RS, low-s, tells-s, makes-s, typed-s, RA, typed-a}
-use Rattle.lock_records.proofs.Leave.{full, leave}
-use Rattle.lock_records.proofs.Short.{allocates, var, sets, relends}
-use Rattle.lock_records.proofs.load_turn as load-turn
-use Rattle.lock_records.proofs.load_turn.Symbol as load-turn-def
-use Rattle.lock_records.proofs.load_turn.Symbol.{name as #lock-records·load-turn}
-use Rattle.lock_records.proofs.load_turn.Met as load-turn-thm
+use Rattle.run_turns.specs.Turns.{IsLoad}
+use Rattle.lock_run.proofs.Row.{R}
+use Rattle.lock_records.proofs.Row.{RS, low-s, tells-s, makes-s, typed-s, RA, typed-a}
+use Rattle.lock_run.proofs.Leave.{full, leave}
+use Rattle.lock_run.proofs.Short.{allocates, var, sets, relends}
+use Rattle.run_turns.proofs.load_turn as load-turn
+use Rattle.run_turns.proofs.load_turn.Symbol as load-turn-def
+use Rattle.run_turns.proofs.load_turn.Symbol.{name as #run-turns·load-turn}
+use Rattle.run_turns.proofs.load_turn.Met as load-turn-thm
 use Rattle.lock_records.proofs.load_caps.Key.{name as #lock-records·load-caps}
 use Rattle.lock_records.proofs.load_caps as load-caps
 use Rattle.lock_records.proofs.load_caps.Statement as stated
@@ -162,7 +163,7 @@ module _ {M : Type 1} (𝓤 : URA M) (H : Heap 𝓤) (A : Atoms 𝓤) (W : Given
       nothing ! $ move ! (3 ∷ 0 ∷ []) $ fjoin ! $ move ! (1 ∷ 0 ∷ []) $ fjoin ! $ move ! (4 ∷ 0 ∷ []) $ fjoin ! $ move ! (4 ∷ 0 ∷ []) $ fjoin ! $ move ! (2 ∷ 0 ∷ []) $ fjoin ! $ move ! (2 ∷ 0 ∷ []) $ fjoin ! $
       owned ! RS (Is RS) (makes-s 𝓤 H A) ss (low-s ss ∷ []) gs $ fjoin ! $ frame ! $ done !
 
-  module _ (C : Calls 𝓤 H) (Λ : Loops 𝓤 H) (fm : FmC 𝓤 H (W .laws) C) (known : Triple 𝓤 (C #lock-records·load-turn) (LoadTurn 𝓤 H A mem run)) where
+  module _ (C : Calls 𝓤 H) (Λ : Loops 𝓤 H) (fm : FmC 𝓤 H (W .laws) C) (known : Triple 𝓤 (C #run-turns·load-turn) (LoadTurn 𝓤 H A mem run)) where
     walk : ent 𝓤 (onEntry 𝓤 H A load-caps.signature κs qs a at) (WpFn 𝓤 H C Λ code.function Passed Post)
     walk =
         qed W ((‵ (flft κ₀ q₀) ⊛ (‵ (flft κ₁ q₁) ⊛ (‵ (flft κ₂ q₂) ⊛ (‵ (flft κ₃ q₃) ⊛ (‵ (flft κ₄ q₄) ⊛ (‵ (flft κ₅ q₅) ⊛ ‵ ftrue)))))) ∷ ‵ (owns (RS ∷ ShrSlice (named 0) κ₀ u32 ∷ ShrSlice (named 1) κ₁ u8 ∷ ShrSlice (named 2) κ₂ R ∷ ShrSlice (named 3) κ₃ u32 ∷ MutSlice (named 4) κ₄ u32 ∷ ShrSlice (named 5) κ₅ u32 ∷ []) a at) ∷ []) ∵
@@ -188,7 +189,7 @@ module _ {M : Type 1} (𝓤 : URA M) (H : Heap 𝓤) (A : Atoms 𝓤) (W : Given
         peeks ! RA (Is RA) (shows 𝓤 H A RA) (p .0) (v ∷ []) (λ pa. land ! (from ! (stop !)) (init ! 31 refl (typed-a 𝓤 H A W (p .0) v pa)) $
         returns ! (look ! 31 refl) $ leave ! 9 (full _ ∷ full _ ∷ full _ ∷ full _ ∷ full _ ∷ full _ ∷ full _ ∷ full _ ∷ full _ ∷ full _ ∷ full _ ∷ full _ ∷ []) refl $ by ! (exits (p .0) (p .1) v (f .0) (f .1)))))))
 
-module _ {M : Type 1} (𝓤 : URA M) (H : Heap 𝓤) (A : Atoms 𝓤) (W : Given 𝓤 H A) (mem : Memory → SProp 𝓤) (run : Routine → Fun 𝓤) (𝓣 : Tables 𝓤 H) (known : Triple 𝓤 (𝓣 .C #lock-records·load-turn) (LoadTurn 𝓤 H A mem run)) where
+module _ {M : Type 1} (𝓤 : URA M) (H : Heap 𝓤) (A : Atoms 𝓤) (W : Given 𝓤 H A) (mem : Memory → SProp 𝓤) (run : Routine → Fun 𝓤) (𝓣 : Tables 𝓤 H) (known : Triple 𝓤 (𝓣 .C #run-turns·load-turn) (LoadTurn 𝓤 H A mem run)) where
   walks : Walks 𝓤 H A load-caps.ended stayed (WpFn 𝓤 H (𝓣 .C) (𝓣 .Λ) code.function) (load-caps.clauses 𝓤 H A mem run)
   walks = walked 𝓤 H A load-caps.ended stayed (load-caps.clauses 𝓤 H A mem run) (WpFn 𝓤 H (𝓣 .C) (𝓣 .Λ) code.function) (λ κs. (λ (k : Sessions). low-s k ∷ [], (slice-vals, (slice-vals, (slice-vals, (slice-vals, (slice-vals, (slice-vals, tt))))))))
       (λ κs. (tells-s, (shr-slice-tells (named 0) (κs .0) u32, (shr-slice-tells (named 1) (κs .1 .0) u8, (shr-slice-tells (named 2) (κs .1 .1 .0) R, (shr-slice-tells (named 3) (κs .1 .1 .1 .0) u32, (mut-slice-tells (named 4) (κs .1 .1 .1 .1 .0) u32, (shr-slice-tells (named 5) (κs .1 .1 .1 .1 .1 .0) u32, tt))))))))
@@ -207,4 +208,4 @@ load-caps-spec 𝓤 H 𝓜 𝓖 𝓡 =
     entered 𝓤 H (tripleOf 𝓤 H (𝓖 .A) load-caps.signature (load-caps.spec 𝓤 H (𝓖 .A) (𝓜 .mem) (𝓡 .run)))
     (tables 𝓤 H 𝓜 𝓡 code.env .C) (tables 𝓤 H 𝓜 𝓡 code.env .Λ) #lock-records·load-caps code.function (code.unfolded 𝓤 H 𝓜 𝓡)
     (meets 𝓤 H (𝓖 .A) (givenOf 𝓤 H 𝓜 𝓖) (𝓜 .mem) (𝓡 .run) (tablesOf 𝓤 H 𝓜 (tables 𝓤 H 𝓜 𝓡 code.env))
-    (cited 𝓤 H (LoadTurn 𝓤 H (𝓖 .A) (𝓜 .mem) (𝓡 .run)) 𝓜 𝓡 code.env #lock-records·load-turn load-turn-def.routine code.calls-lock-records·load-turn (load-turn-thm.met 𝓤 H 𝓜 𝓖 𝓡)))
+    (cited 𝓤 H (LoadTurn 𝓤 H (𝓖 .A) (𝓜 .mem) (𝓡 .run)) 𝓜 𝓡 code.env #run-turns·load-turn load-turn-def.routine code.calls-run-turns·load-turn (load-turn-thm.met 𝓤 H 𝓜 𝓖 𝓡)))

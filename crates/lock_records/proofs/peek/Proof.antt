@@ -37,14 +37,15 @@ use denote.Triple.Walked.{says, Stays, stay-none, stay-none-slice, walkOf, goes-
 use denote.Exit.{yes}
 use Rattle.records.specs.declared.Lock.{Lock}
 use Rattle.records.specs.declared.Sessions.{Sessions}
-use Rattle.lock_records.specs.Turns.{IsPeekPart}
-use Rattle.lock_records.proofs.Row.{R, RS, low-s, tells-s, makes-s, typed-s}
-use Rattle.lock_records.proofs.Leave.{full, leave}
-use Rattle.lock_records.proofs.Short.{allocates, var, sets}
-use Rattle.lock_records.proofs.peek_part as peek-part
-use Rattle.lock_records.proofs.peek_part.Symbol as peek-part-def
-use Rattle.lock_records.proofs.peek_part.Symbol.{name as #lock-records·peek-part}
-use Rattle.lock_records.proofs.peek_part.Met as peek-part-thm
+use Rattle.run_turns.specs.Turns.{IsPeekPart}
+use Rattle.lock_run.proofs.Row.{R}
+use Rattle.lock_records.proofs.Row.{RS, low-s, tells-s, makes-s, typed-s}
+use Rattle.lock_run.proofs.Leave.{full, leave}
+use Rattle.lock_run.proofs.Short.{allocates, var, sets}
+use Rattle.run_turns.proofs.peek_part as peek-part
+use Rattle.run_turns.proofs.peek_part.Symbol as peek-part-def
+use Rattle.run_turns.proofs.peek_part.Symbol.{name as #run-turns·peek-part}
+use Rattle.run_turns.proofs.peek_part.Met as peek-part-thm
 use Rattle.lock_records.proofs.peek.Key.{name as #lock-records·peek}
 use Rattle.lock_records.proofs.peek as peek
 use Rattle.lock_records.proofs.peek.Statement as stated
@@ -122,7 +123,7 @@ module _ {M : Type 1} (𝓤 : URA M) (H : Heap 𝓤) (A : Atoms 𝓤) (W : Given
       nothing ! $ owned ! u32 (Is u32) (uint-makes 𝓤 H A W w32) c _ (refl, fc) $ fjoin ! $ owned ! u8 (Is u8) (uint-makes 𝓤 H A W w8) s _ (refl, fs) $ fjoin ! $ move ! (3 ∷ 0 ∷ []) $ fjoin ! $ move ! (3 ∷ 0 ∷ []) $ fjoin ! $ move ! (3 ∷ 0 ∷ []) $ fjoin ! $ move ! (2 ∷ 0 ∷ []) $ fjoin ! $
       owned ! RS (Is RS) (makes-s 𝓤 H A) ss (low-s ss ∷ []) gs $ fjoin ! $ frame ! $ done !
 
-  module _ (C : Calls 𝓤 H) (Λ : Loops 𝓤 H) (fm : FmC 𝓤 H (W .laws) C) (known : Triple 𝓤 (C #lock-records·peek-part) (PeekPart 𝓤 H A mem run)) where
+  module _ (C : Calls 𝓤 H) (Λ : Loops 𝓤 H) (fm : FmC 𝓤 H (W .laws) C) (known : Triple 𝓤 (C #run-turns·peek-part) (PeekPart 𝓤 H A mem run)) where
     walk : ent 𝓤 (onEntry 𝓤 H A peek.signature (κ₀, (κ₁, (κ₂, tt))) (q₀, (q₁, (q₂, tt))) a at) (WpFn 𝓤 H C Λ code.function (low-s ss ∷ sliceVal (x₀ .ptr) n₀ ∷ sliceVal (x₁ .ptr) n₁ ∷ sliceVal (x .ptr) n ∷ sliceVal (x₃ .ptr) (length (now x₃)) ∷ vint w8 s ∷ vint w32 c ∷ []) Post)
     walk =
         qed W ((‵ (flft κ₀ q₀) ⊛ (‵ (flft κ₁ q₁) ⊛ (‵ (flft κ₂ q₂) ⊛ ‵ ftrue))) ∷ ‵ (owns (RS ∷ ShrSlice (named 0) κ₀ u32 ∷ ShrSlice (named 1) κ₁ u8 ∷ ShrSlice (named 2) κ₂ R ∷ ShrSlice (named 0) κ₀ u32 ∷ u8 ∷ u32 ∷ []) a at) ∷ []) ∵
@@ -145,7 +146,7 @@ module _ {M : Type 1} (𝓤 : URA M) (H : Heap 𝓤) (A : Atoms 𝓤) (W : Given
         peeks ! (ShrSlice (named 0) κ₀ u32) (Is (ShrSlice (named 0) κ₀ u32)) (shows 𝓤 H A (ShrSlice (named 0) κ₀ u32)) r (v ∷ []) (λ p. land ! (from ! (stop !)) (init ! 26 refl (shr-slice-lawful 𝓤 H A W (named 0) κ₀ u32 .typed r (v ∷ []) p .0)) $
         returns ! (look ! 26 refl) $ leave ! 8 (full _ ∷ full _ ∷ full _ ∷ full _ ∷ full _ ∷ full _ ∷ full _ ∷ full _ ∷ full _ ∷ full _ ∷ []) refl $ by ! (exits r v f))))))
 
-module _ {M : Type 1} (𝓤 : URA M) (H : Heap 𝓤) (A : Atoms 𝓤) (W : Given 𝓤 H A) (mem : Memory → SProp 𝓤) (run : Routine → Fun 𝓤) (𝓣 : Tables 𝓤 H) (known : Triple 𝓤 (𝓣 .C #lock-records·peek-part) (PeekPart 𝓤 H A mem run)) where
+module _ {M : Type 1} (𝓤 : URA M) (H : Heap 𝓤) (A : Atoms 𝓤) (W : Given 𝓤 H A) (mem : Memory → SProp 𝓤) (run : Routine → Fun 𝓤) (𝓣 : Tables 𝓤 H) (known : Triple 𝓤 (𝓣 .C #run-turns·peek-part) (PeekPart 𝓤 H A mem run)) where
   walks : Walks 𝓤 H A peek.ended stayed (WpFn 𝓤 H (𝓣 .C) (𝓣 .Λ) code.function) (peek.clauses 𝓤 H A mem run)
   walks = walked 𝓤 H A peek.ended stayed (peek.clauses 𝓤 H A mem run) (WpFn 𝓤 H (𝓣 .C) (𝓣 .Λ) code.function) (λ κs. (λ (k : Sessions). low-s k ∷ [], (slice-vals, (slice-vals, (slice-vals, (slice-vals, (uint-vals w8, (uint-vals w32, tt))))))))
       (λ κs. (tells-s, (shr-slice-tells (named 0) (κs .0) u32, (shr-slice-tells (named 1) (κs .1 .0) u8, (shr-slice-tells (named 2) (κs .1 .1 .0) R, (shr-slice-tells (named 0) (κs .0) u32, (uint-tells w8, (uint-tells w32, tt))))))))
@@ -163,4 +164,4 @@ peek-spec 𝓤 H 𝓜 𝓖 𝓡 =
     entered 𝓤 H (tripleOf 𝓤 H (𝓖 .A) peek.signature (peek.spec 𝓤 H (𝓖 .A) (𝓜 .mem) (𝓡 .run)))
     (tables 𝓤 H 𝓜 𝓡 code.env .C) (tables 𝓤 H 𝓜 𝓡 code.env .Λ) #lock-records·peek code.function (code.unfolded 𝓤 H 𝓜 𝓡)
     (meets 𝓤 H (𝓖 .A) (givenOf 𝓤 H 𝓜 𝓖) (𝓜 .mem) (𝓡 .run) (tablesOf 𝓤 H 𝓜 (tables 𝓤 H 𝓜 𝓡 code.env))
-    (cited 𝓤 H (PeekPart 𝓤 H (𝓖 .A) (𝓜 .mem) (𝓡 .run)) 𝓜 𝓡 code.env #lock-records·peek-part peek-part-def.routine code.calls-lock-records·peek-part (peek-part-thm.met 𝓤 H 𝓜 𝓖 𝓡)))
+    (cited 𝓤 H (PeekPart 𝓤 H (𝓖 .A) (𝓜 .mem) (𝓡 .run)) 𝓜 𝓡 code.env #run-turns·peek-part peek-part-def.routine code.calls-run-turns·peek-part (peek-part-thm.met 𝓤 H 𝓜 𝓖 𝓡)))

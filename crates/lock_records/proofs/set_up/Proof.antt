@@ -39,22 +39,23 @@ use Rattle.model.specs.Buffers.{ours}
 use Rattle.model.specs.Step.{outcome}
 use Rattle.records.specs.declared.Lock.{Lock}
 use Rattle.records.specs.declared.Sessions.{Sessions}
-use Rattle.lock_records.specs.declared.Turn.{Turn}
-use Rattle.lock_records.specs.Run.{storeOn, sweptBy}
-use Rattle.lock_records.specs.Turns.{IsSetUpTurn}
-use Rattle.lock_records.proofs.Turn.Laws as U′
-use Rattle.lock_records.proofs.Row.{R, RS, low-s, tells-s, makes-s, typed-s, RA, low-a, makes-a, typed-a, RU, typed-u, turn-is, reply-is, change-is}
-use Rattle.lock_records.proofs.Leave.{full, leave}
-use Rattle.lock_records.proofs.Short.{var, sets, relends}
-use Rattle.lock_records.proofs.Lent.{ref-at, lent, lent-both}
-use Rattle.lock_records.proofs.Calls.{Sweep, sw-to, sw-gives, sw-goes, sw-gets}
-use Rattle.lock_records.proofs.sweep.Symbol as sweep-def
-use Rattle.lock_records.proofs.sweep.Symbol.{name as #lock-records·sweep}
-use Rattle.lock_records.proofs.sweep.Met as sweep-thm
-use Rattle.lock_records.proofs.set_up_turn as set-up-turn
-use Rattle.lock_records.proofs.set_up_turn.Symbol as set-up-turn-def
-use Rattle.lock_records.proofs.set_up_turn.Symbol.{name as #lock-records·set-up-turn}
-use Rattle.lock_records.proofs.set_up_turn.Met as set-up-turn-thm
+use Rattle.run_turns.specs.declared.Turn.{Turn}
+use Rattle.run_changes.specs.Run.{storeOn, sweptBy}
+use Rattle.run_turns.specs.Turns.{IsSetUpTurn}
+use Rattle.run_turns.proofs.Turn.Laws as U′
+use Rattle.lock_run.proofs.Row.{R}
+use Rattle.lock_records.proofs.Row.{RS, low-s, tells-s, makes-s, typed-s, RA, low-a, makes-a, typed-a, RU, typed-u, turn-is, reply-is, change-is}
+use Rattle.lock_run.proofs.Leave.{full, leave}
+use Rattle.lock_run.proofs.Short.{var, sets, relends}
+use Rattle.lock_run.proofs.Lent.{ref-at, lent, lent-both}
+use Rattle.lock_run.proofs.Calls.{Sweep, sw-to, sw-gives, sw-goes, sw-gets}
+use Rattle.lock_run.proofs.sweep.Symbol as sweep-def
+use Rattle.lock_run.proofs.sweep.Symbol.{name as #lock-run·sweep}
+use Rattle.lock_run.proofs.sweep.Met as sweep-thm
+use Rattle.run_turns.proofs.set_up_turn as set-up-turn
+use Rattle.run_turns.proofs.set_up_turn.Symbol as set-up-turn-def
+use Rattle.run_turns.proofs.set_up_turn.Symbol.{name as #run-turns·set-up-turn}
+use Rattle.run_turns.proofs.set_up_turn.Met as set-up-turn-thm
 use Rattle.lock_records.proofs.set_up.Key.{name as #lock-records·set-up}
 use Rattle.lock_records.proofs.set_up as set-up
 use Rattle.lock_records.proofs.set_up.Statement as stated
@@ -151,7 +152,7 @@ module _ {M : Type 1} (𝓤 : URA M) (H : Heap 𝓤) (A : Atoms 𝓤) (W : Given
       nothing ! $ move ! (2 ∷ 0 ∷ []) $ fjoin ! $ move ! (1 ∷ 0 ∷ []) $ fjoin ! $ move ! (1 ∷ 0 ∷ []) $ fjoin ! $ move ! (1 ∷ 0 ∷ []) $ fjoin ! $
       owned ! RS (Is RS) (makes-s 𝓤 H A) ss (low-s ss ∷ []) gs $ fjoin ! $ frame ! $ owned ! RA (Is RA) (makes-a 𝓤 H A) (t .reply) (low-a (t .reply) ∷ []) (reply-is t v p) $ done !
 
-  module _ (C : Calls 𝓤 H) (Λ : Loops 𝓤 H) (fm : FmC 𝓤 H (W .laws) C) (known-turn : Triple 𝓤 (C #lock-records·set-up-turn) (SetUpTurn 𝓤 H A mem run)) (known-sweep : Triple 𝓤 (C #lock-records·sweep) (Sweep 𝓤 H A mem run)) where
+  module _ (C : Calls 𝓤 H) (Λ : Loops 𝓤 H) (fm : FmC 𝓤 H (W .laws) C) (known-turn : Triple 𝓤 (C #run-turns·set-up-turn) (SetUpTurn 𝓤 H A mem run)) (known-sweep : Triple 𝓤 (C #lock-run·sweep) (Sweep 𝓤 H A mem run)) where
     walk : ent 𝓤 (onEntry 𝓤 H A set-up.signature (κ₀, (κ₁, (κ₂, (κ₃, tt)))) (q₀, (q₁, (q₂, (q₃, tt)))) a at) (WpFn 𝓤 H C Λ code.function (low-s ss ∷ sliceVal (x₀ .ptr) (length (now x₀)) ∷ sliceVal (x₁ .ptr) (length (now x₁)) ∷ s ∷ s₃ ∷ []) Post)
     walk =
         qed W ((‵ (flft κ₀ q₀) ⊛ (‵ (flft κ₁ q₁) ⊛ (‵ (flft κ₂ q₂) ⊛ (‵ (flft κ₃ q₃) ⊛ ‵ ftrue)))) ∷ ‵ (owns (RS ∷ ShrSlice (named 0) κ₀ u32 ∷ ShrSlice (named 1) κ₁ u8 ∷ MutSlice (named 2) κ₂ R ∷ MutSlice (named 3) κ₃ u32 ∷ []) a at) ∷ []) ∵
@@ -186,7 +187,7 @@ module _ {M : Type 1} (𝓤 : URA M) (H : Heap 𝓤) (A : Atoms 𝓤) (W : Given
         keep ! (0 ∷ 1 ∷ 2 ∷ 3 ∷ 4 ∷ 5 ∷ 6 ∷ 7 ∷ []) $ by ! (exits t v p zs ws f len put len₃)))))))))))))))))))))))
 
 module _ {M : Type 1} (𝓤 : URA M) (H : Heap 𝓤) (A : Atoms 𝓤) (W : Given 𝓤 H A) (mem : Memory → SProp 𝓤) (run : Routine → Fun 𝓤) (𝓣 : Tables 𝓤 H)
-    (known-turn : Triple 𝓤 (𝓣 .C #lock-records·set-up-turn) (SetUpTurn 𝓤 H A mem run)) (known-sweep : Triple 𝓤 (𝓣 .C #lock-records·sweep) (Sweep 𝓤 H A mem run)) where
+    (known-turn : Triple 𝓤 (𝓣 .C #run-turns·set-up-turn) (SetUpTurn 𝓤 H A mem run)) (known-sweep : Triple 𝓤 (𝓣 .C #lock-run·sweep) (Sweep 𝓤 H A mem run)) where
   walks : Walks 𝓤 H A set-up.ended stayed (WpFn 𝓤 H (𝓣 .C) (𝓣 .Λ) code.function) (set-up.clauses 𝓤 H A mem run)
   walks = walked 𝓤 H A set-up.ended stayed (set-up.clauses 𝓤 H A mem run) (WpFn 𝓤 H (𝓣 .C) (𝓣 .Λ) code.function) (λ κs. (λ (k : Sessions). low-s k ∷ [], (slice-vals, (slice-vals, (slice-vals, (slice-vals, tt))))))
       (λ κs. (tells-s, (shr-slice-tells (named 0) (κs .0) u32, (shr-slice-tells (named 1) (κs .1 .0) u8, (mut-slice-tells (named 2) (κs .1 .1 .0) R, (mut-slice-tells (named 3) (κs .1 .1 .1 .0) u32, tt))))))
@@ -205,5 +206,5 @@ set-up-spec 𝓤 H 𝓜 𝓖 𝓡 =
     entered 𝓤 H (tripleOf 𝓤 H (𝓖 .A) set-up.signature (set-up.spec 𝓤 H (𝓖 .A) (𝓜 .mem) (𝓡 .run)))
     (tables 𝓤 H 𝓜 𝓡 code.env .C) (tables 𝓤 H 𝓜 𝓡 code.env .Λ) #lock-records·set-up code.function (code.unfolded 𝓤 H 𝓜 𝓡)
     (meets 𝓤 H (𝓖 .A) (givenOf 𝓤 H 𝓜 𝓖) (𝓜 .mem) (𝓡 .run) (tablesOf 𝓤 H 𝓜 (tables 𝓤 H 𝓜 𝓡 code.env))
-    (cited 𝓤 H (SetUpTurn 𝓤 H (𝓖 .A) (𝓜 .mem) (𝓡 .run)) 𝓜 𝓡 code.env #lock-records·set-up-turn set-up-turn-def.routine code.calls-lock-records·set-up-turn (set-up-turn-thm.met 𝓤 H 𝓜 𝓖 𝓡))
-    (cited 𝓤 H (Sweep 𝓤 H (𝓖 .A) (𝓜 .mem) (𝓡 .run)) 𝓜 𝓡 code.env #lock-records·sweep sweep-def.routine code.calls-lock-records·sweep (sweep-thm.met 𝓤 H 𝓜 𝓖 𝓡)))
+    (cited 𝓤 H (SetUpTurn 𝓤 H (𝓖 .A) (𝓜 .mem) (𝓡 .run)) 𝓜 𝓡 code.env #run-turns·set-up-turn set-up-turn-def.routine code.calls-run-turns·set-up-turn (set-up-turn-thm.met 𝓤 H 𝓜 𝓖 𝓡))
+    (cited 𝓤 H (Sweep 𝓤 H (𝓖 .A) (𝓜 .mem) (𝓡 .run)) 𝓜 𝓡 code.env #lock-run·sweep sweep-def.routine code.calls-lock-run·sweep (sweep-thm.met 𝓤 H 𝓜 𝓖 𝓡)))

@@ -40,30 +40,31 @@ use Rattle.model.specs.Step.{outcome}
 use Rattle.records.specs.declared.Lock.{Lock}
 use Rattle.records.specs.declared.Sessions.{Sessions}
 use Rattle.records.specs.declared.Call.{Call}
-use Rattle.lock_records.specs.declared.Turn.{Turn}
-use Rattle.lock_records.specs.Run.{storeOn, lockIn, sweptBy}
-use Rattle.lock_records.specs.Turns.{lookOf, IsTurn}
+use Rattle.run_turns.specs.declared.Turn.{Turn}
+use Rattle.run_changes.specs.Run.{storeOn, lockIn, sweptBy}
+use Rattle.run_turns.specs.Turns.{lookOf, IsTurn}
 use Rattle.model.proofs.Tables.{goes-by-ours}
-use Rattle.lock_records.proofs.Turn.Laws as U′
-use Rattle.lock_records.proofs.Row.{R, makes, typed-at, RS, low-s, tells-s, makes-s, typed-s, RA, low-a, makes-a, typed-a, RU, typed-u, turn-is, reply-is, change-is, RK, low-k, tells-k, makes-k, typed-k}
-use Rattle.lock_records.proofs.Leave.{full, leave}
-use Rattle.lock_records.proofs.Short.{var, sets, relends}
-use Rattle.lock_records.proofs.Lent.{ref-at, lent, lent-shared, lent-both}
-use Rattle.lock_records.proofs.Calls.{LockAt, at-to, at-gives, at-goes, at-gets, Sweep, sw-to, sw-gives, sw-goes, sw-gets}
-use Rattle.lock_records.proofs.look_up as look-up
-use Rattle.lock_records.proofs.look_up.Symbol as look-up-def
-use Rattle.lock_records.proofs.look_up.Symbol.{name as #lock-records·look-up}
-use Rattle.lock_records.proofs.look_up.Met as look-up-thm
-use Rattle.lock_records.proofs.lock_at.Symbol as lock-at-def
-use Rattle.lock_records.proofs.lock_at.Symbol.{name as #lock-records·lock-at}
-use Rattle.lock_records.proofs.lock_at.Met as lock-at-thm
-use Rattle.lock_records.proofs.take_turn as take-turn
-use Rattle.lock_records.proofs.take_turn.Symbol as take-turn-def
-use Rattle.lock_records.proofs.take_turn.Symbol.{name as #lock-records·take-turn}
-use Rattle.lock_records.proofs.take_turn.Met as take-turn-thm
-use Rattle.lock_records.proofs.sweep.Symbol as sweep-def
-use Rattle.lock_records.proofs.sweep.Symbol.{name as #lock-records·sweep}
-use Rattle.lock_records.proofs.sweep.Met as sweep-thm
+use Rattle.run_turns.proofs.Turn.Laws as U′
+use Rattle.lock_run.proofs.Row.{R, makes, typed-at}
+use Rattle.lock_records.proofs.Row.{RS, low-s, tells-s, makes-s, typed-s, RA, low-a, makes-a, typed-a, RU, typed-u, turn-is, reply-is, change-is, RK, low-k, tells-k, makes-k, typed-k}
+use Rattle.lock_run.proofs.Leave.{full, leave}
+use Rattle.lock_run.proofs.Short.{var, sets, relends}
+use Rattle.lock_run.proofs.Lent.{ref-at, lent, lent-shared, lent-both}
+use Rattle.lock_run.proofs.Calls.{LockAt, at-to, at-gives, at-goes, at-gets, Sweep, sw-to, sw-gives, sw-goes, sw-gets}
+use Rattle.run_turns.proofs.look_up as look-up
+use Rattle.run_turns.proofs.look_up.Symbol as look-up-def
+use Rattle.run_turns.proofs.look_up.Symbol.{name as #run-turns·look-up}
+use Rattle.run_turns.proofs.look_up.Met as look-up-thm
+use Rattle.lock_run.proofs.lock_at.Symbol as lock-at-def
+use Rattle.lock_run.proofs.lock_at.Symbol.{name as #lock-run·lock-at}
+use Rattle.lock_run.proofs.lock_at.Met as lock-at-thm
+use Rattle.run_turns.proofs.take_turn as take-turn
+use Rattle.run_turns.proofs.take_turn.Symbol as take-turn-def
+use Rattle.run_turns.proofs.take_turn.Symbol.{name as #run-turns·take-turn}
+use Rattle.run_turns.proofs.take_turn.Met as take-turn-thm
+use Rattle.lock_run.proofs.sweep.Symbol as sweep-def
+use Rattle.lock_run.proofs.sweep.Symbol.{name as #lock-run·sweep}
+use Rattle.lock_run.proofs.sweep.Met as sweep-thm
 use Rattle.lock_records.proofs.step.Key.{name as #lock-records·step}
 use Rattle.lock_records.proofs.step as step
 use Rattle.lock_records.proofs.step.Statement as stated
@@ -199,8 +200,8 @@ module _ {M : Type 1} (𝓤 : URA M) (H : Heap 𝓤) (A : Atoms 𝓤) (W : Given
       nothing ! $ move ! (2 ∷ 0 ∷ []) $ fjoin ! $ move ! (1 ∷ 0 ∷ []) $ fjoin ! $ move ! (2 ∷ 0 ∷ []) $ fjoin ! $ move ! (1 ∷ 0 ∷ []) $ fjoin ! $
       owned ! RS (Is RS) (makes-s 𝓤 H A) ss (low-s ss ∷ []) gs $ fjoin ! $ owned ! RK (Is RK) (makes-k 𝓤 H A) call (low-k call ∷ []) gk $ fjoin ! $ frame ! $ owned ! RA (Is RA) (makes-a 𝓤 H A) (t .reply) (low-a (t .reply) ∷ []) (reply-is t v p) $ done !
 
-  module _ (C : Calls 𝓤 H) (Λ : Loops 𝓤 H) (fm : FmC 𝓤 H (W .laws) C) (known-up : Triple 𝓤 (C #lock-records·look-up) (LookUp 𝓤 H A mem run)) (known-at : Triple 𝓤 (C #lock-records·lock-at) (LockAt 𝓤 H A mem run))
-      (known-turn : Triple 𝓤 (C #lock-records·take-turn) (TakeTurn 𝓤 H A mem run)) (known-sweep : Triple 𝓤 (C #lock-records·sweep) (Sweep 𝓤 H A mem run)) where
+  module _ (C : Calls 𝓤 H) (Λ : Loops 𝓤 H) (fm : FmC 𝓤 H (W .laws) C) (known-up : Triple 𝓤 (C #run-turns·look-up) (LookUp 𝓤 H A mem run)) (known-at : Triple 𝓤 (C #lock-run·lock-at) (LockAt 𝓤 H A mem run))
+      (known-turn : Triple 𝓤 (C #run-turns·take-turn) (TakeTurn 𝓤 H A mem run)) (known-sweep : Triple 𝓤 (C #lock-run·sweep) (Sweep 𝓤 H A mem run)) where
     walk : ent 𝓤 (onEntry 𝓤 H A step.signature (κ₀, (κ₁, (κ₂, (κ₃, tt)))) (q₀, (q₁, (q₂, (q₃, tt)))) a at) (WpFn 𝓤 H C Λ code.function (low-k call ∷ low-s ss ∷ sliceVal (x₀ .ptr) n₀ ∷ sliceVal (x₁ .ptr) n₁ ∷ s ∷ s₃ ∷ []) Post)
     walk =
         qed W ((‵ (flft κ₀ q₀) ⊛ (‵ (flft κ₁ q₁) ⊛ (‵ (flft κ₂ q₂) ⊛ (‵ (flft κ₃ q₃) ⊛ ‵ ftrue)))) ∷ ‵ (owns (RK ∷ RS ∷ MutSlice (named 0) κ₀ u32 ∷ ShrSlice (named 1) κ₁ u8 ∷ MutSlice (named 2) κ₂ R ∷ MutSlice (named 3) κ₃ u32 ∷ []) a at) ∷ []) ∵
@@ -254,8 +255,8 @@ module _ {M : Type 1} (𝓤 : URA M) (H : Heap 𝓤) (A : Atoms 𝓤) (W : Given
         by ! (exits r (ap (lockIn ys) (sym g-is) ∙ sym r-is) (tv .0) u p (tv .1) zs ws (f .0) (f .1) len put len₃))))))))))))))))))))))))))))))))))))))))))
 
 module _ {M : Type 1} (𝓤 : URA M) (H : Heap 𝓤) (A : Atoms 𝓤) (W : Given 𝓤 H A) (mem : Memory → SProp 𝓤) (run : Routine → Fun 𝓤) (𝓣 : Tables 𝓤 H)
-    (known-up : Triple 𝓤 (𝓣 .C #lock-records·look-up) (LookUp 𝓤 H A mem run)) (known-at : Triple 𝓤 (𝓣 .C #lock-records·lock-at) (LockAt 𝓤 H A mem run))
-    (known-turn : Triple 𝓤 (𝓣 .C #lock-records·take-turn) (TakeTurn 𝓤 H A mem run)) (known-sweep : Triple 𝓤 (𝓣 .C #lock-records·sweep) (Sweep 𝓤 H A mem run)) where
+    (known-up : Triple 𝓤 (𝓣 .C #run-turns·look-up) (LookUp 𝓤 H A mem run)) (known-at : Triple 𝓤 (𝓣 .C #lock-run·lock-at) (LockAt 𝓤 H A mem run))
+    (known-turn : Triple 𝓤 (𝓣 .C #run-turns·take-turn) (TakeTurn 𝓤 H A mem run)) (known-sweep : Triple 𝓤 (𝓣 .C #lock-run·sweep) (Sweep 𝓤 H A mem run)) where
   walks : Walks 𝓤 H A step.ended stayed (WpFn 𝓤 H (𝓣 .C) (𝓣 .Λ) code.function) (step.clauses 𝓤 H A mem run)
   walks = walked 𝓤 H A step.ended stayed (step.clauses 𝓤 H A mem run) (WpFn 𝓤 H (𝓣 .C) (𝓣 .Λ) code.function) (λ κs. (λ (k : Call). low-k k ∷ [], (λ (k : Sessions). low-s k ∷ [], (slice-vals, (slice-vals, (slice-vals, (slice-vals, tt)))))))
       (λ κs. (tells-k, (tells-s, (mut-slice-tells (named 0) (κs .0) u32, (shr-slice-tells (named 1) (κs .1 .0) u8, (mut-slice-tells (named 2) (κs .1 .1 .0) R, (mut-slice-tells (named 3) (κs .1 .1 .1 .0) u32, tt)))))))
@@ -274,7 +275,7 @@ step-spec 𝓤 H 𝓜 𝓖 𝓡 =
     entered 𝓤 H (tripleOf 𝓤 H (𝓖 .A) step.signature (step.spec 𝓤 H (𝓖 .A) (𝓜 .mem) (𝓡 .run)))
     (tables 𝓤 H 𝓜 𝓡 code.env .C) (tables 𝓤 H 𝓜 𝓡 code.env .Λ) #lock-records·step code.function (code.unfolded 𝓤 H 𝓜 𝓡)
     (meets 𝓤 H (𝓖 .A) (givenOf 𝓤 H 𝓜 𝓖) (𝓜 .mem) (𝓡 .run) (tablesOf 𝓤 H 𝓜 (tables 𝓤 H 𝓜 𝓡 code.env))
-    (cited 𝓤 H (LookUp 𝓤 H (𝓖 .A) (𝓜 .mem) (𝓡 .run)) 𝓜 𝓡 code.env #lock-records·look-up look-up-def.routine code.calls-lock-records·look-up (look-up-thm.met 𝓤 H 𝓜 𝓖 𝓡))
-    (cited 𝓤 H (LockAt 𝓤 H (𝓖 .A) (𝓜 .mem) (𝓡 .run)) 𝓜 𝓡 code.env #lock-records·lock-at lock-at-def.routine code.calls-lock-records·lock-at (lock-at-thm.met 𝓤 H 𝓜 𝓖 𝓡))
-    (cited 𝓤 H (TakeTurn 𝓤 H (𝓖 .A) (𝓜 .mem) (𝓡 .run)) 𝓜 𝓡 code.env #lock-records·take-turn take-turn-def.routine code.calls-lock-records·take-turn (take-turn-thm.met 𝓤 H 𝓜 𝓖 𝓡))
-    (cited 𝓤 H (Sweep 𝓤 H (𝓖 .A) (𝓜 .mem) (𝓡 .run)) 𝓜 𝓡 code.env #lock-records·sweep sweep-def.routine code.calls-lock-records·sweep (sweep-thm.met 𝓤 H 𝓜 𝓖 𝓡)))
+    (cited 𝓤 H (LookUp 𝓤 H (𝓖 .A) (𝓜 .mem) (𝓡 .run)) 𝓜 𝓡 code.env #run-turns·look-up look-up-def.routine code.calls-run-turns·look-up (look-up-thm.met 𝓤 H 𝓜 𝓖 𝓡))
+    (cited 𝓤 H (LockAt 𝓤 H (𝓖 .A) (𝓜 .mem) (𝓡 .run)) 𝓜 𝓡 code.env #lock-run·lock-at lock-at-def.routine code.calls-lock-run·lock-at (lock-at-thm.met 𝓤 H 𝓜 𝓖 𝓡))
+    (cited 𝓤 H (TakeTurn 𝓤 H (𝓖 .A) (𝓜 .mem) (𝓡 .run)) 𝓜 𝓡 code.env #run-turns·take-turn take-turn-def.routine code.calls-run-turns·take-turn (take-turn-thm.met 𝓤 H 𝓜 𝓖 𝓡))
+    (cited 𝓤 H (Sweep 𝓤 H (𝓖 .A) (𝓜 .mem) (𝓡 .run)) 𝓜 𝓡 code.env #lock-run·sweep sweep-def.routine code.calls-lock-run·sweep (sweep-thm.met 𝓤 H 𝓜 𝓖 𝓡)))

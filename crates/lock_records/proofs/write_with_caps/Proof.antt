@@ -42,25 +42,26 @@ use Rattle.model.specs.Step.{outcome}
 use Rattle.records.specs.declared.Lock.{Lock}
 use Rattle.records.specs.declared.Sessions.{Sessions}
 use Rattle.records.specs.declared.Call.the-variants.{Write}
-use Rattle.lock_records.specs.declared.Turn.{Turn}
-use Rattle.lock_records.specs.Run.{storeOn, lockIn, sweptBy}
-use Rattle.lock_records.specs.Turns.{IsTurnUnder}
-use Rattle.lock_records.proofs.Turn.Laws as U′
-use Rattle.lock_records.proofs.Row.{R, makes, typed-at, RS, low-s, tells-s, makes-s, typed-s, RA, low-a, makes-a, typed-a, RU, typed-u, turn-is, reply-is, change-is}
-use Rattle.lock_records.proofs.Leave.{full, leave}
-use Rattle.lock_records.proofs.Short.{allocates, var, sets, relends}
-use Rattle.lock_records.proofs.Lent.{ref-at, lent, lent-shared, lent-both}
-use Rattle.lock_records.proofs.Calls.{LockAt, at-to, at-gives, at-goes, at-gets, Sweep, sw-to, sw-gives, sw-goes, sw-gets}
-use Rattle.lock_records.proofs.lock_at.Symbol as lock-at-def
-use Rattle.lock_records.proofs.lock_at.Symbol.{name as #lock-records·lock-at}
-use Rattle.lock_records.proofs.lock_at.Met as lock-at-thm
-use Rattle.lock_records.proofs.sweep.Symbol as sweep-def
-use Rattle.lock_records.proofs.sweep.Symbol.{name as #lock-records·sweep}
-use Rattle.lock_records.proofs.sweep.Met as sweep-thm
-use Rattle.lock_records.proofs.write_turn as write-turn
-use Rattle.lock_records.proofs.write_turn.Symbol as write-turn-def
-use Rattle.lock_records.proofs.write_turn.Symbol.{name as #lock-records·write-turn}
-use Rattle.lock_records.proofs.write_turn.Met as write-turn-thm
+use Rattle.run_turns.specs.declared.Turn.{Turn}
+use Rattle.run_changes.specs.Run.{storeOn, lockIn, sweptBy}
+use Rattle.run_turns.specs.Turns.{IsTurnUnder}
+use Rattle.run_turns.proofs.Turn.Laws as U′
+use Rattle.lock_run.proofs.Row.{R, makes, typed-at}
+use Rattle.lock_records.proofs.Row.{RS, low-s, tells-s, makes-s, typed-s, RA, low-a, makes-a, typed-a, RU, typed-u, turn-is, reply-is, change-is}
+use Rattle.lock_run.proofs.Leave.{full, leave}
+use Rattle.lock_run.proofs.Short.{allocates, var, sets, relends}
+use Rattle.lock_run.proofs.Lent.{ref-at, lent, lent-shared, lent-both}
+use Rattle.lock_run.proofs.Calls.{LockAt, at-to, at-gives, at-goes, at-gets, Sweep, sw-to, sw-gives, sw-goes, sw-gets}
+use Rattle.lock_run.proofs.lock_at.Symbol as lock-at-def
+use Rattle.lock_run.proofs.lock_at.Symbol.{name as #lock-run·lock-at}
+use Rattle.lock_run.proofs.lock_at.Met as lock-at-thm
+use Rattle.lock_run.proofs.sweep.Symbol as sweep-def
+use Rattle.lock_run.proofs.sweep.Symbol.{name as #lock-run·sweep}
+use Rattle.lock_run.proofs.sweep.Met as sweep-thm
+use Rattle.run_turns.proofs.write_turn as write-turn
+use Rattle.run_turns.proofs.write_turn.Symbol as write-turn-def
+use Rattle.run_turns.proofs.write_turn.Symbol.{name as #run-turns·write-turn}
+use Rattle.run_turns.proofs.write_turn.Met as write-turn-thm
 use Rattle.lock_records.proofs.write_with_caps.Key.{name as #lock-records·write-with-caps}
 use Rattle.lock_records.proofs.write_with_caps as write
 use Rattle.lock_records.proofs.write_with_caps.Statement as stated
@@ -192,7 +193,7 @@ module _ {M : Type 1} (𝓤 : URA M) (H : Heap 𝓤) (A : Atoms 𝓤) (W : Given
       move ! (3 ∷ 0 ∷ []) $ fjoin ! $ move ! (2 ∷ 0 ∷ []) $ fjoin ! $ move ! (1 ∷ 0 ∷ []) $ fjoin ! $ move ! (1 ∷ 0 ∷ []) $ fjoin ! $ move ! (1 ∷ 0 ∷ []) $ fjoin ! $
       owned ! RS (Is RS) (makes-s 𝓤 H A) ss (low-s ss ∷ []) gs $ fjoin ! $ frame ! $ owned ! RA (Is RA) (makes-a 𝓤 H A) (t .reply) (low-a (t .reply) ∷ []) (reply-is t v p) $ done !
 
-  module _ (C : Calls 𝓤 H) (Λ : Loops 𝓤 H) (fm : FmC 𝓤 H (W .laws) C) (known-at : Triple 𝓤 (C #lock-records·lock-at) (LockAt 𝓤 H A mem run)) (known-turn : Triple 𝓤 (C #lock-records·write-turn) (WriteTurn 𝓤 H A mem run)) (known-sweep : Triple 𝓤 (C #lock-records·sweep) (Sweep 𝓤 H A mem run)) where
+  module _ (C : Calls 𝓤 H) (Λ : Loops 𝓤 H) (fm : FmC 𝓤 H (W .laws) C) (known-at : Triple 𝓤 (C #lock-run·lock-at) (LockAt 𝓤 H A mem run)) (known-turn : Triple 𝓤 (C #run-turns·write-turn) (WriteTurn 𝓤 H A mem run)) (known-sweep : Triple 𝓤 (C #lock-run·sweep) (Sweep 𝓤 H A mem run)) where
     walk : ent 𝓤 (onEntry 𝓤 H A write.signature κs qs a at) (WpFn 𝓤 H C Λ code.function Passed Post)
     walk =
         qed W ((‵ (flft κ₀ q₀) ⊛ (‵ (flft κ₁ q₁) ⊛ (‵ (flft κ₂ q₂) ⊛ (‵ (flft κ₃ q₃) ⊛ (‵ (flft κ₄ q₄) ⊛ ‵ ftrue))))) ∷ ‵ (owns (RS ∷ ShrSlice (named 0) κ₀ u32 ∷ ShrSlice (named 1) κ₁ u8 ∷ MutSlice (named 2) κ₂ R ∷ MutSlice (named 3) κ₃ u32 ∷ ShrSlice (named 4) κ₄ u32 ∷ u8 ∷ u32 ∷ u32 ∷ []) a at) ∷ []) ∵
@@ -238,7 +239,7 @@ module _ {M : Type 1} (𝓤 : URA M) (H : Heap 𝓤) (A : Atoms 𝓤) (W : Given
         by ! (exits r r-is t u p zs ws f len put len₃)))))))))))))
 
 module _ {M : Type 1} (𝓤 : URA M) (H : Heap 𝓤) (A : Atoms 𝓤) (W : Given 𝓤 H A) (mem : Memory → SProp 𝓤) (run : Routine → Fun 𝓤) (𝓣 : Tables 𝓤 H)
-    (known-at : Triple 𝓤 (𝓣 .C #lock-records·lock-at) (LockAt 𝓤 H A mem run)) (known-turn : Triple 𝓤 (𝓣 .C #lock-records·write-turn) (WriteTurn 𝓤 H A mem run)) (known-sweep : Triple 𝓤 (𝓣 .C #lock-records·sweep) (Sweep 𝓤 H A mem run)) where
+    (known-at : Triple 𝓤 (𝓣 .C #lock-run·lock-at) (LockAt 𝓤 H A mem run)) (known-turn : Triple 𝓤 (𝓣 .C #run-turns·write-turn) (WriteTurn 𝓤 H A mem run)) (known-sweep : Triple 𝓤 (𝓣 .C #lock-run·sweep) (Sweep 𝓤 H A mem run)) where
   walks : Walks 𝓤 H A write.ended stayed (WpFn 𝓤 H (𝓣 .C) (𝓣 .Λ) code.function) (write.clauses 𝓤 H A mem run)
   walks = walked 𝓤 H A write.ended stayed (write.clauses 𝓤 H A mem run) (WpFn 𝓤 H (𝓣 .C) (𝓣 .Λ) code.function) (λ κs. (λ (k : Sessions). low-s k ∷ [], (slice-vals, (slice-vals, (slice-vals, (slice-vals, (slice-vals, (uint-vals w8, (uint-vals w32, (uint-vals w32, tt))))))))))
       (λ κs. (tells-s, (shr-slice-tells (named 0) (κs .0) u32, (shr-slice-tells (named 1) (κs .1 .0) u8, (mut-slice-tells (named 2) (κs .1 .1 .0) R, (mut-slice-tells (named 3) (κs .1 .1 .1 .0) u32, (shr-slice-tells (named 4) (κs .1 .1 .1 .1 .0) u32, (uint-tells w8, (uint-tells w32, (uint-tells w32, tt))))))))))
@@ -259,6 +260,6 @@ write-with-caps-spec 𝓤 H 𝓜 𝓖 𝓡 =
     entered 𝓤 H (tripleOf 𝓤 H (𝓖 .A) write.signature (write.spec 𝓤 H (𝓖 .A) (𝓜 .mem) (𝓡 .run)))
     (tables 𝓤 H 𝓜 𝓡 code.env .C) (tables 𝓤 H 𝓜 𝓡 code.env .Λ) #lock-records·write-with-caps code.function (code.unfolded 𝓤 H 𝓜 𝓡)
     (meets 𝓤 H (𝓖 .A) (givenOf 𝓤 H 𝓜 𝓖) (𝓜 .mem) (𝓡 .run) (tablesOf 𝓤 H 𝓜 (tables 𝓤 H 𝓜 𝓡 code.env))
-    (cited 𝓤 H (LockAt 𝓤 H (𝓖 .A) (𝓜 .mem) (𝓡 .run)) 𝓜 𝓡 code.env #lock-records·lock-at lock-at-def.routine code.calls-lock-records·lock-at (lock-at-thm.met 𝓤 H 𝓜 𝓖 𝓡))
-    (cited 𝓤 H (WriteTurn 𝓤 H (𝓖 .A) (𝓜 .mem) (𝓡 .run)) 𝓜 𝓡 code.env #lock-records·write-turn write-turn-def.routine code.calls-lock-records·write-turn (write-turn-thm.met 𝓤 H 𝓜 𝓖 𝓡))
-    (cited 𝓤 H (Sweep 𝓤 H (𝓖 .A) (𝓜 .mem) (𝓡 .run)) 𝓜 𝓡 code.env #lock-records·sweep sweep-def.routine code.calls-lock-records·sweep (sweep-thm.met 𝓤 H 𝓜 𝓖 𝓡)))
+    (cited 𝓤 H (LockAt 𝓤 H (𝓖 .A) (𝓜 .mem) (𝓡 .run)) 𝓜 𝓡 code.env #lock-run·lock-at lock-at-def.routine code.calls-lock-run·lock-at (lock-at-thm.met 𝓤 H 𝓜 𝓖 𝓡))
+    (cited 𝓤 H (WriteTurn 𝓤 H (𝓖 .A) (𝓜 .mem) (𝓡 .run)) 𝓜 𝓡 code.env #run-turns·write-turn write-turn-def.routine code.calls-run-turns·write-turn (write-turn-thm.met 𝓤 H 𝓜 𝓖 𝓡))
+    (cited 𝓤 H (Sweep 𝓤 H (𝓖 .A) (𝓜 .mem) (𝓡 .run)) 𝓜 𝓡 code.env #lock-run·sweep sweep-def.routine code.calls-lock-run·sweep (sweep-thm.met 𝓤 H 𝓜 𝓖 𝓡)))

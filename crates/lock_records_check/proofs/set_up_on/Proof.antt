@@ -40,11 +40,12 @@ use Rattle.model.specs.Step.{outcome, setUpEffect}
 use Rattle.records.specs.declared.Lock.{Lock}
 use Rattle.records.specs.declared.Sessions.{Sessions}
 use Rattle.records.specs.declared.Reply.{Reply}
-use Rattle.lock_records.specs.Run.{storeOn}
-use Rattle.lock_records.proofs.Row.{R, vals, tells, RS, low-s, tells-s, makes-s, typed-s, RA, typed-a}
-use Rattle.lock_records.proofs.Leave.{full, leave}
-use Rattle.lock_records.proofs.Short.{var, sets}
-use Rattle.lock_records.proofs.Lent.{ref-at}
+use Rattle.run_changes.specs.Run.{storeOn}
+use Rattle.lock_run.proofs.Row.{R, vals, tells}
+use Rattle.lock_records.proofs.Row.{RS, low-s, tells-s, makes-s, typed-s, RA, typed-a}
+use Rattle.lock_run.proofs.Leave.{full, leave}
+use Rattle.lock_run.proofs.Short.{var, sets}
+use Rattle.lock_run.proofs.Lent.{ref-at}
 use Rattle.lock_records.proofs.set_up as set-up
 use Rattle.lock_records.proofs.set_up.Symbol as set-up-def
 use Rattle.lock_records.proofs.set_up.Symbol.{name as #lock-records·set-up}

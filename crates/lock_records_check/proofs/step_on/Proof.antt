@@ -39,10 +39,11 @@ use Rattle.records.specs.declared.Lock.{Lock}
 use Rattle.records.specs.declared.Sessions.{Sessions}
 use Rattle.records.specs.declared.Reply.{Reply}
 use Rattle.records.specs.declared.Call.{Call}
-use Rattle.lock_records.proofs.Row.{R, vals, tells, RS, low-s, tells-s, makes-s, typed-s, RA, typed-a, RK, low-k, tells-k, makes-k, typed-k}
-use Rattle.lock_records.proofs.Leave.{full, leave}
-use Rattle.lock_records.proofs.Short.{var, sets}
-use Rattle.lock_records.proofs.Lent.{ref-at}
+use Rattle.lock_run.proofs.Row.{R, vals, tells}
+use Rattle.lock_records.proofs.Row.{RS, low-s, tells-s, makes-s, typed-s, RA, typed-a, RK, low-k, tells-k, makes-k, typed-k}
+use Rattle.lock_run.proofs.Leave.{full, leave}
+use Rattle.lock_run.proofs.Short.{var, sets}
+use Rattle.lock_run.proofs.Lent.{ref-at}
 use Rattle.lock_records.proofs.Borrows.{Leaves}
 use Rattle.lock_records.proofs.step as step
 use Rattle.lock_records.proofs.step.Symbol as step-def

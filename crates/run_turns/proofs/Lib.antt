@@ -1,0 +1,4 @@
+pub mod OnRun
+pub mod ByTable
+pub mod Replies
+pub mod SetUps
