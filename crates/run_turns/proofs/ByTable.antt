@@ -23,7 +23,7 @@ use Rattle.loads.specs.Loads.{Lends}
 use Rattle.refusals.proofs.Lengths
 use Rattle.run_changes.specs.declared.Change.{Change}
 use Rattle.run_turns.specs.declared.Turn.{Turn}
-use Rattle.run_changes.specs.Run.{unzipped, lentOn, storeOn, countOf, swept, onRun}
+use Rattle.run_changes.specs.Run.{lentOn, storeOn, countOf, swept, onRun}
 use Rattle.run_turns.specs.Turns.{onlyAnswer, IsTurnUnder, IsLoad}
 use Rattle.model.proofs.Tables.{has-caps, has-not}
 use Rattle.run_changes.proofs.Changes.{each-length, unzipped-at}

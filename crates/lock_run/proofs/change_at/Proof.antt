@@ -1,4 +1,4 @@
--- `lock_records::change_at` meets its contract: a walk of its MIR, by hand. Below the length the borrow is opened, the element is read, `changed` is called on it with the borrow open, its result is stored, and the borrow is closed. Past the length nothing changes.
+-- `lock_run::change_at` meets its contract: a walk of its MIR, by hand. Below the length the borrow is opened, the element is read, `changed` is called on it with the borrow open, its result is stored, and the borrow is closed. Past the length nothing changes.
 -- Assumes nothing.
 use mathlib.Core.Path.{_≡_, refl, sym, ap, subst}
 use Prim.Native.Nat.{ℕ, _<_, _^_}

@@ -1,4 +1,4 @@
--- `lock_records::lock_at` meets its contract: a walk of its MIR, by hand, with a branch. Below the length the element is read; past it the empty lock is made.
+-- `lock_run::lock_at` meets its contract: a walk of its MIR, by hand, with a branch. Below the length the element is read; past it the empty lock is made.
 -- Assumes nothing.
 use mathlib.Core.Path.{_≡_, refl, sym}
 use Prim.Native.Nat.{ℕ, _<_, _^_}

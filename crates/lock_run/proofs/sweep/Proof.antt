@@ -1,4 +1,4 @@
--- `lock_records::sweep` meets its contract: a walk of its MIR, by hand, with a loop. Each turn asks `cell_of`, which is covered, for one cell, and lends the run to `change_at` (`Lent.antt`, `Calls.antt`).
+-- `lock_run::sweep` meets its contract: a walk of its MIR, by hand, with a loop. Each turn asks `cell_of`, which is covered, for one cell, and lends the run to `change_at` (`Lent.antt`, `Calls.antt`).
 -- Assumes nothing.
 use mathlib.Core.Path.{_≡_, refl, sym, _∙_, ap, subst}
 use Prim.Native.Nat.{ℕ, zero, suc, _+_, _-_, _≤_, _<_, _^_, zero-le}

@@ -1,4 +1,4 @@
--- `lock_records::cell_of` meets its contract: one arm for each change.
+-- `run_changes::cell_of` meets its contract: one arm for each change.
 use Rattle.run_changes.proofs.Cells.{withdraw-fits, leave-fits}
 use Rattle.run_changes.specs.Run.{cellOf}
 use borrow.Author.Needs.{needs}

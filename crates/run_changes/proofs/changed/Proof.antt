@@ -1,4 +1,4 @@
--- `lock_records::changed` meets its contract: one arm for each change, by the function of crate `locks` that makes it.
+-- `run_changes::changed` meets its contract: one arm for each change, by the function of crate `locks` that makes it.
 use Rattle.run_changes.specs.Run.{changeOf}
 use borrow.Author.Needs.{needs}
 use Rattle.run_changes.proofs.changed.Statement.{statement}

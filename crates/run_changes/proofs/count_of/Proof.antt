@@ -1,4 +1,4 @@
--- `lock_records::count_of` meets its contract: one arm for each change.
+-- `run_changes::count_of` meets its contract: one arm for each change.
 use Rattle.run_changes.specs.Run.{countOf}
 use borrow.Author.Needs.{needs}
 use Rattle.run_changes.proofs.count_of.Statement.{statement}

@@ -1,4 +1,4 @@
--- `lock_records::entry_cell` meets its contract: the slice that it lends is the session's log.
+-- `run_changes::entry_cell` meets its contract: the slice that it lends is the session's log.
 use mathlib.Core.Path.{_∙_}
 use native.Mathlib.Omega.{arith}
 use Rattle.run_changes.proofs.Cells.{log-long}

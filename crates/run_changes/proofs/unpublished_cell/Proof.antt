@@ -1,4 +1,4 @@
--- `lock_records::unpublished_cell` meets its contract: the cell's first entry in the session's log says whether the cell publishes.
+-- `run_changes::unpublished_cell` meets its contract: the cell's first entry in the session's log says whether the cell publishes.
 use native.Mathlib.Omega.{arith}
 use Rattle.run_changes.proofs.Cells.{log-long, written-cell, unpublished, first-there}
 use borrow.Author.Needs.{needs}

@@ -1,4 +1,4 @@
--- `lock_records::peek_part` meets its contract: the part is the word that the plan shows, where it lies, or no word.
+-- `run_turns::peek_part` meets its contract: the part is the word that the plan shows, where it lies, or no word.
 use Rattle.run_turns.proofs.Replies.{store-there, log-there, gives-store, gives-log, gives-nothing}
 use mathlib.Core.Path.{refl}
 use native.Mathlib.Omega.{arith}
