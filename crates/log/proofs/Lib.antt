@@ -4,3 +4,4 @@ pub mod Twos
 pub mod Fills
 pub mod FirstEntry
 pub mod LookUps
+pub mod Logs

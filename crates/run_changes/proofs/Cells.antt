@@ -11,14 +11,10 @@ use Rattle.model.proofs.Tools.{test}
 use Rattle.model.specs.Buffers.{logIn, cellAt, entryAt, publishes, slotIn, lookIn, entryOf, publishesIn}
 use Rattle.log.specs.Slots.{found}
 use Rattle.log.proofs.Targets.{slot-some, slot-none}
-use Rattle.model.proofs.Laws.{log-length}
+use Rattle.log.proofs.Logs.{log-long}
 use Rattle.run_changes.specs.declared.Change.{Change}
 use Rattle.run_changes.specs.declared.Change.the-variants.{Withdraw, Leave}
 use Rattle.run_changes.specs.Run.{ChangeFits, countOf, cellOf}
-
--- a session's log has 128 words, as a function hands it back
-pub log-long : (logs : List ℕ) (s : ℕ) → length logs ≡ 2048 → s < 16 → (W : List ℕ) → W ≡ logIn logs s → length W ≡ 128
-log-long logs s long low W w = rw w (log-length logs s low long)
 
 -- what a change through entries says of its i-th lock
 pub withdraw-fits : (W : List ℕ) (d : Change) (s m i : ℕ) → d ≡ Withdraw s m → ChangeFits W d → i < countOf d → (s < 16) × (i < 32) × (length W ≡ 2048)

@@ -26,7 +26,7 @@ use Rattle.turns.specs.InLogs.{inLogs}
 use Rattle.turns.proofs.Fitting.{call-fits}
 use Rattle.refusals.proofs.Lengths
 use Rattle.refusals.proofs.Lengths.{Admitted, plan-refused}
-use Rattle.turns.proofs.Logs.{log-long}
+use Rattle.log.proofs.Logs.{log-long}
 use Rattle.turns.proofs.InLogs.{left, still}
 use Rattle.any_call.proofs.AnyCall.{one-lock}
 use Rattle.turns.proofs.Whole.{planUnder, planIn, takes-under}

@@ -1,6 +1,6 @@
 // The store: the calls but peek (crate peeks), and a load of caps, on number slices that the caller lends (document 01, "The steps").
 // A call takes the record of its session and hands it back with its answer. It is admitted (7 and 1), looks up the lock that it needs, takes its turn
-// (crates calls and turns) and carries out what becomes of the locks.
+// (crates calls, advance and turns) and carries out what becomes of the locks.
 ghost use mathlib.Core.Path.{_≡_};
 ghost use Rattle.records.specs.declared.Answer.the-variants.{Refused};
 ghost use Rattle.records.specs.declared.Call.the-variants.{Begin, Read, Write, Seal, Advance, Abandon, Hold};

@@ -37,7 +37,7 @@ use Rattle.turns.specs.InLogs.{inLogs}
 use Rattle.refusals.proofs.Lengths.{Admitted, refused-by, refused-under-by}
 use Rattle.turns.proofs.Guards.{guarded}
 use Rattle.turns.proofs.InLogs.{kept-in}
-use Rattle.turns.proofs.Logs.{log-long}
+use Rattle.log.proofs.Logs.{log-long}
 use Rattle.turns.proofs.Whole.{planUnder, planIn, can-change, takes-under, takes}
 
 -- ---- the part of a change that a call's turn can be

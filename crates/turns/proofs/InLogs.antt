@@ -13,7 +13,7 @@ use Rattle.records.specs.declared.Plan.the-variants.{Refuse, Start, Tell, Enter
 use Rattle.model.proofs.Laws.{log-length, log-same, length-on}
 use Rattle.model.proofs.Carried.{same-log, length-appended}
 use Rattle.turns.specs.InLogs.{inLogs}
-use Rattle.turns.proofs.Logs.{cut, puts, cut-is, puts-is}
+use Rattle.log.proofs.Logs.{cut, puts, cut-is, puts-is}
 
 length-updated : (log : List ℕ) (k v : ℕ) → length (updated log k v) ≡ length log
 unfolding updated

@@ -1,4 +1,3 @@
-pub mod Logs
 pub mod InLogs
 pub mod Guards
 pub mod Fitting

@@ -1,5 +1,5 @@
 -- The session's log is lent on as a part of the logs.
-use Rattle.turns.proofs.Logs.{cut-is, cut-long, log-fits}
+use Rattle.log.proofs.Logs.{cut-is, cut-long, log-fits}
 use Rattle.turns.proofs.InLogs.{put-in}
 use borrow.Author.Needs.{needs}
 use Rattle.any_call.proofs.any.Statement.{statement}

@@ -1,5 +1,5 @@
 -- The session's log is lent on as a part of the logs.
-use Rattle.turns.proofs.Logs.{log-fits}
+use Rattle.log.proofs.Logs.{log-fits}
 use Rattle.many_reads.proofs.InLogs.{put-in-logs, in-part}
 use borrow.Author.Needs.{needs}
 use Rattle.many_reads.proofs.read_in.Statement.{statement}

@@ -1,7 +1,7 @@
 -- `run_changes::entry_cell` meets its contract: the slice that it lends is the session's log.
 use mathlib.Core.Path.{_∙_}
 use native.Mathlib.Omega.{arith}
-use Rattle.run_changes.proofs.Cells.{log-long}
+use Rattle.log.proofs.Logs.{log-long}
 use borrow.Author.Needs.{needs}
 use Rattle.run_changes.proofs.entry_cell.Statement.{statement}
 use Rattle.run_changes.proofs.entry_cell.Tie as tie

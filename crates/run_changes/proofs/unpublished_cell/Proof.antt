@@ -1,6 +1,7 @@
 -- `run_changes::unpublished_cell` meets its contract: the cell's first entry in the session's log says whether the cell publishes.
 use native.Mathlib.Omega.{arith}
-use Rattle.run_changes.proofs.Cells.{log-long, written-cell, unpublished, first-there}
+use Rattle.log.proofs.Logs.{log-long}
+use Rattle.run_changes.proofs.Cells.{written-cell, unpublished, first-there}
 use borrow.Author.Needs.{needs}
 use Rattle.run_changes.proofs.unpublished_cell.Statement.{statement}
 use Rattle.run_changes.proofs.unpublished_cell.Tie as tie

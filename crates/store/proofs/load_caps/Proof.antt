@@ -1,4 +1,4 @@
--- `store::load_caps` meets its contract: what `turns::load_caps` answers and leaves of all buffers with these lengths, it does of these.
+-- `store::load_caps` meets its contract: what `loads::load_caps` answers and leaves of all buffers with these lengths, it does of these.
 use mathlib.Core.Path.{refl}
 use Rattle.contracts.specs.Lent.{buffersOf}
 use Rattle.store.proofs.load_caps.Statement.{statement}
