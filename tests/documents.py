@@ -1,6 +1,6 @@
 #!/usr/bin/env python3
-"""Holds the documents to the tree: each path, function, must-fail edit and link that README.md and docs/ name is there. docs/landings is left out: a landing
-names what stood when it landed. docs/datasheet/wrong_answers.md has two edits at the least for each exported function, and every edit stands there.
+"""Holds the documents to the tree: each path, function, theorem, must-fail edit and link that README.md and docs/ name is there. docs/landings is left out: a
+landing names what stood when it landed. Every must-fail edit stands in docs/datasheet/wrong_answers.md, which has two at the least for each exported function.
 
 Usage: documents.py. Prints what is missing, and last 'N passed, M failed'."""
 
@@ -11,12 +11,18 @@ import sys
 
 ROOT = os.path.dirname(os.path.dirname(os.path.abspath(__file__)))
 WRONG_ANSWERS = "docs/datasheet/wrong_answers.md"
-OF_CRATE = ("src", "specs", "proofs", "must-fail")
+PATH = r"[\w{},./-]+"
+EDIT = r"`(\w+/(?:\w+|\{[\w, ]+\}))`"
+STATED = r"((?:`[\w-]+`(?:, | and )?)+) in `((?:crates/\w+/)?(?:specs|proofs)/\w+\.antt)`"
 
 
 def read(path):
     with open(os.path.join(ROOT, path), encoding="utf-8") as file:
         return file.read()
+
+
+def there(path):
+    return os.path.exists(os.path.join(ROOT, path))
 
 
 def documents():
@@ -38,7 +44,8 @@ def crates():
 
 def declared(crate):
     """The functions and types that a crate's code declares."""
-    code = "".join(read(f"crates/{crate}/src/{name}") for name in sorted(os.listdir(os.path.join(ROOT, f"crates/{crate}/src"))) if name.endswith(".rt"))
+    folder = f"crates/{crate}/src"
+    code = "".join(read(f"{folder}/{name}") for name in sorted(os.listdir(os.path.join(ROOT, folder))) if name.endswith(".rt"))
     return set(re.findall(r"\b(?:fn|struct|enum|const) (\w+)", code))
 
 
@@ -51,46 +58,49 @@ def edits():
     return found
 
 
+def shown(text):
+    return {edit for word in re.findall(EDIT, text) for edit in expanded(word)}
+
+
 def named(text, known):
-    """What backticked words name: (what it is, the name, whether it is there)."""
+    """What a document names: what it is, its name, whether it is there."""
     for word in re.findall(r"`([^`\n]+)`", text):
-        if re.fullmatch(r"crates/[\w{},./-]+", word):
-            yield from (("path", path, os.path.exists(os.path.join(ROOT, path))) for path in expanded(word))
-        parts = re.fullmatch(r"(\w+)/((?:%s)/[\w{},./-]+)" % "|".join(OF_CRATE), word)
-        if parts and parts.group(1) != "crates":
-            yield from (("path", f"crates/{path}", os.path.exists(os.path.join(ROOT, "crates", path))) for path in expanded(word))
+        first = word.split("/")[0]
+        if re.fullmatch(PATH, word) and "/" in word and os.path.isdir(os.path.join(ROOT, first)):
+            yield from (("path", path, there(path)) for path in expanded(word))
+        if re.fullmatch(r"\w+/(?:src|specs|proofs|must-fail)(?:/%s)?" % PATH, word) and first in known:
+            yield from (("path", f"crates/{path}", there(f"crates/{path}")) for path in expanded(word))
         parts = re.fullmatch(r"(\w+)::(\w+|\{[\w, ]+\})", word)
         if parts and parts.group(1) in known:
             yield from (("function", f"{parts.group(1)}::{name}", name in known[parts.group(1)]) for name in expanded(parts.group(2)))
+    for names, path in re.findall(STATED, text):
+        path = path if path.startswith("crates/") else f"crates/model/{path}"
+        stated = read(path) if there(path) else ""
+        yield from (("statement", f"{name} of {path}", re.search(rf"(?<![\w-]){re.escape(name)}(?![\w-])", stated) is not None) for name in re.findall(r"[\w-]+", names) if name != "and")
 
 
 def main():
     passed = failed = 0
 
-    def hold(document, what, name, there):
+    def hold(document, what, name, holds):
         nonlocal passed, failed
-        passed, failed = passed + there, failed + (not there)
-        if not there:
+        passed, failed = passed + holds, failed + (not holds)
+        if not holds:
             print(f"{document}: {what} {name} is not there")
 
     known = {crate: declared(crate) for crate in crates()}
-    listed = edits()
     for document in documents():
         text = read(document)
-        for what, name, there in named(text, known):
-            hold(document, what, name, there)
+        for what, name, holds in named(text, known):
+            hold(document, what, name, holds)
         for link in re.findall(r"\]\(([^)#:]+)\)", text):
-            hold(document, "link", link, os.path.exists(os.path.join(ROOT, os.path.dirname(document), link)))
+            hold(document, "link", link, there(os.path.join(os.path.dirname(document), link)))
 
-    told = set()
-    for row in re.findall(r"^\| `.*\|$", read(WRONG_ANSWERS), re.M):
-        shown = [edit for word in re.findall(r"`(\w+/[\w{}, ]+)`", row) for edit in expanded(word)]
-        for edit in shown:
-            hold(WRONG_ANSWERS, "edit", edit, edit in listed)
-        told |= set(shown)
-        hold(WRONG_ANSWERS, "two edits of", row.split("|")[1].strip(), len(set(shown)) >= 2)
-    for edit in sorted(listed - told):
-        hold(WRONG_ANSWERS, "a row for", edit, False)
+    page, listed = read(WRONG_ANSWERS), edits()
+    for edit in sorted(shown(page) | listed):
+        hold(WRONG_ANSWERS, "edit", edit, edit in shown(page) and edit in listed)
+    for row in re.findall(r"^\| `.*\|$", page, re.M):
+        hold(WRONG_ANSWERS, "a second edit of", row.split("|")[1].strip(), len(shown(row)) >= 2)
     print(f"{passed} passed, {failed} failed")
     sys.exit(1 if failed or not passed else 0)
 
