@@ -1,7 +1,6 @@
 -- What a write is handed and answers, by whatever table it was decided.
 use Prim.Native.Nat.{ℕ}
 use mathlib.Core.Path.{_≡_}
-use mathlib.Core.Option.{some}
 use mathlib.Core.List.{List}
 use lib.ListN.{length}
 use denote.Ref.{now}

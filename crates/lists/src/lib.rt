@@ -1,6 +1,5 @@
 // Any call of a list, on the records of all sixteen sessions and the locks as number slices: for the replay, and for code that has a `Call` in hand.
 // It calls the functions that the calls on one record do (crate store), as the call's kind says.
-ghost use mathlib.Core.Path.{_≡_};
 ghost use Rattle.contracts.specs.Lent.{Takes};
 use records::Answer;
 use records::Call;

@@ -1,6 +1,6 @@
 -- Laws of the tests, and one law for each way through them.
 use mathlib.Core.Path.{_≡_, refl, sym, ap, _∙_}
-use mathlib.Core.Bool.{Bool, true, false, cond, not}
+use mathlib.Core.Bool.{Bool, true, false, cond}
 use mathlib.Core.Option.{Option, none, some}
 use mathlib.Core.List.{List}
 use Prim.Native.Nat.{ℕ, _+_, _*_, _<_, _≤_}
@@ -11,7 +11,6 @@ use lib.ListN.{length}
 use Rattle.model.specs.Search.{some?, below}
 use Rattle.model.specs.Buffers.{cellAt, targetIn}
 use Rattle.model.specs.Plans.{known, entriesFit, recordFits, guard}
-use Rattle.model.specs.Effects.{number}
 use Rattle.records.specs.declared.Session.{Session}
 use Rattle.records.specs.declared.Plan.{Plan}
 use Rattle.records.specs.declared.Plan.the-variants.{Refuse, Start}

@@ -1,15 +1,15 @@
 -- A call's turn put back in what was lent, with the locks changed, is the model's call: the law by which every form of the locks meets its contracts.
-use mathlib.Core.Path.{_≡_, refl, sym, ap, _∙_}
+use mathlib.Core.Path.{_≡_, ap, _∙_}
 use mathlib.Core.Bool.{true}
 use mathlib.Core.List.{List}
-use Prim.Native.Nat.{ℕ, _%_, _<_, _≤_}
+use Prim.Native.Nat.{ℕ, _%_, _<_}
 use native.Mathlib.Omega.{arith}
 use borrow.Author.Tests.{lt-ltb}
 use lib.ListN.{length}
-use Rattle.model.specs.Buffers.{Locks, Buffers, Limits, ours, Store, size, sessionAt, withSession, logIn, onLog, lockAt, lengthsFit}
+use Rattle.model.specs.Buffers.{Locks, Buffers, Limits, ours, Store, size, sessionAt, withSession, logIn, lockAt, lengthsFit}
 use Rattle.model.specs.Plans.{plan, tableFits}
 use Rattle.model.specs.Effects.{answer, after, recordOf, logOf}
-use Rattle.model.specs.Step.{Outcome, outcome, answerOf, step, effect, planOf, sessionOf, TakesUnder, TakesRecord}
+use Rattle.model.specs.Step.{outcome, answerOf, step, effect, planOf, sessionOf, TakesUnder, TakesRecord}
 use Rattle.model.specs.Turns.{TurnEffect, leaves, turnOf, changed, carried}
 use Rattle.records.specs.declared.Session.{Session}
 use Rattle.records.specs.declared.Sessions.{Sessions}

@@ -1,5 +1,5 @@
 -- Each return is a way through a load: 7, a refusal of the table, or 100 with the table put in force.
-use mathlib.Core.Path.{refl, sym, _∙_}
+use mathlib.Core.Path.{sym, _∙_}
 use borrow.Author.Tests.{not-true, not-false}
 use Rattle.loads.proofs.Loading.{caps-7, table-7, lengths-7, even, refuses, loads}
 use borrow.Author.Needs.{needs}

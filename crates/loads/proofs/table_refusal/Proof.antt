@@ -1,5 +1,5 @@
 -- Each return is a way through `tableRefusal`.
-use mathlib.Core.Path.{refl, sym, _∙_}
+use mathlib.Core.Path.{sym, _∙_}
 use borrow.Author.Tests.{not-true, not-false}
 use Rattle.loads.proofs.Loading.{refuses-2, refuses-16, refuses-8, refuses-17, refuses-none}
 use borrow.Author.Needs.{needs}

@@ -1,5 +1,5 @@
 -- `store::seal` meets its contract: 7 and 1 are the model's; past them the turn is, and the session leaves the readers of what it did not write.
-use mathlib.Core.Path.{refl, _∙_}
+use mathlib.Core.Path.{refl}
 use borrow.Author.Tests.{not-true, not-false}
 use Rattle.model.specs.Buffers.{Buffers}
 use Rattle.refusals.proofs.Lengths.{Admitted, admitted-by}

@@ -1,6 +1,6 @@
 -- `transcript::run::run_cells` meets its contract: set-up is handed a lock for each cell. Assumes nothing.
 use native.Mathlib.Omega.{arith}
-use mathlib.Core.Path.{sym, refl}
+use mathlib.Core.Path.{sym}
 use lib.Seq.{length-take-le}
 use Rattle.transcript.proofs.Starting.{fitted}
 use borrow.Author.Needs.{needs}
