@@ -1,4 +1,4 @@
-// The types of the store: what a session keeps between calls, a lock, a call, what a call decides and what it answers; a record's methods and an answer's numbers.
+// The types of the store: what a session keeps between calls, a lock, a call, what a call decides and what it answers; a record's methods, an answer's numbers and how a turn ends.
 // The definitions over them, document 01's steps and demand 3, are in crate model.
 ghost use mathlib.Core.Path.{_≡_};
 ghost use Prim.Native.Nat.{suc, _<_};
