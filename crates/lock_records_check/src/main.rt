@@ -1,4 +1,4 @@
-// Runs document 01's listing, a short mixed list, one with values written back, one with holds and one with waits on number slices (crate store) and on a run of lock records (crate lock_records). Compared are
+// Runs document 01's listing, a short mixed list, one with values written back, one with holds and one with waits on number slices (crates set_up and lists) and on a run of lock records (crate lock_records). Compared are
 // set-up's answers and records, and after each call the answers, the records, and every value, lock and log word.
 // It writes each list as the replay does, with a line for a peek's number too; last, whether the two forms agreed throughout.
 ghost use Rattle.lock_records.specs.Lent.{TakesRun, SetsUpRun};
