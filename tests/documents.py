@@ -39,7 +39,7 @@ def expanded(text):
 
 
 def crates():
-    return [line.split(":")[0] for line in read("crates.txt").splitlines() if ":" in line]
+    return re.findall(r"^(\w+):", read("crates.txt"), re.M)
 
 
 def declared(crate):
