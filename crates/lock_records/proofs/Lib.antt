@@ -1,5 +1,2 @@
 pub mod Row
-pub mod Numbers
-pub mod Borrows
-pub mod CallsStep
 pub mod Agreement

@@ -1,6 +1,7 @@
--- What the walks of this crate cite: an array of two locks, and the result that holds one.
+-- What the walks of this crate cite: an array of two locks, the result that holds one, and what a call on the run leaves.
 -- Assumes nothing.
-use mathlib.Core.Path.{refl, _∙_}
+use mathlib.Core.Path.{_≡_, refl, _∙_}
+use Prim.Native.Nat.{ℕ}
 use mathlib.Core.List.{List, [], _∷_, map}
 use lib.ListN.{length-map}
 use lib.Dec.{T, lit<}
@@ -15,8 +16,13 @@ use denote.Array.{Array, each, array-lawful, array-makes}
 use denote.Laws.{Is, Makes}
 use denote.Slice.{Room}
 use denote.Struct.Laws as LL
+use Rattle.model.specs.Buffers.{Limits}
+use Rattle.model.specs.Step.{outcome, effect, GoesBy}
+use Rattle.records.specs.declared.Call.{Call}
 use Rattle.records.specs.declared.Lock.{Lock}
 use Rattle.records.specs.declared.Reply.{Reply}
+use Rattle.records.specs.declared.Sessions.{Sessions}
+use Rattle.run_changes.specs.Run.{storeOn}
 use Rattle.records.proofs.Lock as T
 use Rattle.records.proofs.Lock.Laws as T′
 use Rattle.lock_run.proofs.Row.{R, makes}
@@ -25,6 +31,10 @@ use Rattle.lock_records_check.specs.declared.RunReply.{RunReply}
 use Rattle.lock_records_check.proofs.RunReply as X
 use Rattle.lock_records_check.proofs.RunReply.Laws as X′
 use Rattle.lock_records_check.proofs.LentArray.{arr}
+
+-- the call k on values vs, classes cs, the run L, logs W and records ss replies r and leaves vs′, L′ and W′: whatever the limits are, where it goes by them
+abbrev pub Leaves : Call → List ℕ → List ℕ → List Lock → List ℕ → Sessions → Reply → List ℕ → List Lock → List ℕ → Type 0
+Leaves k vs cs L W ss r vs′ L′ W′ = (G : Limits) → GoesBy k G → outcome (r .answer) (storeOn G vs′ cs L′ W′ (r .sessions)) ≡ effect k (storeOn G vs cs L W ss)
 
 pub room : Room R 2
 room = (lit< tt, lit< tt)

@@ -44,13 +44,12 @@ use Rattle.lock_records.proofs.Row.{RS, low-s, tells-s, makes-s, typed-s, RA, t
 use Rattle.lock_run.proofs.Leave.{full, leave}
 use Rattle.lock_run.proofs.Short.{var, sets}
 use Rattle.lock_run.proofs.Lent.{ref-at}
-use Rattle.lock_records.proofs.Borrows.{Leaves}
 use Rattle.lock_records.proofs.step as step
 use Rattle.lock_records.proofs.step.Symbol as step-def
 use Rattle.lock_records.proofs.step.Symbol.{name as #lock-records·step}
 use Rattle.lock_records.proofs.step.Met as step-thm
 use Rattle.lock_records_check.proofs.LentArray.{lent-array}
-use Rattle.lock_records_check.proofs.Run.{room, RX, typed-run, makes-run, makes-x, typed-x, run-reply-is}
+use Rattle.lock_records_check.proofs.Run.{Leaves, room, RX, typed-run, makes-run, makes-x, typed-x, run-reply-is}
 use Rattle.lock_records_check.proofs.step_on.Key.{name as #lock-records-check·step-on}
 use Rattle.lock_records_check.proofs.step_on as step-on
 use Rattle.lock_records_check.proofs.step_on.Statement as stated
