@@ -1,6 +1,7 @@
 #!/usr/bin/env python3
 """Holds the documents to the tree: each path, function, theorem, must-fail edit and link that README.md and docs/ name is there. docs/landings is left out: a
-landing names what stood when it landed. Every must-fail edit stands in docs/datasheet/wrong_answers.md, which has two at the least for each exported function.
+landing names what stood when it landed. Every must-fail edit stands in docs/datasheet/wrong_answers.md, which has a row with two at the least for each exported
+function.
 
 Usage: documents.py. Prints what is missing, and last 'N passed, M failed'."""
 
@@ -11,6 +12,8 @@ import sys
 
 ROOT = os.path.dirname(os.path.dirname(os.path.abspath(__file__)))
 WRONG_ANSWERS = "docs/datasheet/wrong_answers.md"
+EXPORTING = ("set_up", "store", "peeks", "many_reads", "lists", "lock_records", "field", "transcript")
+INNER = {"peeks::peek_plan"}
 PATH = r"[\w{},./-]+"
 EDIT = r"`(\w+/(?:\w+|\{[\w, ]+\}))`"
 STATED = r"((?:`[\w-]+`(?:, | and )?)+) in `((?:crates/\w+/)?(?:specs|proofs)/\w+\.antt)`"
@@ -58,6 +61,11 @@ def edits():
     return found
 
 
+def exported():
+    """The functions that a buyer may call from Rattle (docs/DECISIONS.md, 'What a buyer may call')."""
+    return {f"{crate}::{name}" for crate in EXPORTING for name in re.findall(r"^pub fn (\w+)", read(f"crates/{crate}/src/lib.rt"), re.M)} - INNER
+
+
 def shown(text):
     return {edit for word in re.findall(EDIT, text) for edit in expanded(word)}
 
@@ -99,8 +107,9 @@ def main():
     page, listed = read(WRONG_ANSWERS), edits()
     for edit in sorted(shown(page) | listed):
         hold(WRONG_ANSWERS, "edit", edit, edit in shown(page) and edit in listed)
-    for row in re.findall(r"^\| `.*\|$", page, re.M):
-        hold(WRONG_ANSWERS, "a second edit of", row.split("|")[1].strip(), len(shown(row)) >= 2)
+    rows = dict(re.findall(r"^\| `([\w:]+)` (\|.*\|)$", page, re.M))
+    for function in sorted(exported() | set(rows)):
+        hold(WRONG_ANSWERS, "a row with two edits of", function, len(shown(rows.get(function, ""))) >= 2)
     print(f"{passed} passed, {failed} failed")
     sys.exit(1 if failed or not passed else 0)
 
