@@ -4,7 +4,7 @@ ghost use Rattle.model.specs.InTheWay.{TellsOthers};
 ghost use Rattle.model.specs.Plans.{claimed};
 ghost use Rattle.model.specs.Turns.{TakesTurn};
 ghost use Rattle.advance.specs.declared.Due.TheVariants.{Slot};
-ghost use Rattle.advance.specs.Pieces.{dueOn, dueCell, DueFits, advanceOn, duePlan, Promotes, handledBy};
+ghost use Rattle.advance.specs.Pieces.{due_on, due_cell, DueFits, advance_on, due_plan, Promotes, handled_by};
 
 use records::{Answer, Change, Lock, Session, Turn};
 
@@ -18,7 +18,7 @@ pub enum Due {
 // The first entry of the lowest cell that publishes, not below next, or 9 or 2.
 pub fn due_slot(log: &[u32], n: usize, x: Session) -> Due
     requires { (length log.now ≡ 128) × (n ≤ 1024) }
-    ensures { result ≡ dueOn n log.now x }
+    ensures { result ≡ due_on n log.now x }
 {
     let phase = x.phase;
     let count = x.count as usize;
@@ -41,7 +41,7 @@ pub fn due_slot(log: &[u32], n: usize, x: Session) -> Due
 // The cell of the entry that is due; 0 where the advance is refused.
 pub fn due_cell(log: &[u32], due: Due) -> u32
     requires { (length log.now ≡ 128) × (DueFits due) }
-    ensures { result ≡ dueCell log.now due }
+    ensures { result ≡ due_cell log.now due }
 {
     match due {
         Due::Refused(_) => 0,
@@ -70,7 +70,7 @@ pub struct Handled {
 // Next is one above the cell; where no cell that publishes is left there the phase rises and next is 0, and out of phase 4 the session is idle.
 fn handle(x: Session, cell: u32, more: bool) -> Handled
     requires { (x.phase ≤ 4) × (cell < 1024) }
-    ensures { result ≡ handledBy more x cell }
+    ensures { result ≡ handled_by more x cell }
 {
     let phase = x.phase;
     if more {
@@ -132,8 +132,8 @@ fn take_entry(
     k: u32,
     more: bool,
 ) -> Turn
-    requires { (length log.now ≡ 128) × (length values.old ≤ 1024) × (session < 16) × (Slot k more ≡ dueOn (length values.old) log.now x) }
-    ensures { TakesTurn (advanceOn log.now x l session k) values log x result }
+    requires { (length log.now ≡ 128) × (length values.old ≤ 1024) × (session < 16) × (Slot k more ≡ due_on (length values.old) log.now x) }
+    ensures { TakesTurn (advance_on log.now x l session k) values log x result }
 {
     let phase = x.phase;
     let cell = log::cell_at(log, k as usize);
@@ -163,8 +163,8 @@ pub fn take_advance(
     session: u8,
     due: Due,
 ) -> Turn
-    requires { (length log.now ≡ 128) × (length values.old ≤ 1024) × (session < 16) × (due ≡ dueOn (length values.old) log.now x) }
-    ensures { TakesTurn (duePlan session log.now x l due) values log x result }
+    requires { (length log.now ≡ 128) × (length values.old ≤ 1024) × (session < 16) × (due ≡ due_on (length values.old) log.now x) }
+    ensures { TakesTurn (due_plan session log.now x l due) values log x result }
 {
     match due {
         Due::Refused(number) => records::keeps(Answer::Refused(number), x),

@@ -1,18 +1,18 @@
 // Any call's turn, by the lock of the one cell that it may need, on its session's log and on the logs of all.
 ghost use Rattle.std.specs.Prelude.{◌≡◌, ◌<◌, ◌≤◌, length};
-ghost use Rattle.model.specs.Buffers.{logIn};
-ghost use Rattle.model.specs.Plans.{peekPlan};
-ghost use Rattle.model.specs.Step.{sessionOf};
+ghost use Rattle.model.specs.Buffers.{log_in};
+ghost use Rattle.model.specs.Plans.{peek_plan};
+ghost use Rattle.model.specs.Step.{session_of};
 ghost use Rattle.model.specs.Turns.{TakesTurn, TurnsLog};
 ghost use Rattle.turns.specs.InLogs.{TakesIn};
-ghost use Rattle.any_call.specs.AnyCall.{cellFor, planWith};
+ghost use Rattle.any_call.specs.AnyCall.{cell_for, plan_with};
 
 use records::{Answer, Call, Change, Lock, Plan, Session, Turn};
 
 // The cell whose lock a call may need, by its session's log and record; 0 where it needs none.
 pub fn cell_for(call: Call, log: &[u32], n: usize, x: Session) -> u32
     requires { (length log.now ≡ 128) × (n ≤ 1024) }
-    ensures { result ≡ cellFor call n log.now x }
+    ensures { result ≡ cell_for call n log.now x }
 {
     match call {
         Call::Begin(_) => 0,
@@ -32,7 +32,7 @@ pub fn cell_for(call: Call, log: &[u32], n: usize, x: Session) -> u32
 // A peek's turn: its number, and nothing changes.
 fn take_peek(log: &[u32], n: usize, x: Session, cell: u32) -> Turn
     requires { (length log.now ≡ 128) × (n ≤ 1024) }
-    ensures { TurnsLog (peekPlan n log.now x cell) log x result }
+    ensures { TurnsLog (peek_plan n log.now x cell) log x result }
 {
     let p = plans::peek_plan(log, n, x, cell);
     if let Plan::Refuse(number) = p {
@@ -58,8 +58,8 @@ fn take_call(
     x: Session,
     l: Lock,
 ) -> Turn
-    requires { (length log.old ≡ 128) × (length values.old ≤ 1024) × (length classes.now ≡ length values.old) × (sessionOf call < 16) }
-    ensures { TakesTurn (planWith call (length values.old) classes.now log.old x l) values log x result }
+    requires { (length log.old ≡ 128) × (length values.old ≤ 1024) × (length classes.now ≡ length values.old) × (session_of call < 16) }
+    ensures { TakesTurn (plan_with call (length values.old) classes.now log.old x l) values log x result }
 {
     let n = values.len();
     match call {
@@ -96,8 +96,8 @@ pub fn any(
     l: Lock,
     session: u8,
 ) -> Turn
-    requires { (session < 16) × (length logs.old ≡ 2048) × (length values.old ≤ 1024) × (length classes.now ≡ length values.old) × (session ≡ sessionOf call) }
-    ensures { TakesIn session (planWith call (length values.old) classes.now (logIn logs.old session) x l) values logs x result }
+    requires { (session < 16) × (length logs.old ≡ 2048) × (length values.old ≤ 1024) × (length classes.now ≡ length values.old) × (session ≡ session_of call) }
+    ensures { TakesIn session (plan_with call (length values.old) classes.now (log_in logs.old session) x l) values logs x result }
 {
     let a = 128 * (session as usize);
     let e = a + 128;

@@ -1,7 +1,7 @@
 // The reader and the writer for makers' firmware in C, which include/rukkanei.h declares: numbers and byte slices, and no enum.
 ghost use Rattle.std.specs.Prelude.{◌≡◌};
-ghost use Rattle.field.specs.Field.{call, readingAt, writeReply, writing};
-ghost use Rattle.field.specs.Exported.{lent, readReply, handing};
+ghost use Rattle.field.specs.Field.{call, reading_at, write_reply, writing};
+ghost use Rattle.field.specs.Exported.{lent, read_reply, handing};
 
 // Reads the field at `place`. With 100 the lent numbers are the call's, and `length` is the field's. With 106, 10, 11 and 12 they are as
 // before; the place of the refused field's first byte is `place`.
@@ -16,9 +16,9 @@ pub extern "C" fn rukkanei_field_read(
     value: &mut u32,
     length: &mut usize,
 ) -> u8
-    ensures { readReply result
+    ensures { read_reply result
         (lent tag.new session.new class.new cell.new value.new length.new)
-        ≡ handing (readingAt bytes.now place)
+        ≡ handing (reading_at bytes.now place)
         (lent tag.old session.old class.old cell.old value.old length.old) }
 {
     field_numbers::read(bytes, place, tag, session, class, cell, value, length)
@@ -36,7 +36,7 @@ pub extern "C" fn rukkanei_field_write(
     value: u32,
     length: &mut usize,
 ) -> u8
-    ensures { writeReply result length.new target.new
+    ensures { write_reply result length.new target.new
         ≡ writing target.old (call tag session class cell value) }
 {
     field_numbers::write(target, tag, session, class, cell, value, length)

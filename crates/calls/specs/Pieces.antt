@@ -4,7 +4,7 @@ use Rattle.model.specs.Slices.{Slice}
 use Rattle.model.specs.Turns.{TakesTurn}
 use Rattle.records.specs.declared.Turn.{Turn}
 use Rattle.model.specs.Buffers.{free}
-use Rattle.model.specs.Plans.{writePlan}
+use Rattle.model.specs.Plans.{write_plan}
 use Rattle.records.specs.declared.Session.{Session}
 use Rattle.records.specs.declared.Lock.{Lock}
 use Rattle.records.specs.declared.Plan.{Plan}
@@ -13,10 +13,10 @@ use Rattle.records.specs.declared.Plan.{Plan}
 pub record WriteDecided (n : ℕ) (log : List ℕ) (x : Session) (c v : ℕ) (p : Plan) : Type 0 where
   pub caps : List ℕ
   pub classes : List ℕ
-  pub is : p ≡ writePlan caps classes n log x free c v
+  pub is : p ≡ write_plan caps classes n log x free c v
 
 -- and its turn with the lock l is that of the write, by whatever table and classes p was decided
 abbrev pub TurnsWrite : Slice → Slice → Session → Lock → ℕ → ℕ → Plan → Turn → Type 0
 TurnsWrite values log x l c v p r =
-    (T ks : List ℕ) → p ≡ writePlan T ks (length values.entry.now) log.entry.now x free c v
-    → TakesTurn (writePlan T ks (length values.entry.now) log.entry.now x l c v) values log x r
+    (T ks : List ℕ) → p ≡ write_plan T ks (length values.entry.now) log.entry.now x free c v
+    → TakesTurn (write_plan T ks (length values.entry.now) log.entry.now x l c v) values log x r

@@ -2,7 +2,7 @@
 // of the locks is handed back.
 ghost use Rattle.std.specs.Prelude.{◌≡◌, ◌||◌, ◌≤◌, eqb, length};
 ghost use Rattle.model.specs.Buffers.{free};
-ghost use Rattle.model.specs.Plans.{guard, readPlan, holdPlan, sealPlan};
+ghost use Rattle.model.specs.Plans.{guard, read_plan, hold_plan, seal_plan};
 ghost use Rattle.model.specs.Turns.{TakesTurn, TurnsLog};
 ghost use Rattle.records.specs.declared.Plan.TheVariants.{Start, Cancel};
 ghost use Rattle.calls.specs.Pieces.{WriteDecided, TurnsWrite};
@@ -42,8 +42,8 @@ pub fn take_abandon(log: &[u32], n: usize, x: Session) -> Turn
 
 // Read: running only. 101 with a known cell's present value; a new cell is entered, or, where it is claimed, the session rolled back, 6.
 pub fn take_read(values: &[u32], log: &mut [u32], x: Session, l: Lock, cell: u32, p: Plan) -> Turn
-    requires { (length log.old ≡ 128) × (p ≡ readPlan (length values.now) log.old x free cell) }
-    ensures { TakesTurn (readPlan (length values.now) log.old x l cell) values log x result }
+    requires { (length log.old ≡ 128) × (p ≡ read_plan (length values.now) log.old x free cell) }
+    ensures { TakesTurn (read_plan (length values.now) log.old x l cell) values log x result }
 {
     if let Plan::Tell(value) = p {
         return records::keeps(Answer::Value(value), x);
@@ -62,8 +62,8 @@ pub fn take_read(values: &[u32], log: &mut [u32], x: Session, l: Lock, cell: u32
 
 // Hold: running only. As read, and with 101 the entry is held.
 pub fn take_hold(values: &[u32], log: &mut [u32], x: Session, l: Lock, cell: u32, p: Plan) -> Turn
-    requires { (length log.old ≡ 128) × (p ≡ holdPlan (length values.now) log.old x free cell) }
-    ensures { TakesTurn (holdPlan (length values.now) log.old x l cell) values log x result }
+    requires { (length log.old ≡ 128) × (p ≡ hold_plan (length values.now) log.old x free cell) }
+    ensures { TakesTurn (hold_plan (length values.now) log.old x l cell) values log x result }
 {
     if let Plan::Mark(k, value) = p {
         log::mark(log, k as usize);
@@ -115,7 +115,7 @@ pub fn take_write(
 // Seal: running only. The session leaves the readers of each cell entered that it does not publish. 105 where it publishes none, else 102.
 pub fn take_seal(log: &[u32], n: usize, x: Session) -> Turn
     requires { (length log.now ≡ 128) × (n ≤ 1024) }
-    ensures { TurnsLog (sealPlan n log.now x) log x result }
+    ensures { TurnsLog (seal_plan n log.now x) log x result }
 {
     let count = x.count as usize;
     if !refusals::runs(log, n, x) {

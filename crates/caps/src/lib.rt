@@ -1,7 +1,7 @@
 // Caps: ours, and a table of the caller's own, judged and put in the place of another.
 ghost use Rattle.std.specs.Prelude.{◌≡◌, ◌<◌, length};
-ghost use Rattle.model.specs.Buffers.{ourCaps, cap, passes, all_fit};
-ghost use Rattle.model.specs.Load.{allClassed};
+ghost use Rattle.model.specs.Buffers.{our_caps, cap, passes, all_fit};
+ghost use Rattle.model.specs.Load.{all_classed};
 
 const CAPS: [u32; 16] = [
     1, 6, 8, 10, 12, 15, 18, 21, 24, 27, 30, 36, 42, 48, 60, 4294967295,
@@ -10,7 +10,7 @@ const CAPS: [u32; 16] = [
 // The cap of a class, of ours.
 pub fn cap(class: u8) -> u32
     requires { class < 16 }
-    ensures { result ≡ cap ourCaps class }
+    ensures { result ≡ cap our_caps class }
 {
     CAPS[class as usize]
 }
@@ -18,7 +18,7 @@ pub fn cap(class: u8) -> u32
 // Each class byte at most 15, and each value within the cap of its class. The table is put on the stack once, before the loop.
 pub fn all_fit(values: &[u32], classes: &[u8]) -> bool
     requires { length classes.now ≡ length values.now }
-    ensures { result ≡ all_fit ourCaps values.now classes.now }
+    ensures { result ≡ all_fit our_caps values.now classes.now }
 {
     let caps = CAPS;
     let mut i = 0;
@@ -54,7 +54,7 @@ pub fn caps_pass(caps: &[u32]) -> bool
 
 // Each class byte at most 15.
 pub fn all_classed(classes: &[u8]) -> bool
-    ensures { result ≡ allClassed classes.now }
+    ensures { result ≡ all_classed classes.now }
 {
     let mut i = 0;
     while i < classes.len() {

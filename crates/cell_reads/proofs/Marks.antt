@@ -7,15 +7,15 @@ use mathlib.Core.List.{List}
 use borrow.Author.Tests.{lt-ltb, ltb-true}
 use lib.Dec.{ltb}
 use lib.ListN.{length, length-set}
-use Rattle.model.specs.Buffers.{cell_at, slotIn, appended}
+use Rattle.model.specs.Buffers.{cell_at, slot_in, appended}
 use Rattle.model.specs.Search.{below}
-use Rattle.model.proofs.Laws.{appended-cell, appended-apart}
+use Rattle.model.proofs.Laws.{appended_cell, appended_apart}
 use Rattle.model.proofs.Tools.{same, which, clash, both_l, both_r}
 use Rattle.log.specs.Slots.{found}
-use Rattle.log.proofs.Searches.{slot-nowhere}
-use Rattle.log.proofs.Targets.{slot-some}
+use Rattle.log.proofs.Searches.{slot_nowhere}
+use Rattle.log.proofs.Targets.{slot_some}
 use Rattle.sweeps.specs.Sweeps.{marked, mark}
-use Rattle.sweeps.proofs.Marks.{marked-same, marked_other}
+use Rattle.sweeps.proofs.Marks.{marked_same, marked_other}
 use Rattle.cell_reads.specs.Cells.{Covers}
 
 -- cells below n are below any larger number
@@ -29,31 +29,31 @@ below_less n m f (suc k) l b =
 
 -- a cell marked: it and all that were
 marked_more : (entered : List ℕ) (c d : ℕ) → length entered ≡ 16 → c < 1024 → marked entered d ≡ true → marked (mark entered c) d ≡ true
-marked_more entered c d w l h = same d c (λ e. rw e (marked-same entered c (omega arith))) (λ n. marked_other entered c d (omega arith) n ∙ h)
+marked_more entered c d w l h = same d c (λ e. rw e (marked_same entered c (omega arith))) (λ n. marked_other entered c d (omega arith) n ∙ h)
 
 -- before the first entry nothing need be marked
-pub covers-none : (entered log : List ℕ) → length entered ≡ 16 → Covers entered log 0
-covers-none entered log w = record { words = w; cells = λ j l. absurd (omega arith) }
+pub covers_none : (entered log : List ℕ) → length entered ≡ 16 → Covers entered log 0
+covers_none entered log w = record { words = w; cells = λ j l. absurd (omega arith) }
 
 -- the next entry's cell marked
-pub covers-next : (entered log : List ℕ) (k c : ℕ) → Covers entered log k → c ≡ cell_at log k → c < 1024 → (E : List ℕ) → E ≡ mark entered c → Covers E log (k + 1)
+pub covers_next : (entered log : List ℕ) (k c : ℕ) → Covers entered log k → c ≡ cell_at log k → c < 1024 → (E : List ℕ) → E ≡ mark entered c → Covers E log (k + 1)
 unfolding mark
-covers-next entered log k c v e l E m =
+covers_next entered log k c v e l E m =
     record {
       words = rw (m, length-set) v.words;
-      cells = λ j i. same j k (λ h. rw (m, h, ← e) (unfold mark in marked-same entered c (let w = v.words in omega arith)))
+      cells = λ j i. same j k (λ h. rw (m, h, ← e) (unfold mark in marked_same entered c (let w = v.words in omega arith)))
           (λ n. rw m (unfold mark in marked_more entered c (cell_at log j) v.words l (v.cells j (omega arith))));
     }
 
 -- a cell that is not marked has no entry
-pub unmarked : (entered log : List ℕ) (k c : ℕ) → Covers entered log k → marked entered c ≡ false → found k k ≡ slotIn log k c
+pub unmarked : (entered log : List ℕ) (k c : ℕ) → Covers entered log k → marked entered c ≡ false → found k k ≡ slot_in log k c
 unmarked entered log k c v h =
-    which (slotIn log k c) (λ p. slot-nowhere log k c p)
-    (λ j p. let w = slot-some log k c p in absurd (clash (marked entered c) (subst (λ (d : ℕ). marked entered d ≡ true) w.1 (v.cells j w.0)) h))
+    which (slot_in log k c) (λ p. slot_nowhere log k c p)
+    (λ j p. let w = slot_some log k c p in absurd (clash (marked entered c) (subst (λ (d : ℕ). marked entered d ≡ true) w.1 (v.cells j w.0)) h))
 
 -- a new entry's cell marked
-pub covers-entered : (entered log : List ℕ) (k c v : ℕ) → k < 32 → length log ≡ 128 → Covers entered log k → c < 1024 → (E W : List ℕ) → E ≡ mark entered c
+pub covers_entered : (entered log : List ℕ) (k c v : ℕ) → k < 32 → length log ≡ 128 → Covers entered log k → c < 1024 → (E W : List ℕ) → E ≡ mark entered c
     → W ≡ appended log k c v → Covers E W (k + 1)
-covers-entered entered log k c v l w m i E W e a =
-    covers-next entered W k c
-    (record { words = m.words; cells = λ j q. rw (a, appended-apart log k c v l w j q) (m.cells j q) }) (sym (ap (λ (u : List ℕ). cell_at u k) a ∙ appended-cell log k c v l w)) i E e
+covers_entered entered log k c v l w m i E W e a =
+    covers_next entered W k c
+    (record { words = m.words; cells = λ j q. rw (a, appended_apart log k c v l w j q) (m.cells j q) }) (sym (ap (λ (u : List ℕ). cell_at u k) a ∙ appended_cell log k c v l w)) i E e

@@ -8,51 +8,51 @@ use borrow.Author.Tests.{lt-ltb, le-ltb, eq-eqb, ne_eqb, ltb-true}
 use lib.Dec.{ltb, eqb}
 use lib.ListN.{length, get_or, set, drop, length-set, drop_of_length-le}
 use lib.Seq.{drop-cons}
-use Rattle.model.specs.Buffers.{entry_at, slotIn, appended}
-use Rattle.model.specs.Readers.{withReader}
+use Rattle.model.specs.Buffers.{entry_at, slot_in, appended}
+use Rattle.model.specs.Readers.{with_reader}
 use Rattle.model.proofs.Carried.{length-appended}
-use Rattle.model.proofs.Laws.{appended-below}
+use Rattle.model.proofs.Laws.{appended_below}
 use Rattle.model.proofs.Tools.{split, test, which}
 use Rattle.log.specs.Slots.{found}
 use Rattle.refusals.proofs.Ways.{found_here, found_nowhere}
-use Rattle.cell_reads.specs.Cells.{Fits, Covers, CellRead, cellRead, newRead, slotRead, readCell, CellsRead, cellsRead, readCells}
+use Rattle.cell_reads.specs.Cells.{Fits, Covers, CellRead, cell_read, new_read, slot_read, read_cell, CellsRead, cells_read, read_cells}
 use Rattle.cell_reads.specs.declared.CellReply.{CellReply}
 
 -- a refusal n, as the code replies it, with the marks as they were
-pub refused-is : (n k : ℕ) (R W E : List ℕ) (o : CellRead) → cellRead n 0 R W k ≡ o → Covers E W k → (r : CellReply) → r ≡ record { number = n; value = 0; entries = k }
-    → (cellRead r.number r.value R W r.entries ≡ o) × Covers E W r.entries
-refused-is n k R W E o e v r i = rw i (e, v)
+pub refused_is : (n k : ℕ) (R W E : List ℕ) (o : CellRead) → cell_read n 0 R W k ≡ o → Covers E W k → (r : CellReply) → r ≡ record { number = n; value = 0; entries = k }
+    → (cell_read r.number r.value R W r.entries ≡ o) × Covers E W r.entries
+refused_is n k R W E o e v r i = rw i (e, v)
 
 module _ (vs C : List ℕ) (s : ℕ) (R W : List ℕ) (k c : ℕ) where
-  pub cell-outside : length vs ≤ c → cellRead 3 0 R W k ≡ readCell vs C s R W k c
-  unfolding readCell
-  cell-outside h = rw (le-ltb c (length vs) h) refl
+  pub cell_outside : length vs ≤ c → cell_read 3 0 R W k ≡ read_cell vs C s R W k c
+  unfolding read_cell
+  cell_outside h = rw (le-ltb c (length vs) h) refl
 
   -- j is the place that the search for the cell answered
-  module _ (h : c < length vs) (j : ℕ) (e : found k j ≡ slotIn W k c) where
-    pub cell-known : j < k → (v : ℕ) → v ≡ (entry_at W j).current → cellRead 101 v R W k ≡ readCell vs C s R W k c
-    unfolding readCell slotRead
-    cell-known l v q = rw (lt-ltb c (length vs) h, found_here k j _ e l, q) refl
+  module _ (h : c < length vs) (j : ℕ) (e : found k j ≡ slot_in W k c) where
+    pub cell_known : j < k → (v : ℕ) → v ≡ (entry_at W j).current → cell_read 101 v R W k ≡ read_cell vs C s R W k c
+    unfolding read_cell slot_read
+    cell_known l v q = rw (lt-ltb c (length vs) h, found_here k j _ e l, q) refl
 
     module _ (n : k ≤ j) where
-      pub cell_full : 31 < k → cellRead 5 0 R W k ≡ readCell vs C s R W k c
-      unfolding readCell slotRead newRead
+      pub cell_full : 31 < k → cell_read 5 0 R W k ≡ read_cell vs C s R W k c
+      unfolding read_cell slot_read new_read
       cell_full l = rw (lt-ltb c (length vs) h, found_nowhere k j _ e n, le-ltb k 32 (omega arith)) refl
 
       module _ (l : k ≤ 31) where
-        pub cell-claimed : (get_or C c 0 ≡ 16 → ⊥) → cellRead 6 0 R W k ≡ readCell vs C s R W k c
-        unfolding readCell slotRead newRead
-        cell-claimed m = rw (lt-ltb c (length vs) h, found_nowhere k j _ e n, lt-ltb k 32 (omega arith), ne_eqb (get_or C c 0) 16 m) refl
+        pub cell_claimed : (get_or C c 0 ≡ 16 → ⊥) → cell_read 6 0 R W k ≡ read_cell vs C s R W k c
+        unfolding read_cell slot_read new_read
+        cell_claimed m = rw (lt-ltb c (length vs) h, found_nowhere k j _ e n, lt-ltb k 32 (omega arith), ne_eqb (get_or C c 0) 16 m) refl
 
-        pub cell-entered : get_or C c 0 ≡ 16 → (v : ℕ) (R' W' : List ℕ) → v ≡ get_or vs c 0 → R' ≡ set R c (withReader s (get_or R c 0)) → W' ≡ appended W k c (get_or vs c 0)
-            → cellRead 101 v R' W' (k + 1) ≡ readCell vs C s R W k c
-        unfolding readCell slotRead newRead
-        cell-entered m v R' W' q r w = rw (lt-ltb c (length vs) h, found_nowhere k j _ e n, lt-ltb k 32 (omega arith), eq-eqb (get_or C c 0) 16 m, q, r, w, add-one) refl
+        pub cell_entered : get_or C c 0 ≡ 16 → (v : ℕ) (R' W' : List ℕ) → v ≡ get_or vs c 0 → R' ≡ set R c (with_reader s (get_or R c 0)) → W' ≡ appended W k c (get_or vs c 0)
+            → cell_read 101 v R' W' (k + 1) ≡ read_cell vs C s R W k c
+        unfolding read_cell slot_read new_read
+        cell_entered m v R' W' q r w = rw (lt-ltb c (length vs) h, found_nowhere k j _ e n, lt-ltb k 32 (omega arith), eq-eqb (get_or C c 0) 16 m, q, r, w, add-one) refl
 
 -- ---- what is known of a running session past its tests is known after a read
 
 module _ (vs C : List ℕ) (s : ℕ) (R W : List ℕ) (k : ℕ) (f : Fits s (length vs) (length R) (length C) W k) (c : ℕ) where
-  grown : c < length vs → k < 32 → Fits s (length vs) (length (set R c (withReader s (get_or R c 0)))) (length C) (appended W k c (get_or vs c 0)) (suc k)
+  grown : c < length vs → k < 32 → Fits s (length vs) (length (set R c (with_reader s (get_or R c 0)))) (length C) (appended W k c (get_or vs c 0)) (suc k)
   grown l a =
       let v = get_or vs c 0 in
       record {
@@ -62,15 +62,15 @@ module _ (vs C : List ℕ) (s : ℕ) (R W : List ℕ) (k : ℕ) (f : Fits s (len
         claimants = f.claimants;
         words = length-appended W k c v ∙ f.words;
         count = omega arith;
-        cells = appended-below W k c v a f.words (length vs) l f.cells;
+        cells = appended_below W k c v a f.words (length vs) l f.cells;
       }
 
-  pub fits-still : let o = readCell vs C s R W k c in Fits s (length vs) (length o.readers) (length C) o.log o.entries
-  unfolding readCell slotRead newRead
-  fits-still =
+  pub fits_still : let o = read_cell vs C s R W k c in Fits s (length vs) (length o.readers) (length C) o.log o.entries
+  unfolding read_cell slot_read new_read
+  fits_still =
       test (ltb c (length vs))
       (λ i.
-      which (slotIn W k c)
+      which (slot_in W k c)
       (λ p.
       test (ltb k 32)
       (λ a. test (eqb (get_or C c 0) 16) (λ b. rw (i, p, a, b) (grown (ltb-true c (length vs) i) (ltb-true k 32 a))) (λ b. rw (i, p, a, b) f)) (λ a. rw (i, p, a) f))
@@ -78,41 +78,41 @@ module _ (vs C : List ℕ) (s : ℕ) (R W : List ℕ) (k : ℕ) (f : Fits s (len
       (λ i. rw i f)
 
   -- as the code has it
-  pub fits_after : (n v : ℕ) (R' W' : List ℕ) (k' : ℕ) → cellRead n v R' W' k' ≡ readCell vs C s R W k c → Fits s (length vs) (length R') (length C) W' k'
-  fits_after n v R' W' k' e = subst (λ (o : CellRead). Fits s (length vs) (length o.readers) (length C) o.log o.entries) (sym e) fits-still
+  pub fits_after : (n v : ℕ) (R' W' : List ℕ) (k' : ℕ) → cell_read n v R' W' k' ≡ read_cell vs C s R W k c → Fits s (length vs) (length R') (length C) W' k'
+  fits_after n v R' W' k' e = subst (λ (o : CellRead). Fits s (length vs) (length o.readers) (length C) o.log o.entries) (sym e) fits_still
 
 -- ---- the reads so far: of cells cs those from place i on are left, and the next came to n, v, R', W' and k'
 
 module _ (vs C : List ℕ) (s : ℕ) (cs T R W : List ℕ) (k i : ℕ) where
   -- none is left
-  pub reads_end : i ≡ length cs → cellsRead 101 (length cs) T R W k ≡ readCells vs C s i (drop i cs) T R W k
-  unfolding readCells
+  pub reads_end : i ≡ length cs → cells_read 101 (length cs) T R W k ≡ read_cells vs C s i (drop i cs) T R W k
+  unfolding read_cells
   reads_end e = rw (drop_of_length-le cs {i = i} (omega arith), e) refl
 
-  module _ (l : i < length cs) (n v : ℕ) (R' W' : List ℕ) (k' : ℕ) (e : cellRead n v R' W' k' ≡ readCell vs C s R W k (get_or cs i 0)) where
-    pub reads-stop : (n ≡ 101 → ⊥) → cellsRead n i T R' W' k' ≡ readCells vs C s i (drop i cs) T R W k
-    unfolding readCells
-    reads-stop h = rw (drop-cons cs i 0 l, ← e, ne_eqb n 101 h) refl
+  module _ (l : i < length cs) (n v : ℕ) (R' W' : List ℕ) (k' : ℕ) (e : cell_read n v R' W' k' ≡ read_cell vs C s R W k (get_or cs i 0)) where
+    pub reads_stop : (n ≡ 101 → ⊥) → cells_read n i T R' W' k' ≡ read_cells vs C s i (drop i cs) T R W k
+    unfolding read_cells
+    reads_stop h = rw (drop-cons cs i 0 l, ← e, ne_eqb n 101 h) refl
 
-    pub reads-go-on : n ≡ 101 → readCells vs C s i (drop i cs) T R W k ≡ readCells vs C s (i + 1) (drop (i + 1) cs) (set T i v) R' W' k'
-    unfolding readCells
-    reads-go-on h = rw (drop-cons cs i 0 l, ← e, eq-eqb n 101 h, add-one) refl
+    pub reads_go_on : n ≡ 101 → read_cells vs C s i (drop i cs) T R W k ≡ read_cells vs C s (i + 1) (drop (i + 1) cs) (set T i v) R' W' k'
+    unfolding read_cells
+    reads_go_on h = rw (drop-cons cs i 0 l, ← e, eq-eqb n 101 h, add-one) refl
 
 -- ---- what is known of the session is known after the reads; no more values are obtained than there are cells
 
 pub reads_fit : (vs C : List ℕ) (s i : ℕ) (cs T R W : List ℕ) (k : ℕ) → Fits s (length vs) (length R) (length C) W k
-    → let o = readCells vs C s i cs T R W k in Fits s (length vs) (length o.readers) (length C) o.log o.entries
-unfolding readCells
+    → let o = read_cells vs C s i cs T R W k in Fits s (length vs) (length o.readers) (length C) o.log o.entries
+unfolding read_cells
 reads_fit vs C s i [] T R W k f = f
 reads_fit vs C s i (c ∷ cs) T R W k f =
-    let o = readCell vs C s R W k c in
+    let o = read_cell vs C s R W k c in
     split (λ (q : CellsRead). Fits s (length vs) (length q.readers) (length C) q.log q.entries) (eqb o.number 101)
-    (λ _. reads_fit vs C s (suc i) cs (set T i o.value) o.readers o.log o.entries (fits-still vs C s R W k f c)) (λ _. fits-still vs C s R W k f c)
+    (λ _. reads_fit vs C s (suc i) cs (set T i o.value) o.readers o.log o.entries (fits_still vs C s R W k f c)) (λ _. fits_still vs C s R W k f c)
 
-pub reads-few : (vs C : List ℕ) (s i : ℕ) (cs T R W : List ℕ) (k : ℕ) → (readCells vs C s i cs T R W k).count ≤ i + length cs
-unfolding readCells
-reads-few vs C s i [] T R W k = omega arith
-reads-few vs C s i (c ∷ cs) T R W k =
-    let o = readCell vs C s R W k c in
+pub reads_few : (vs C : List ℕ) (s i : ℕ) (cs T R W : List ℕ) (k : ℕ) → (read_cells vs C s i cs T R W k).count ≤ i + length cs
+unfolding read_cells
+reads_few vs C s i [] T R W k = omega arith
+reads_few vs C s i (c ∷ cs) T R W k =
+    let o = read_cell vs C s R W k c in
     split (λ (q : CellsRead). q.count ≤ i + suc (length cs)) (eqb o.number 101)
-    (λ _. let l = reads-few vs C s (suc i) cs (set T i o.value) o.readers o.log o.entries in omega arith) (λ _. omega arith)
+    (λ _. let l = reads_few vs C s (suc i) cs (set T i o.value) o.readers o.log o.entries in omega arith) (λ _. omega arith)

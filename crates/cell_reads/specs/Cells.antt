@@ -3,8 +3,8 @@
 use Rattle.std.specs.Prelude.{◌≡◌, ℕ, suc, ◌<◌, ◌≤◌, true, cond, List, [], ◌∷◌, ltb, eqb, length, get_or, set}
 use Rattle.std.proofs.Math.Option.{Option, none, some}
 use Rattle.model.specs.Search.{below}
-use Rattle.model.specs.Readers.{withReader}
-use Rattle.model.specs.Buffers.{cell_at, entry_at, slotIn, appended}
+use Rattle.model.specs.Readers.{with_reader}
+use Rattle.model.specs.Buffers.{cell_at, entry_at, slot_in, appended}
 use Rattle.model.specs.Plans.{require}
 use Rattle.model.specs.Slices.{Slice}
 use Rattle.sweeps.specs.Sweeps.{marked}
@@ -36,24 +36,24 @@ pub record CellRead : Type 0 where
   pub log : List ℕ
   pub entries : ℕ
 
-abbrev pub cellRead : ℕ → ℕ → List ℕ → List ℕ → ℕ → CellRead
-cellRead n v R W k = record { number = n; value = v; readers = R; log = W; entries = k }
+abbrev pub cell_read : ℕ → ℕ → List ℕ → List ℕ → ℕ → CellRead
+cell_read n v R W k = record { number = n; value = v; readers = R; log = W; entries = k }
 
 -- a new cell: with 32 entries 5, claimed 6; otherwise the session joins its readers, and an entry is appended
-unfoldable pub newRead : List ℕ → List ℕ → ℕ → List ℕ → List ℕ → ℕ → ℕ → CellRead
-newRead vs C s R W k c =
-    require (ltb k 32) (cellRead 5 0 R W k)
-    (require (eqb (get_or C c 0) 16) (cellRead 6 0 R W k)
-    (cellRead 101 (get_or vs c 0) (set R c (withReader s (get_or R c 0))) (appended W k c (get_or vs c 0)) (suc k)))
+unfoldable pub new_read : List ℕ → List ℕ → ℕ → List ℕ → List ℕ → ℕ → ℕ → CellRead
+new_read vs C s R W k c =
+    require (ltb k 32) (cell_read 5 0 R W k)
+    (require (eqb (get_or C c 0) 16) (cell_read 6 0 R W k)
+    (cell_read 101 (get_or vs c 0) (set R c (with_reader s (get_or R c 0))) (appended W k c (get_or vs c 0)) (suc k)))
 
 -- a cell in the log gives its present value
-unfoldable pub slotRead : List ℕ → List ℕ → ℕ → List ℕ → List ℕ → ℕ → ℕ → Option ℕ → CellRead
-slotRead vs C s R W k c none = newRead vs C s R W k c
-slotRead vs C s R W k c (some j) = cellRead 101 (entry_at W j).current R W k
+unfoldable pub slot_read : List ℕ → List ℕ → ℕ → List ℕ → List ℕ → ℕ → ℕ → Option ℕ → CellRead
+slot_read vs C s R W k c none = new_read vs C s R W k c
+slot_read vs C s R W k c (some j) = cell_read 101 (entry_at W j).current R W k
 
 -- session s reads cell c: of the values vs, the claimants C, the reader sets R, and its log W with k entries
-unfoldable pub readCell : List ℕ → List ℕ → ℕ → List ℕ → List ℕ → ℕ → ℕ → CellRead
-readCell vs C s R W k c = require (ltb c (length vs)) (cellRead 3 0 R W k) (slotRead vs C s R W k c (slotIn W k c))
+unfoldable pub read_cell : List ℕ → List ℕ → ℕ → List ℕ → List ℕ → ℕ → ℕ → CellRead
+read_cell vs C s R W k c = require (ltb c (length vs)) (cell_read 3 0 R W k) (slot_read vs C s R W k c (slot_in W k c))
 
 -- ---- the reads
 
@@ -66,32 +66,32 @@ pub record CellsRead : Type 0 where
   pub log : List ℕ
   pub entries : ℕ
 
-abbrev pub cellsRead : ℕ → ℕ → List ℕ → List ℕ → List ℕ → ℕ → CellsRead
-cellsRead n i T R W k = record { number = n; count = i; target = T; readers = R; log = W; entries = k }
+abbrev pub cells_read : ℕ → ℕ → List ℕ → List ℕ → List ℕ → ℕ → CellsRead
+cells_read n i T R W k = record { number = n; count = i; target = T; readers = R; log = W; entries = k }
 
 -- reads of cells in order, with i values obtained before them: the next value goes to place i of the target T
-unfoldable pub readCells : List ℕ → List ℕ → ℕ → ℕ → List ℕ → List ℕ → List ℕ → List ℕ → ℕ → CellsRead
-readCells vs C s i [] T R W k = cellsRead 101 i T R W k
-readCells vs C s i (c ∷ cs) T R W k =
-    let o = readCell vs C s R W k c in
-    cond (eqb o.number 101) (readCells vs C s (suc i) cs (set T i o.value) o.readers o.log o.entries)
-    (cellsRead o.number i T o.readers o.log o.entries)
+unfoldable pub read_cells : List ℕ → List ℕ → ℕ → ℕ → List ℕ → List ℕ → List ℕ → List ℕ → ℕ → CellsRead
+read_cells vs C s i [] T R W k = cells_read 101 i T R W k
+read_cells vs C s i (c ∷ cs) T R W k =
+    let o = read_cell vs C s R W k c in
+    cond (eqb o.number 101) (read_cells vs C s (suc i) cs (set T i o.value) o.readers o.log o.entries)
+    (cells_read o.number i T o.readers o.log o.entries)
 
 -- ---- what the functions leave
 
 abbrev pub Enters : Slice → Slice → Slice → ℕ → ℕ → ℕ → ℕ → Type 0
 Enters values readers log k s c r =
     (r ≡ get_or values.entry.now c 0)
-    × (readers.exit.now ≡ set readers.entry.now c (withReader s (get_or readers.entry.now c 0)))
+    × (readers.exit.now ≡ set readers.entry.now c (with_reader s (get_or readers.entry.now c 0)))
     × (log.exit.now ≡ appended log.entry.now k c (get_or values.entry.now c 0))
 
 abbrev pub ReadsCell : Slice → Slice → Slice → Slice → Slice → ℕ → ℕ → ℕ → CellReply → Type 0
 ReadsCell values readers claimants log entered k s c r =
-    (cellRead r.number r.value readers.exit.now log.exit.now r.entries
-    ≡ readCell values.entry.now claimants.entry.now s readers.entry.now log.entry.now k c)
+    (cell_read r.number r.value readers.exit.now log.exit.now r.entries
+    ≡ read_cell values.entry.now claimants.entry.now s readers.entry.now log.entry.now k c)
     × Covers entered.exit.now log.exit.now r.entries
 
 abbrev pub ReadsCells : Slice → Slice → Slice → Slice → ℕ → ℕ → Slice → Slice → CellsReply → Type 0
 ReadsCells values readers claimants log k s cells target r =
-    cellsRead r.number r.count target.exit.now readers.exit.now log.exit.now r.entries
-    ≡ readCells values.entry.now claimants.entry.now s 0 cells.entry.now target.entry.now readers.entry.now log.entry.now k
+    cells_read r.number r.count target.exit.now readers.exit.now log.exit.now r.entries
+    ≡ read_cells values.entry.now claimants.entry.now s 0 cells.entry.now target.entry.now readers.entry.now log.entry.now k

@@ -1,8 +1,8 @@
 // Reads of cells on one session's log, past the tests of 7, 1, 9 and 2, and the test of a list and its target (document 02, Paper 1).
 ghost use Rattle.std.specs.Prelude.{◌≡◌, true, ◌*◌, ◌<◌, ◌≤◌, length};
 ghost use Rattle.model.specs.Search.{below};
-ghost use Rattle.model.specs.Buffers.{cell_at, slotIn};
-ghost use Rattle.model.specs.ManyReads.{listRefusal};
+ghost use Rattle.model.specs.Buffers.{cell_at, slot_in};
+ghost use Rattle.model.specs.ManyReads.{list_refusal};
 ghost use Rattle.log.specs.Slots.{found};
 ghost use Rattle.cell_reads.specs.Cells.{Covers, Enters, ReadsCell, ReadsCells, Fits};
 
@@ -10,7 +10,7 @@ ghost use Rattle.cell_reads.specs.Cells.{Covers, Enters, ReadsCell, ReadsCells, 
 
 // 15 where the list has no cell or more than 32, 13 where the target is shorter than the list, or 0.
 pub fn list_refusal(cells: usize, target: usize) -> u32
-    ensures { result ≡ listRefusal cells target }
+    ensures { result ≡ list_refusal cells target }
 {
     if (cells == 0) | (32 < cells) {
         return 15;
@@ -39,7 +39,7 @@ fn mark_entries(log: &[u32], count: usize, entered: &mut [u64; 16])
 // The place of a cell's first entry, or count where there is none. A cell that is not marked has none, and is not searched for.
 fn slot_of(log: &[u32], count: usize, entered: &[u64; 16], cell: u32) -> usize
     requires { (4 * count ≤ length log.now) × (cell < 1024) × Covers entered.now log.now count }
-    ensures { found count result ≡ slotIn log.now count cell }
+    ensures { found count result ≡ slot_in log.now count cell }
 {
     if !sweeps::is_marked(entered, cell) {
         return count;

@@ -6,14 +6,14 @@ use Rattle.field.specs.declared.Layout.{Layout}
 use Rattle.field.specs.Table.{Proper}
 
 module _ (l : Layout) (p : Proper l) (at n : ℕ) (room : at + l.length ≤ n) where
-  pub session-end : at + l.session ≤ n
-  session-end = omega (arith, p.length)
+  pub session_end : at + l.session ≤ n
+  session_end = omega (arith, p.length)
 
-  pub class-end : at + l.session + l.class ≤ n
-  class-end = omega (arith, p.length)
+  pub class_end : at + l.session + l.class ≤ n
+  class_end = omega (arith, p.length)
 
-  pub cell-end : at + l.session + l.class + l.cell ≤ n
-  cell-end = omega (arith, p.length)
+  pub cell_end : at + l.session + l.class + l.cell ≤ n
+  cell_end = omega (arith, p.length)
 
-  pub value-end : at + l.session + l.class + l.cell + l.value ≤ n
-  value-end = omega (arith, p.length)
+  pub value_end : at + l.session + l.class + l.cell + l.value ≤ n
+  value_end = omega (arith, p.length)

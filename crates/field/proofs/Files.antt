@@ -1,4 +1,4 @@
--- A file of fields has exactly one reading, and written again it is the file: by induction on the reading, with `written-again` at each field.
+-- A file of fields has exactly one reading, and written again it is the file: by induction on the reading, with `written_again` at each field.
 -- Assumes nothing.
 use Prim.Native.Nat.{ℕ, ◌+◌, ◌-◌, ◌≤◌}
 use native.Mathlib.Omega.{arith}
@@ -15,51 +15,51 @@ use Rattle.field.specs.declared.TagLayout.{TagLayout}
 use Rattle.field.specs.declared.TagLayout.TheVariants.{Known, Unknown}
 use Rattle.field.specs.declared.Reading.TheVariants.{Field, End, Refused}
 use Rattle.field.specs.LittleEndian.{number_at}
-use Rattle.field.specs.Answer.{cutShort, wrongLength}
+use Rattle.field.specs.Answer.{cut_short, wrong_length}
 use Rattle.field.specs.Table.{layout_of}
-use Rattle.field.specs.Field.{call_at, reading_of, readingAt}
+use Rattle.field.specs.Field.{call_at, reading_of, reading_at}
 use Rattle.field.specs.RoundTrip.{Bytes, Reads, ends, goes, writes}
-use Rattle.field.proofs.RoundTrip.{found, written-again}
+use Rattle.field.proofs.RoundTrip.{found, written_again}
 
 -- Two readings from one place are the same.
-pub one-reading : {file : List ℕ} {place : ℕ} {cs ds : List Call} → Reads file place cs → Reads file place ds → cs ≡ ds
-one-reading (ends e) (ends f) = refl
-one-reading (ends e) (goes f r) = absurd (let z : ◌≡◌ {A = ℕ} 0 1 = cc in omega arith)
-one-reading (goes e r) (ends f) = absurd (let z : ◌≡◌ {A = ℕ} 0 1 = cc in omega arith)
-one-reading {file} {place} (goes {n = n} {c = c} {cs = cs} e r) (goes {n = m} {c = d} {cs = ds} f q) =
+pub one_reading : {file : List ℕ} {place : ℕ} {cs ds : List Call} → Reads file place cs → Reads file place ds → cs ≡ ds
+one_reading (ends e) (ends f) = refl
+one_reading (ends e) (goes f r) = absurd (let z : ◌≡◌ {A = ℕ} 0 1 = cc in omega arith)
+one_reading (goes e r) (ends f) = absurd (let z : ◌≡◌ {A = ℕ} 0 1 = cc in omega arith)
+one_reading {file} {place} (goes {n = n} {c = c} {cs = cs} e r) (goes {n = m} {c = d} {cs = ds} f q) =
     let long : n ≡ m = cc in
     let here : c ≡ d = cc in
-    let rest : cs ≡ ds = one-reading r (subst (λ (i : ℕ). Reads file (place + i) ds) (sym long) q) in
+    let rest : cs ≡ ds = one_reading r (subst (λ (i : ℕ). Reads file (place + i) ds) (sym long) q) in
     cc
 
 -- The reader says the end only where no byte is left.
-refused-or-field : (b d : Bool) (k : Kind) (c : Call) (n p x y : ℕ) → cond b (Refused x p) (cond d (Refused y p) (Field k c n)) ≡ End → ⊥
-refused-or-field true d k c n p x y e = let z : ◌≡◌ {A = ℕ} 0 1 = cc in omega arith
-refused-or-field false true k c n p x y e = let z : ◌≡◌ {A = ℕ} 0 1 = cc in omega arith
-refused-or-field false false k c n p x y e = let z : ◌≡◌ {A = ℕ} 0 1 = cc in omega arith
+refused_or_field : (b d : Bool) (k : Kind) (c : Call) (n p x y : ℕ) → cond b (Refused x p) (cond d (Refused y p) (Field k c n)) ≡ End → ⊥
+refused_or_field true d k c n p x y e = let z : ◌≡◌ {A = ℕ} 0 1 = cc in omega arith
+refused_or_field false true k c n p x y e = let z : ◌≡◌ {A = ℕ} 0 1 = cc in omega arith
+refused_or_field false false k c n p x y e = let z : ◌≡◌ {A = ℕ} 0 1 = cc in omega arith
 
 no_end : (t : TagLayout) (bytes : List ℕ) (place : ℕ) → reading_of t bytes place ≡ End → ⊥
 unfolding reading_of
 no_end Unknown bytes place e = let z : ◌≡◌ {A = ℕ} 0 1 = cc in omega arith
 no_end (Known l) bytes place e =
-    refused-or-field
+    refused_or_field
     (not (eqb (number_at bytes (place + 1) 2) l.length))
     (ltb (length bytes - place) (3 + l.length))
     l.kind
     (call_at bytes (place + 3) (get_or bytes place 0) l)
     (3 + l.length)
     place
-    wrongLength
-    cutShort
+    wrong_length
+    cut_short
     e
 
-end_test : (b d : Bool) (t : TagLayout) (bytes : List ℕ) (place : ℕ) → cond b End (cond d (Refused cutShort place) (reading_of t bytes place)) ≡ End → b ≡ true
+end_test : (b d : Bool) (t : TagLayout) (bytes : List ℕ) (place : ℕ) → cond b End (cond d (Refused cut_short place) (reading_of t bytes place)) ≡ End → b ≡ true
 end_test true d t bytes place e = refl
 end_test false true t bytes place e = absurd (let z : ◌≡◌ {A = ℕ} 0 1 = cc in omega arith)
 end_test false false t bytes place e = absurd (no_end t bytes place e)
 
-pub ended : (bytes : List ℕ) (place : ℕ) → readingAt bytes place ≡ End → length bytes ≤ place
-unfolding readingAt
+pub ended : (bytes : List ℕ) (place : ℕ) → reading_at bytes place ≡ End → length bytes ≤ place
+unfolding reading_at
 ended bytes place e =
     leb-true (length bytes) place (end_test (leb (length bytes) place) (ltb (length bytes - place) 3) (layout_of (get_or bytes place 0)) bytes place e)
 
@@ -79,7 +79,7 @@ rest_back {file} {place} ok (goes {n = n} {k = k} {c = c} {cs = cs} e r) target 
     let rest : List ℕ = drop place file in
     let n-in : n ≤ length rest = simp length-drop (omega (arith, f.inside, f.long)) in
     let n_room : n ≤ length target = omega (arith, f.inside, f.long) in
-    let again = written-again file place k c n ok e target n_room in
+    let again = written_again file place k c n ok e target n_room in
     let n-long : length (take n rest) ≡ n = length-take-le n rest n-in in
     let here : take n (take n rest ++ drop n target) ≡ take n rest = take_at (take n rest) (drop n target) n n-long in
     let left : drop n (take n rest ++ drop n target) ≡ drop n target = drop_at (take n rest) (drop n target) n n-long in
@@ -87,5 +87,5 @@ rest_back {file} {place} ok (goes {n = n} {k = k} {c = c} {cs = cs} e r) target 
     rw (again, here, left, later) (ap (λ (x : List ℕ). take n rest ++ x) (sym (drop-drop n place file)) ∙ take-append-drop n rest)
 
 -- An accepted file, read field by field to its end and written again by the writer into any target of its length, is the file again.
-pub file-back : (file : List ℕ) (cs : List Call) → Bytes file → Reads file 0 cs → (target : List ℕ) → length target ≡ length file → writes cs target ≡ file
-file-back file cs ok r target room = rest_back ok r target (omega arith)
+pub file_back : (file : List ℕ) (cs : List Call) → Bytes file → Reads file 0 cs → (target : List ℕ) → length target ≡ length file → writes cs target ≡ file
+file_back file cs ok r target room = rest_back ok r target (omega arith)

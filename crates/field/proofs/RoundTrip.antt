@@ -1,5 +1,5 @@
--- Reader and writer are inverse to each other: what was written reads back (`reads-back`), and what was read is written again byte for byte
--- (`written-again`).
+-- Reader and writer are inverse to each other: what was written reads back (`reads_back`), and what was read is written again byte for byte
+-- (`written_again`).
 -- Assumes nothing.
 use Prim.Native.Nat.{ℕ, zero, suc, ◌+◌, ◌-◌, ◌≤◌, ◌<◌}
 use native.Mathlib.Omega.{arith}
@@ -19,23 +19,23 @@ use Rattle.field.specs.declared.Reading.TheVariants.{Field, End, Refused}
 use Rattle.field.specs.LittleEndian.{number, number_at, bytes_of}
 use Rattle.little_endian.specs.LittleEndian.{Whole}
 use Rattle.field.specs.Table.{Proper, layout_of}
-use Rattle.field.specs.Answer.{done, cutShort, unknownTag, wrongLength, shortTarget}
-use Rattle.field.specs.Field.{call_at, reading_of, readingAt, body_of, field_of, WriteReply, writeReply, writing}
+use Rattle.field.specs.Answer.{done, cut_short, unknown_tag, wrong_length, short_target}
+use Rattle.field.specs.Field.{call_at, reading_of, reading_at, body_of, field_of, WriteReply, write_reply, writing}
 use Rattle.field.specs.RoundTrip.{Bytes, Fitting, kept, carried}
 use Rattle.field.proofs.Rows.{proper}
 use Rattle.field.proofs.Readings.{accepted}
-use Rattle.field.proofs.Writings.{length-bytesOf, small, length-field, short, written}
+use Rattle.field.proofs.Writings.{length-bytes_of, small, length-field, short, written}
 use Rattle.little_endian.proofs.Numbers.{all_of}
 use Rattle.field.proofs.Inverse.{limit, back, there, runs}
 
 -- ---- what was written reads back
 
 -- A number that was put after `pre` is read there, and as 0 where it takes no bytes.
-carried-at : (all : ℕ) (bytes pre post : List ℕ) (i w x : ℕ) → Whole all w → x < limit all → bytes ≡ pre ++ (bytes_of w x ++ post) → length pre ≡ i
+carried_at : (all : ℕ) (bytes pre post : List ℕ) (i w x : ℕ) → Whole all w → x < limit all → bytes ≡ pre ++ (bytes_of w x ++ post) → length pre ≡ i
     → number_at bytes i w ≡ kept w x
 unfolding number_at number
-carried-at all bytes pre post i zero x whole h e n = refl
-carried-at all bytes pre post i (suc w) x whole h e n =
+carried_at all bytes pre post i zero x whole h e n = refl
+carried_at all bytes pre post i (suc w) x whole h e n =
     let same : suc w ≡ all = all_of all (suc w) whole (λ z. omega arith) in
     there bytes pre post i (suc w) x e n (subst (λ (k : ℕ). x < limit k) (sym same) h) ∙ simp (ne_eqb (suc w) 0 (λ z. omega arith))
 
@@ -51,10 +51,10 @@ shape c l after =
     ap (λ (r : List ℕ). c.tag ∷ r) (append_assoc (bytes_of 2 l.length) (body_of l c) after ∙ ap (λ (r : List ℕ). bytes_of 2 l.length ++ r) (simp append_assoc))
 
 -- A field that stands anywhere among bytes is read there, with the numbers that the tag does not carry as 0.
-pub read-anywhere : (c : Call) (l : Layout) (before after : List ℕ) → Fitting c → layout_of c.tag ≡ Known l
-    → readingAt (before ++ (field_of l c ++ after)) (length before) ≡ Field l.kind (carried l c) (3 + l.length)
+pub read_anywhere : (c : Call) (l : Layout) (before after : List ℕ) → Fitting c → layout_of c.tag ≡ Known l
+    → reading_at (before ++ (field_of l c ++ after)) (length before) ≡ Field l.kind (carried l c) (3 + l.length)
 unfolding call_at carried
-read-anywhere c l before after fits known =
+read_anywhere c l before after fits known =
     let p : Proper l = proper c.tag l known in
     let file : List ℕ = before ++ (field_of l c ++ after) in
     let at : ℕ = length before in
@@ -79,16 +79,16 @@ read-anywhere c l before after fits known =
     let at-e : file ≡ to-e ++ from-e = at-k ∙ sym (append_assoc to-k k from-e) in
     let at-v : file ≡ to-v ++ from-v = at-e ∙ sym (append_assoc to-e e from-v) in
     let n-long : length to-n ≡ at + 1 = length-append before (c.tag ∷ []) in
-    let s-long : length to-s ≡ at + 3 = length-append before (c.tag ∷ n) ∙ ap (λ (j : ℕ). at + suc j) (length-bytesOf 2 l.length) in
-    let k-long : length to-k ≡ at + 3 + l.session = omega (arith, s-long, length-append to-s s, length-bytesOf l.session c.session) in
-    let e-long : length to-e ≡ at + 3 + l.session + l.class = omega (arith, k-long, length-append to-k k, length-bytesOf l.class c.class) in
-    let v-long : length to-v ≡ at + 3 + l.session + l.class + l.cell = omega (arith, e-long, length-append to-e e, length-bytesOf l.cell c.cell) in
+    let s-long : length to-s ≡ at + 3 = length-append before (c.tag ∷ n) ∙ ap (λ (j : ℕ). at + suc j) (length-bytes_of 2 l.length) in
+    let k-long : length to-k ≡ at + 3 + l.session = omega (arith, s-long, length-append to-s s, length-bytes_of l.session c.session) in
+    let e-long : length to-e ≡ at + 3 + l.session + l.class = omega (arith, k-long, length-append to-k k, length-bytes_of l.class c.class) in
+    let v-long : length to-v ≡ at + 3 + l.session + l.class + l.cell = omega (arith, e-long, length-append to-e e, length-bytes_of l.cell c.cell) in
     let tag : get_or file at 0 ≡ c.tag = ap (λ (b : List ℕ). get_or b at 0) parts ∙ get_or-append_seam before c.tag (n ++ from-s) 0 in
     let own : number_at file (at + 1) 2 ≡ l.length = there file to-n from-s (at + 1) 2 l.length at_n n-long (omega (arith, small l p)) in
-    let s-at = carried-at 1 file to-s from-k (at + 3) _ _ p.session fits.session at-s s-long in
-    let k-at = carried-at 1 file to-k from-e (at + 3 + l.session) _ _ p.class fits.class at-k k-long in
-    let e-at = carried-at 2 file to-e from-v (at + 3 + l.session + l.class) _ _ p.cell fits.cell at-e e-long in
-    let v-at = carried-at 4 file to-v after (at + 3 + l.session + l.class + l.cell) _ _ p.value fits.value at-v v-long in
+    let s-at = carried_at 1 file to-s from-k (at + 3) _ _ p.session fits.session at-s s-long in
+    let k-at = carried_at 1 file to-k from-e (at + 3 + l.session) _ _ p.class fits.class at-k k-long in
+    let e-at = carried_at 2 file to-e from-v (at + 3 + l.session + l.class) _ _ p.cell fits.cell at-e e-long in
+    let v-at = carried_at 4 file to-v after (at + 3 + l.session + l.class + l.cell) _ _ p.value fits.value at-v v-long in
     let long = length-around c l before after p in
     sym (accepted file at l (omega (arith, long)) (omega (arith, long)) (ap layout_of tag ∙ known) own (omega (arith, long)))
     ∙ rw (tag, s-at, k-at, e-at, v-at)
@@ -100,12 +100,12 @@ test false f g = g refl
 
 -- What the writer put into a target is read from it as the same call, with the numbers that the tag does not carry as 0 and the length that
 -- the writer answered, whatever stands after it.
-pub reads-back : (target : List ℕ) (c : Call) (l : Layout) → Fitting c → layout_of c.tag ≡ Known l → (writing target c).number ≡ done
-    → readingAt (writing target c).target 0 ≡ Field l.kind (carried l c) (writing target c).length
-reads-back target c l fits known h =
+pub reads_back : (target : List ℕ) (c : Call) (l : Layout) → Fitting c → layout_of c.tag ≡ Known l → (writing target c).number ≡ done
+    → reading_at (writing target c).target 0 ≡ Field l.kind (carried l c) (writing target c).length
+reads_back target c l fits known h =
     test (ltb (length target) (3 + l.length))
-    (λ over. absurd (let e : shortTarget ≡ done = ap (λ (w : WriteReply). w.number) (short target c l known (ltb-true _ _ over)) ∙ h in omega arith))
-    (λ room. rw (← written target c l known (ltb-false _ _ room)) (read-anywhere c l [] (drop (3 + l.length) target) fits known))
+    (λ over. absurd (let e : short_target ≡ done = ap (λ (w : WriteReply). w.number) (short target c l known (ltb-true _ _ over)) ∙ h in omega arith))
+    (λ room. rw (← written target c l known (ltb-false _ _ room)) (read_anywhere c l [] (drop (3 + l.length) target) fits known))
 
 -- ---- what was read is written again
 
@@ -120,14 +120,14 @@ pub record Found (bytes : List ℕ) (place : ℕ) (k : Kind) (c : Call) (n : ℕ
   pub long : n ≡ 3 + layout.length
 
 module _ (bytes : List ℕ) (place : ℕ) (k : Kind) (c : Call) (n : ℕ) where
-  end-is-none : End ≡ Field k c n → Found bytes place k c n
-  end-is-none e = absurd (let z : ◌≡◌ {A = ℕ} 0 1 = cc in omega arith)
+  end_is_none : End ≡ Field k c n → Found bytes place k c n
+  end_is_none e = absurd (let z : ◌≡◌ {A = ℕ} 0 1 = cc in omega arith)
 
-  refused-is-none : (number : ℕ) → Refused number place ≡ Field k c n → Found bytes place k c n
-  refused-is-none number e = absurd (let z : ◌≡◌ {A = ℕ} 0 1 = cc in omega arith)
+  refused_is_none : (number : ℕ) → Refused number place ≡ Field k c n → Found bytes place k c n
+  refused_is_none number e = absurd (let z : ◌≡◌ {A = ℕ} 0 1 = cc in omega arith)
 
   in_body : (l : Layout) (b d : Bool) → layout_of (get_or bytes place 0) ≡ Known l → eqb (number_at bytes (place + 1) 2) l.length ≡ b → ltb (length bytes - place) (3 + l.length) ≡ d
-      → cond (not b) (Refused wrongLength place) (cond d (Refused cutShort place) (Field l.kind (call_at bytes (place + 3) (get_or bytes place 0) l) (3 + l.length))) ≡ Field k c n
+      → cond (not b) (Refused wrong_length place) (cond d (Refused cut_short place) (Field l.kind (call_at bytes (place + 3) (get_or bytes place 0) l) (3 + l.length))) ≡ Field k c n
       → Found bytes place k c n
   in_body l true false known e f h =
       record {
@@ -139,21 +139,21 @@ module _ (bytes : List ℕ) (place : ℕ) (k : Kind) (c : Call) (n : ℕ) where
         read = cc;
         long = cc;
       }
-  in_body l true true known e f h = refused-is-none cutShort h
-  in_body l false d known e f h = refused-is-none wrongLength h
+  in_body l true true known e f h = refused_is_none cut_short h
+  in_body l false d known e f h = refused_is_none wrong_length h
 
   in_field : (t : TagLayout) → layout_of (get_or bytes place 0) ≡ t → reading_of t bytes place ≡ Field k c n → Found bytes place k c n
   unfolding reading_of
-  in_field Unknown known h = refused-is-none unknownTag h
+  in_field Unknown known h = refused_is_none unknown_tag h
   in_field (Known l) known h = in_body l _ _ known refl refl h
 
-  in_head : (b d : Bool) → cond b End (cond d (Refused cutShort place) (reading_of (layout_of (get_or bytes place 0)) bytes place)) ≡ Field k c n → Found bytes place k c n
-  in_head true d h = end-is-none h
-  in_head false true h = refused-is-none cutShort h
+  in_head : (b d : Bool) → cond b End (cond d (Refused cut_short place) (reading_of (layout_of (get_or bytes place 0)) bytes place)) ≡ Field k c n → Found bytes place k c n
+  in_head true d h = end_is_none h
+  in_head false true h = refused_is_none cut_short h
   in_head false false h = in_field _ refl h
 
-  pub found : readingAt bytes place ≡ Field k c n → Found bytes place k c n
-  unfolding readingAt
+  pub found : reading_at bytes place ≡ Field k c n → Found bytes place k c n
+  unfolding reading_at
   found h = in_head (leb (length bytes) place) (ltb (length bytes - place) 3) h
 
 -- The body, and the field, of what was read are the bytes that were read.
@@ -197,10 +197,10 @@ same_bytes bytes place l ok p own inside =
 
 -- Every field that is read is byte for byte what the writer gives for the call that was read: in any target that is long enough it writes
 -- the bytes from the place on, as many as the reader said.
-pub written-again : (bytes : List ℕ) (place : ℕ) (k : Kind) (c : Call) (n : ℕ) → Bytes bytes → readingAt bytes place ≡ Field k c n
-    → (target : List ℕ) → n ≤ length target → writing target c ≡ writeReply done n (take n (drop place bytes) ++ drop n target)
+pub written_again : (bytes : List ℕ) (place : ℕ) (k : Kind) (c : Call) (n : ℕ) → Bytes bytes → reading_at bytes place ≡ Field k c n
+    → (target : List ℕ) → n ≤ length target → writing target c ≡ write_reply done n (take n (drop place bytes) ++ drop n target)
 unfolding call_at
-written-again bytes place k c n ok h target room =
+written_again bytes place k c n ok h target room =
     let f = found bytes place k c n h in
     let l : Layout = f.layout in
     let t : ℕ = get_or bytes place 0 in
@@ -208,5 +208,5 @@ written-again bytes place k c n ok h target room =
     let again = written target (call_at bytes (place + 3) t l) l f.known (omega (arith, f.long)) in
     ap (writing target) f.read
     ∙ sym again
-    ∙ ap (λ (b : List ℕ). writeReply done (3 + l.length) (b ++ drop (3 + l.length) target)) (same_bytes bytes place l ok p f.own f.inside)
-    ∙ ap (λ (m : ℕ). writeReply done m (take m (drop place bytes) ++ drop m target)) (sym f.long)
+    ∙ ap (λ (b : List ℕ). write_reply done (3 + l.length) (b ++ drop (3 + l.length) target)) (same_bytes bytes place l ok p f.own f.inside)
+    ∙ ap (λ (m : ℕ). write_reply done m (take m (drop place bytes) ++ drop m target)) (sym f.long)

@@ -25,12 +25,12 @@ either false b h = inr h
 abbrev whole : ℕ → ℕ → Bool
 whole all w = eqb w 0 || eqb w all
 
-whole-law : (all w : ℕ) → T (whole all w) → Whole all w
-whole-law all w h = by-cases-of (either (eqb w 0) (eqb w all) h)
+whole_law : (all w : ℕ) → T (whole all w) → Whole all w
+whole_law all w h = by_cases_of (either (eqb w 0) (eqb w all) h)
   where
-    by-cases-of : T (eqb w 0) ⊎ T (eqb w all) → Whole all w
-    by-cases-of (inl t) = inl (eqb→eq w 0 t)
-    by-cases-of (inr t) = inr (eqb→eq w all t)
+    by_cases_of : T (eqb w 0) ⊎ T (eqb w all) → Whole all w
+    by_cases_of (inl t) = inl (eqb→eq w 0 t)
+    by_cases_of (inr t) = inr (eqb→eq w all t)
 
 -- A layout passes the test.
 abbrev passes : Layout → Bool
@@ -38,17 +38,17 @@ passes l =
     (((whole 1 l.session && whole 1 l.class) && whole 2 l.cell) && whole 4 l.value)
     && eqb l.length (l.session + l.class + l.cell + l.value)
 
-passes-law : (l : Layout) → T (passes l) → Proper l
-passes-law l h =
+passes_law : (l : Layout) → T (passes l) → Proper l
+passes_law l h =
     let n = both (((whole 1 l.session && whole 1 l.class) && whole 2 l.cell) && whole 4 l.value) _ h in
     let v = both ((whole 1 l.session && whole 1 l.class) && whole 2 l.cell) _ n.0 in
     let e = both (whole 1 l.session && whole 1 l.class) _ v.0 in
     let s = both (whole 1 l.session) _ e.0 in
     record {
-      session = whole-law 1 _ s.0;
-      class = whole-law 1 _ s.1;
-      cell = whole-law 2 _ e.1;
-      value = whole-law 4 _ v.1;
+      session = whole_law 1 _ s.0;
+      class = whole_law 1 _ s.1;
+      cell = whole_law 2 _ e.1;
+      value = whole_law 4 _ v.1;
       length = eqb→eq _ _ n.1;
     }
 
@@ -66,7 +66,7 @@ unfolding find
 found t [] l h e = absurd (let z : ◌≡◌ {A = ℕ} 0 1 = cc in omega arith)
 found t (r ∷ rows) l h e =
     let parts : T (passes r.layout) × T (all_pass rows) = both (passes r.layout) (all_pass rows) h in
-    chosen (eqb t r.tag) e (passes-law r.layout parts.0) (found t rows l parts.1)
+    chosen (eqb t r.tag) e (passes_law r.layout parts.0) (found t rows l parts.1)
 
 pub proper : (t : ℕ) (l : Layout) → layout_of t ≡ Known l → Proper l
 unfolding layout_of table

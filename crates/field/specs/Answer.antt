@@ -7,21 +7,21 @@ abbrev pub done : ℕ
 done = 100
 
 -- No bytes are left.
-abbrev pub endOfFields : ℕ
-endOfFields = 106
+abbrev pub end_of_fields : ℕ
+end_of_fields = 106
 
 -- A field cut short: in the three bytes before its body, or in its body.
-abbrev pub cutShort : ℕ
-cutShort = 10
+abbrev pub cut_short : ℕ
+cut_short = 10
 
 -- A tag that the table lacks.
-abbrev pub unknownTag : ℕ
-unknownTag = 11
+abbrev pub unknown_tag : ℕ
+unknown_tag = 11
 
 -- A length other than the tag's own.
-abbrev pub wrongLength : ℕ
-wrongLength = 12
+abbrev pub wrong_length : ℕ
+wrong_length = 12
 
 -- A target with fewer bytes than the field.
-abbrev pub shortTarget : ℕ
-shortTarget = 13
+abbrev pub short_target : ℕ
+short_target = 13

@@ -3,7 +3,7 @@
 use Rattle.std.specs.Prelude.{ℕ}
 use Rattle.field.specs.declared.Reading.{Reading}
 use Rattle.field.specs.declared.Reading.TheVariants.{Field, End, Refused}
-use Rattle.field.specs.Answer.{done, endOfFields}
+use Rattle.field.specs.Answer.{done, end_of_fields}
 
 -- The lent numbers.
 pub record Lent : Type 0 where
@@ -21,11 +21,11 @@ pub record ReadReply : Type 0 where
   pub number : ℕ
   pub left : Lent
 
-abbrev pub readReply : ℕ → Lent → ReadReply
-readReply n o = record { number = n; left = o }
+abbrev pub read_reply : ℕ → Lent → ReadReply
+read_reply n o = record { number = n; left = o }
 
 -- A field puts its numbers and its length into the lent numbers. The end and a refusal leave them as before.
 unfoldable pub handing : Reading → Lent → ReadReply
-handing (Field k c n) o = readReply done (lent c.tag c.session c.class c.cell c.value n)
-handing End o = readReply endOfFields o
-handing (Refused number place) o = readReply number o
+handing (Field k c n) o = read_reply done (lent c.tag c.session c.class c.cell c.value n)
+handing End o = read_reply end_of_fields o
+handing (Refused number place) o = read_reply number o

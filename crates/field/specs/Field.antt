@@ -9,7 +9,7 @@ use Rattle.field.specs.declared.Reading.{Reading}
 use Rattle.field.specs.declared.Reading.TheVariants.{Field, End, Refused}
 use Rattle.field.specs.LittleEndian.{number_at, bytes_of}
 use Rattle.field.specs.Table.{layout_of}
-use Rattle.field.specs.Answer.{done, cutShort, unknownTag, wrongLength, shortTarget}
+use Rattle.field.specs.Answer.{done, cut_short, unknown_tag, wrong_length, short_target}
 
 -- A call from its numbers.
 abbrev pub call : ℕ → ℕ → ℕ → ℕ → ℕ → Call
@@ -25,18 +25,18 @@ call_at bytes i t l =
 -- With the three bytes before the body there: an unknown tag is refused first, then a length other than the tag's own, then a body of
 -- which bytes are missing. No session, cell or value is judged.
 unfoldable pub reading_of : TagLayout → List ℕ → ℕ → Reading
-reading_of Unknown bytes place = Refused unknownTag place
+reading_of Unknown bytes place = Refused unknown_tag place
 reading_of (Known l) bytes place =
-    cond (not (eqb (number_at bytes (place + 1) 2) l.length)) (Refused wrongLength place)
-    (cond (ltb (length bytes - place) (3 + l.length)) (Refused cutShort place)
+    cond (not (eqb (number_at bytes (place + 1) 2) l.length)) (Refused wrong_length place)
+    (cond (ltb (length bytes - place) (3 + l.length)) (Refused cut_short place)
     (Field l.kind (call_at bytes (place + 3) (get_or bytes place 0) l) (3 + l.length)))
 
 -- The field at a place: a tag byte, a two-byte length and a body. Where no byte is left, as at every place past the end, it is the end;
 -- fewer than three bytes left are a field cut short. A refusal tells the place of the field's first byte.
-unfoldable pub readingAt : List ℕ → ℕ → Reading
-readingAt bytes place =
+unfoldable pub reading_at : List ℕ → ℕ → Reading
+reading_at bytes place =
     cond (leb (length bytes) place) End
-    (cond (ltb (length bytes - place) 3) (Refused cutShort place)
+    (cond (ltb (length bytes - place) 3) (Refused cut_short place)
     (reading_of (layout_of (get_or bytes place 0)) bytes place))
 
 -- The body of a call: the numbers that the tag carries, one after the other. The others take no bytes, so nothing depends on them.
@@ -54,16 +54,16 @@ pub record WriteReply : Type 0 where
   pub length : ℕ
   pub target : List ℕ
 
-abbrev pub writeReply : ℕ → ℕ → List ℕ → WriteReply
-writeReply n k t = record { number = n; length = k; target = t }
+abbrev pub write_reply : ℕ → ℕ → List ℕ → WriteReply
+write_reply n k t = record { number = n; length = k; target = t }
 
 -- An unknown tag is refused before a target that is too short; both come with 0 in place of the length and leave the target. Otherwise the
 -- field stands at the front of the target, and the bytes after it are as before.
-unfoldable pub writingOf : TagLayout → List ℕ → Call → WriteReply
-writingOf Unknown target c = writeReply unknownTag 0 target
-writingOf (Known l) target c =
-    cond (ltb (length target) (3 + l.length)) (writeReply shortTarget 0 target)
-    (writeReply done (3 + l.length) (field_of l c ++ drop (3 + l.length) target))
+unfoldable pub writing_of : TagLayout → List ℕ → Call → WriteReply
+writing_of Unknown target c = write_reply unknown_tag 0 target
+writing_of (Known l) target c =
+    cond (ltb (length target) (3 + l.length)) (write_reply short_target 0 target)
+    (write_reply done (3 + l.length) (field_of l c ++ drop (3 + l.length) target))
 
 unfoldable pub writing : List ℕ → Call → WriteReply
-writing target c = writingOf (layout_of c.tag) target c
+writing target c = writing_of (layout_of c.tag) target c

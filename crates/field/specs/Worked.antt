@@ -7,8 +7,8 @@ use Rattle.field.specs.declared.Kind.TheVariants.{Begin, Read, Write, Seal, Adva
 use Rattle.field.specs.declared.Call.{Call}
 use Rattle.field.specs.declared.Reading.{Reading}
 use Rattle.field.specs.declared.Reading.TheVariants.{Field, End, Refused}
-use Rattle.field.specs.Field.{call, readingAt, WriteReply, writeReply, writing}
-use Rattle.field.specs.Exported.{Lent, lent, ReadReply, readReply, handing}
+use Rattle.field.specs.Field.{call, reading_at, WriteReply, write_reply, writing}
+use Rattle.field.specs.Exported.{Lent, lent, ReadReply, read_reply, handing}
 
 -- The numbers that are lent to the exported reader, as they are before the call.
 abbrev pub before : Lent
@@ -21,119 +21,119 @@ pub record FieldRow : Type 0 where
   pub bytes : List ℕ
   pub given : Call
   pub reading : Reading
-  pub readReply : ReadReply
-  pub writeReply : WriteReply
+  pub read_reply : ReadReply
+  pub write_reply : WriteReply
 
 -- A row from kind, bytes, the call that is read from them and the field's length. The writer is given all numbers: those that the tag does
 -- not carry are ignored, and read back as 0. Session, class and cell are larger than any that the store takes: none is judged.
-abbrev pub fieldRow : Kind → List ℕ → Call → ℕ → FieldRow
-fieldRow k b c n =
+abbrev pub field_row : Kind → List ℕ → Call → ℕ → FieldRow
+field_row k b c n =
     record {
       bytes = b;
       given = call c.tag 0xb2 0xa1 0x4321 0x89abcdef;
       reading = Field k c n;
-      readReply = readReply 100 (lent c.tag c.session c.class c.cell c.value n);
-      writeReply = writeReply 100 n (b ++ replicate (12 - n) 0xee);
+      read_reply = read_reply 100 (lent c.tag c.session c.class c.cell c.value n);
+      write_reply = write_reply 100 n (b ++ replicate (12 - n) 0xee);
     }
 
 -- The row with what the definitions give.
-unfoldable pub bothWays : FieldRow → FieldRow
-bothWays r =
-    let found = readingAt r.bytes 0 in
-    record { bytes = r.bytes; given = r.given; reading = found; readReply = handing found before; writeReply = writing (replicate 12 0xee) r.given }
+unfoldable pub both_ways : FieldRow → FieldRow
+both_ways r =
+    let found = reading_at r.bytes 0 in
+    record { bytes = r.bytes; given = r.given; reading = found; read_reply = handing found before; write_reply = writing (replicate 12 0xee) r.given }
 
 unfoldable pub fields : List FieldRow
 fields =
     -- 01 begin, with a session byte
-    fieldRow Begin (0x01 ∷ 0x01 ∷ 0x00 ∷ 0xb2 ∷ []) (call 0x01 0xb2 0 0 0) 4
+    field_row Begin (0x01 ∷ 0x01 ∷ 0x00 ∷ 0xb2 ∷ []) (call 0x01 0xb2 0 0 0) 4
     -- 02 read, session and two-byte cell
-    ∷ fieldRow Read (0x02 ∷ 0x03 ∷ 0x00 ∷ 0xb2 ∷ 0x21 ∷ 0x43 ∷ []) (call 0x02 0xb2 0 0x4321 0) 6
+    ∷ field_row Read (0x02 ∷ 0x03 ∷ 0x00 ∷ 0xb2 ∷ 0x21 ∷ 0x43 ∷ []) (call 0x02 0xb2 0 0x4321 0) 6
     -- 03 write, session, two-byte cell, four-byte figure; multi-byte numbers are little-endian
-    ∷ fieldRow Write (0x03 ∷ 0x07 ∷ 0x00 ∷ 0xb2 ∷ 0x21 ∷ 0x43 ∷ 0xef ∷ 0xcd ∷ 0xab ∷ 0x89 ∷ []) (call 0x03 0xb2 0 0x4321 0x89abcdef) 10
+    ∷ field_row Write (0x03 ∷ 0x07 ∷ 0x00 ∷ 0xb2 ∷ 0x21 ∷ 0x43 ∷ 0xef ∷ 0xcd ∷ 0xab ∷ 0x89 ∷ []) (call 0x03 0xb2 0 0x4321 0x89abcdef) 10
     -- 04 seal, 05 advance, 06 abandon, each with a session byte
-    ∷ fieldRow Seal (0x04 ∷ 0x01 ∷ 0x00 ∷ 0xb2 ∷ []) (call 0x04 0xb2 0 0 0) 4
-    ∷ fieldRow Advance (0x05 ∷ 0x01 ∷ 0x00 ∷ 0xb2 ∷ []) (call 0x05 0xb2 0 0 0) 4
-    ∷ fieldRow Abandon (0x06 ∷ 0x01 ∷ 0x00 ∷ 0xb2 ∷ []) (call 0x06 0xb2 0 0 0) 4
+    ∷ field_row Seal (0x04 ∷ 0x01 ∷ 0x00 ∷ 0xb2 ∷ []) (call 0x04 0xb2 0 0 0) 4
+    ∷ field_row Advance (0x05 ∷ 0x01 ∷ 0x00 ∷ 0xb2 ∷ []) (call 0x05 0xb2 0 0 0) 4
+    ∷ field_row Abandon (0x06 ∷ 0x01 ∷ 0x00 ∷ 0xb2 ∷ []) (call 0x06 0xb2 0 0 0) 4
     -- 08 starting cell, class byte and four-byte figure
-    ∷ fieldRow StartingCell (0x08 ∷ 0x05 ∷ 0x00 ∷ 0xa1 ∷ 0xef ∷ 0xcd ∷ 0xab ∷ 0x89 ∷ []) (call 0x08 0 0xa1 0 0x89abcdef) 8
+    ∷ field_row StartingCell (0x08 ∷ 0x05 ∷ 0x00 ∷ 0xa1 ∷ 0xef ∷ 0xcd ∷ 0xab ∷ 0x89 ∷ []) (call 0x08 0 0xa1 0 0x89abcdef) 8
     -- 09 hold, session and two-byte cell, as read (document 02, Paper 4)
-    ∷ fieldRow Hold (0x09 ∷ 0x03 ∷ 0x00 ∷ 0xb2 ∷ 0x21 ∷ 0x43 ∷ []) (call 0x09 0xb2 0 0x4321 0) 6
+    ∷ field_row Hold (0x09 ∷ 0x03 ∷ 0x00 ∷ 0xb2 ∷ 0x21 ∷ 0x43 ∷ []) (call 0x09 0xb2 0 0x4321 0) 6
     ∷ []
 
 -- ---- the reader's answers, in order (document 01, "When a call is turned down")
 
 -- Bytes, a place, what is read there, and what the exported reader answers and leaves.
 pub data ReadRow : Type 0 where
-  readRow : List ℕ → ℕ → Reading → ReadReply → ReadRow
+  read_row : List ℕ → ℕ → Reading → ReadReply → ReadRow
 
 -- A refusal's row, from bytes, place and number: the place is the field's first byte, and all is as before.
-abbrev pub refusedRow : List ℕ → ℕ → ℕ → ReadRow
-refusedRow b p n = readRow b p (Refused n p) (readReply n before)
+abbrev pub refused_row : List ℕ → ℕ → ℕ → ReadRow
+refused_row b p n = read_row b p (Refused n p) (read_reply n before)
 
 -- The row with what the definitions give.
-unfoldable pub readThere : ReadRow → ReadRow
-readThere (readRow b p r h) = readRow b p (readingAt b p) (handing (readingAt b p) before)
+unfoldable pub read_there : ReadRow → ReadRow
+read_there (read_row b p r h) = read_row b p (reading_at b p) (handing (reading_at b p) before)
 
 unfoldable pub readings : List ReadRow
 readings =
     -- no bytes left is 106: none at all, at the end, past it
-    readRow [] 0 End (readReply 106 before)
-    ∷ readRow (0x01 ∷ 0x01 ∷ 0x00 ∷ 0x02 ∷ []) 4 End (readReply 106 before)
-    ∷ readRow (0x01 ∷ 0x01 ∷ 0x00 ∷ 0x02 ∷ []) 5 End (readReply 106 before)
+    read_row [] 0 End (read_reply 106 before)
+    ∷ read_row (0x01 ∷ 0x01 ∷ 0x00 ∷ 0x02 ∷ []) 4 End (read_reply 106 before)
+    ∷ read_row (0x01 ∷ 0x01 ∷ 0x00 ∷ 0x02 ∷ []) 5 End (read_reply 106 before)
     -- fewer than three bytes left is 10, also where the tag is unknown
-    ∷ refusedRow (0x01 ∷ []) 0 10
-    ∷ refusedRow (0x01 ∷ 0x07 ∷ 0x00 ∷ []) 1 10
+    ∷ refused_row (0x01 ∷ []) 0 10
+    ∷ refused_row (0x01 ∷ 0x07 ∷ 0x00 ∷ []) 1 10
     -- then 11: the tags beside those that are known, and the last
-    ∷ refusedRow (0x00 ∷ 0x01 ∷ 0x00 ∷ 0x02 ∷ []) 0 11
-    ∷ refusedRow (0x07 ∷ 0x01 ∷ 0x00 ∷ 0x02 ∷ []) 0 11
-    ∷ refusedRow (0x0a ∷ 0x01 ∷ 0x00 ∷ 0x02 ∷ []) 0 11
-    ∷ refusedRow (0xff ∷ 0x01 ∷ 0x00 ∷ 0x02 ∷ []) 0 11
+    ∷ refused_row (0x00 ∷ 0x01 ∷ 0x00 ∷ 0x02 ∷ []) 0 11
+    ∷ refused_row (0x07 ∷ 0x01 ∷ 0x00 ∷ 0x02 ∷ []) 0 11
+    ∷ refused_row (0x0a ∷ 0x01 ∷ 0x00 ∷ 0x02 ∷ []) 0 11
+    ∷ refused_row (0xff ∷ 0x01 ∷ 0x00 ∷ 0x02 ∷ []) 0 11
     -- 11 whatever the length, and with no body
-    ∷ refusedRow (0x01 ∷ 0x01 ∷ 0x00 ∷ 0x02 ∷ 0x07 ∷ 0xff ∷ 0xff ∷ []) 4 11
+    ∷ refused_row (0x01 ∷ 0x01 ∷ 0x00 ∷ 0x02 ∷ 0x07 ∷ 0xff ∷ 0xff ∷ []) 4 11
     -- then 12: one less and one more than the tag's own, and more by the second byte
-    ∷ refusedRow (0x02 ∷ 0x02 ∷ 0x00 ∷ 0x02 ∷ 0x05 ∷ 0x00 ∷ 0x00 ∷ []) 0 12
-    ∷ refusedRow (0x02 ∷ 0x04 ∷ 0x00 ∷ 0x02 ∷ 0x05 ∷ 0x00 ∷ 0x00 ∷ []) 0 12
-    ∷ refusedRow (0x02 ∷ 0x03 ∷ 0x01 ∷ 0x02 ∷ 0x05 ∷ 0x00 ∷ 0x00 ∷ []) 0 12
-    ∷ refusedRow (0x09 ∷ 0x02 ∷ 0x00 ∷ 0x02 ∷ 0x05 ∷ 0x00 ∷ 0x00 ∷ []) 0 12
-    ∷ refusedRow (0x09 ∷ 0x04 ∷ 0x00 ∷ 0x02 ∷ 0x05 ∷ 0x00 ∷ 0x00 ∷ []) 0 12
-    ∷ refusedRow (0x09 ∷ 0x03 ∷ 0x01 ∷ 0x02 ∷ 0x05 ∷ 0x00 ∷ 0x00 ∷ []) 0 12
+    ∷ refused_row (0x02 ∷ 0x02 ∷ 0x00 ∷ 0x02 ∷ 0x05 ∷ 0x00 ∷ 0x00 ∷ []) 0 12
+    ∷ refused_row (0x02 ∷ 0x04 ∷ 0x00 ∷ 0x02 ∷ 0x05 ∷ 0x00 ∷ 0x00 ∷ []) 0 12
+    ∷ refused_row (0x02 ∷ 0x03 ∷ 0x01 ∷ 0x02 ∷ 0x05 ∷ 0x00 ∷ 0x00 ∷ []) 0 12
+    ∷ refused_row (0x09 ∷ 0x02 ∷ 0x00 ∷ 0x02 ∷ 0x05 ∷ 0x00 ∷ 0x00 ∷ []) 0 12
+    ∷ refused_row (0x09 ∷ 0x04 ∷ 0x00 ∷ 0x02 ∷ 0x05 ∷ 0x00 ∷ 0x00 ∷ []) 0 12
+    ∷ refused_row (0x09 ∷ 0x03 ∷ 0x01 ∷ 0x02 ∷ 0x05 ∷ 0x00 ∷ 0x00 ∷ []) 0 12
     -- 12 also with no body
-    ∷ refusedRow (0xff ∷ 0x03 ∷ 0x08 ∷ 0x00 ∷ []) 1 12
+    ∷ refused_row (0xff ∷ 0x03 ∷ 0x08 ∷ 0x00 ∷ []) 1 12
     -- then a short body 10: its last byte is missing, or all of it
-    ∷ refusedRow (0x03 ∷ 0x07 ∷ 0x00 ∷ 0x02 ∷ 0x05 ∷ 0x00 ∷ 0x2a ∷ 0x00 ∷ 0x00 ∷ []) 0 10
-    ∷ refusedRow (0x09 ∷ 0x03 ∷ 0x00 ∷ 0x02 ∷ 0x05 ∷ []) 0 10
-    ∷ refusedRow (0xff ∷ 0xff ∷ 0x01 ∷ 0x01 ∷ 0x00 ∷ []) 2 10
+    ∷ refused_row (0x03 ∷ 0x07 ∷ 0x00 ∷ 0x02 ∷ 0x05 ∷ 0x00 ∷ 0x2a ∷ 0x00 ∷ 0x00 ∷ []) 0 10
+    ∷ refused_row (0x09 ∷ 0x03 ∷ 0x00 ∷ 0x02 ∷ 0x05 ∷ []) 0 10
+    ∷ refused_row (0xff ∷ 0xff ∷ 0x01 ∷ 0x01 ∷ 0x00 ∷ []) 2 10
     -- else 100, with bytes before and after the field
-    ∷ readRow (0xff ∷ 0x03 ∷ 0x07 ∷ 0x00 ∷ 0x02 ∷ 0x05 ∷ 0x00 ∷ 0x2a ∷ 0x00 ∷ 0x00 ∷ 0x00 ∷ 0xff ∷ []) 1 (Field Write (call 3 2 0 5 42) 10)
-    (readReply 100 (lent 3 2 0 5 42 10))
-    ∷ readRow (0xff ∷ 0x09 ∷ 0x03 ∷ 0x00 ∷ 0x02 ∷ 0x05 ∷ 0x00 ∷ 0xff ∷ []) 1 (Field Hold (call 9 2 0 5 0) 6) (readReply 100 (lent 9 2 0 5 0 6))
+    ∷ read_row (0xff ∷ 0x03 ∷ 0x07 ∷ 0x00 ∷ 0x02 ∷ 0x05 ∷ 0x00 ∷ 0x2a ∷ 0x00 ∷ 0x00 ∷ 0x00 ∷ 0xff ∷ []) 1 (Field Write (call 3 2 0 5 42) 10)
+    (read_reply 100 (lent 3 2 0 5 42 10))
+    ∷ read_row (0xff ∷ 0x09 ∷ 0x03 ∷ 0x00 ∷ 0x02 ∷ 0x05 ∷ 0x00 ∷ 0xff ∷ []) 1 (Field Hold (call 9 2 0 5 0) 6) (read_reply 100 (lent 9 2 0 5 0 6))
     ∷ []
 
 -- ---- the writer's answers, in order (the same section)
 
 -- A target, a call, and what is answered and left.
 pub data WriteRow : Type 0 where
-  writeRow : List ℕ → Call → WriteReply → WriteRow
+  write_row : List ℕ → Call → WriteReply → WriteRow
 
 -- The row with what the definition gives.
-unfoldable pub writtenThere : WriteRow → WriteRow
-writtenThere (writeRow t c w) = writeRow t c (writing t c)
+unfoldable pub written_there : WriteRow → WriteRow
+written_there (write_row t c w) = write_row t c (writing t c)
 
 unfoldable pub writings : List WriteRow
 writings =
     -- an unknown tag is 11, with 0 in place of the length and the target as before
-    writeRow (replicate 12 0xee) (call 0 2 0 0 0) (writeReply 11 0 (replicate 12 0xee))
-    ∷ writeRow (replicate 12 0xee) (call 7 2 0 0 0) (writeReply 11 0 (replicate 12 0xee))
-    ∷ writeRow (replicate 12 0xee) (call 10 2 0 0 0) (writeReply 11 0 (replicate 12 0xee))
+    write_row (replicate 12 0xee) (call 0 2 0 0 0) (write_reply 11 0 (replicate 12 0xee))
+    ∷ write_row (replicate 12 0xee) (call 7 2 0 0 0) (write_reply 11 0 (replicate 12 0xee))
+    ∷ write_row (replicate 12 0xee) (call 10 2 0 0 0) (write_reply 11 0 (replicate 12 0xee))
     -- tested before 13
-    ∷ writeRow [] (call 7 2 0 0 0) (writeReply 11 0 [])
-    ∷ writeRow (replicate 2 0xee) (call 7 2 0 0 0) (writeReply 11 0 (replicate 2 0xee))
+    ∷ write_row [] (call 7 2 0 0 0) (write_reply 11 0 [])
+    ∷ write_row (replicate 2 0xee) (call 7 2 0 0 0) (write_reply 11 0 (replicate 2 0xee))
     -- a target shorter than the field is 13, with 0 in place of the length and the target as before
-    ∷ writeRow [] (call 1 2 0 0 0) (writeReply 13 0 [])
-    ∷ writeRow (replicate 3 0xee) (call 1 2 0 0 0) (writeReply 13 0 (replicate 3 0xee))
-    ∷ writeRow (replicate 9 0xee) (call 3 2 0 5 42) (writeReply 13 0 (replicate 9 0xee))
-    ∷ writeRow (replicate 5 0xee) (call 9 2 0 5 0) (writeReply 13 0 (replicate 5 0xee))
+    ∷ write_row [] (call 1 2 0 0 0) (write_reply 13 0 [])
+    ∷ write_row (replicate 3 0xee) (call 1 2 0 0 0) (write_reply 13 0 (replicate 3 0xee))
+    ∷ write_row (replicate 9 0xee) (call 3 2 0 5 42) (write_reply 13 0 (replicate 9 0xee))
+    ∷ write_row (replicate 5 0xee) (call 9 2 0 5 0) (write_reply 13 0 (replicate 5 0xee))
     -- else 100 with the field's length, here in a target of just that length
-    ∷ writeRow (replicate 10 0xee) (call 3 2 0 5 42) (writeReply 100 10 (0x03 ∷ 0x07 ∷ 0x00 ∷ 0x02 ∷ 0x05 ∷ 0x00 ∷ 0x2a ∷ 0x00 ∷ 0x00 ∷ 0x00 ∷ []))
-    ∷ writeRow (replicate 6 0xee) (call 9 2 0 5 0) (writeReply 100 6 (0x09 ∷ 0x03 ∷ 0x00 ∷ 0x02 ∷ 0x05 ∷ 0x00 ∷ []))
+    ∷ write_row (replicate 10 0xee) (call 3 2 0 5 42) (write_reply 100 10 (0x03 ∷ 0x07 ∷ 0x00 ∷ 0x02 ∷ 0x05 ∷ 0x00 ∷ 0x2a ∷ 0x00 ∷ 0x00 ∷ 0x00 ∷ []))
+    ∷ write_row (replicate 6 0xee) (call 9 2 0 5 0) (write_reply 100 6 (0x09 ∷ 0x03 ∷ 0x00 ∷ 0x02 ∷ 0x05 ∷ 0x00 ∷ []))
     ∷ []

@@ -5,7 +5,7 @@ mod tags;
 ghost use Rattle.std.specs.Prelude.{◌≡◌, ◌+◌, ◌≤◌, length};
 ghost use Rattle.std.proofs.lemmas.List.Edits.{sets};
 ghost use Rattle.field.specs.Table.{Proper};
-ghost use Rattle.field.specs.Field.{call_at, readingAt, body_of, writeReply, writing};
+ghost use Rattle.field.specs.Field.{call_at, reading_at, body_of, write_reply, writing};
 
 // What a field is.
 #[derive(Drop)]
@@ -102,7 +102,7 @@ fn read_body(bytes: &[u8], at: usize, tag: u8, own: Layout) -> Call
 
 // The field that starts at `place`. Any place is taken: at the end of `bytes` and past it no byte is left.
 pub fn read_field(bytes: &[u8], place: usize) -> Reading
-    ensures { result ≡ readingAt bytes.now place }
+    ensures { result ≡ reading_at bytes.now place }
 {
     if bytes.len() <= place {
         return Reading::End;
@@ -148,7 +148,7 @@ fn write_body(target: &mut [u8], own: Layout, call: Call)
 
 // Puts the field of `call` at the front of `target`.
 pub fn write_field(target: &mut [u8], call: Call) -> Written
-    ensures { writeReply result.number result.length target.new ≡ writing target.old call }
+    ensures { write_reply result.number result.length target.new ≡ writing target.old call }
 {
     let tag = call.tag;
     let TagLayout::Known(own) = tags::layout_of(tag) else {

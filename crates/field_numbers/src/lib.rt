@@ -1,7 +1,7 @@
 // The reader and the writer of a field by numbers and byte slices, and no enum: what is read is left in numbers that the caller lends.
 ghost use Rattle.std.specs.Prelude.{◌≡◌};
-ghost use Rattle.field.specs.Field.{call, readingAt, writeReply, writing};
-ghost use Rattle.field.specs.Exported.{lent, readReply, handing};
+ghost use Rattle.field.specs.Field.{call, reading_at, write_reply, writing};
+ghost use Rattle.field.specs.Exported.{lent, read_reply, handing};
 
 use field::{Call, Reading, read_field, write_field};
 
@@ -17,9 +17,9 @@ pub fn read(
     value: &mut u32,
     length: &mut usize,
 ) -> u8
-    ensures { readReply result
+    ensures { read_reply result
         (lent tag.new session.new class.new cell.new value.new length.new)
-        ≡ handing (readingAt bytes.now place)
+        ≡ handing (reading_at bytes.now place)
         (lent tag.old session.old class.old cell.old value.old length.old) }
 {
     match read_field(bytes, place) {
@@ -52,7 +52,7 @@ pub fn write(
     value: u32,
     length: &mut usize,
 ) -> u8
-    ensures { writeReply result length.new target.new
+    ensures { write_reply result length.new target.new
         ≡ writing target.old (call tag session class cell value) }
 {
     let written = write_field(

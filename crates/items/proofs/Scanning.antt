@@ -1,4 +1,4 @@
--- The items of an input, step by step: each field lies inside the input and takes at least four bytes, so the count of items that `itemsAt` allows
+-- The items of an input, step by step: each field lies inside the input and takes at least four bytes, so the count of items that `items_at` allows
 -- is never used up, and what stands at a place says what the items from there on are.
 use Prim.Native.Nat.{ℕ, zero, suc, ◌+◌, ◌≤◌, ◌<◌}
 use native.Mathlib.Omega.{arith}
@@ -20,38 +20,38 @@ use Rattle.field.specs.declared.TagLayout.{TagLayout}
 use Rattle.field.specs.declared.TagLayout.TheVariants.{Known}
 use Rattle.field.specs.declared.Reading.{Reading}
 use Rattle.field.specs.declared.Reading.TheVariants as reading
-use Rattle.field.specs.Field.{readingAt}
+use Rattle.field.specs.Field.{reading_at}
 use Rattle.field.specs.Table.{Row, table, find, layout_of}
-use Rattle.field.proofs.Readings.{at-end}
+use Rattle.field.proofs.Readings.{at_end}
 use Rattle.field.proofs.RoundTrip.{found}
 use Rattle.items.specs.declared.Next.{Next}
 use Rattle.items.specs.declared.Next.TheVariants as next
-use Rattle.items.specs.Items.{nextOfField, nextOf, Item, cell, asked, following, itemsWithin, itemsAt, values, classes, later}
+use Rattle.items.specs.Items.{next_of_field, next_of, Item, cell, asked, following, items_within, items_at, values, classes, later}
 use Rattle.items.specs.Leading.{Leading}
 use Rattle.items.specs.contracts.Next.{the_type}
 
 -- ---- every field has a body
 
-abbrev all-long : List Row → Bool
-all-long [] = true
-all-long (r ∷ rows) = leb 1 r.layout.length && all-long rows
+abbrev all_long : List Row → Bool
+all_long [] = true
+all_long (r ∷ rows) = leb 1 r.layout.length && all_long rows
 
-long-or : (b d : Bool) (l m : Layout) (rest : TagLayout) → T (leb 1 m.length && d) → cond b (Known m) rest ≡ Known l → (T d → rest ≡ Known l → 1 ≤ l.length) → 1 ≤ l.length
-long-or b d l m rest h e f = split (leb 1 m.length) refl h b e
+long_or : (b d : Bool) (l m : Layout) (rest : TagLayout) → T (leb 1 m.length && d) → cond b (Known m) rest ≡ Known l → (T d → rest ≡ Known l → 1 ≤ l.length) → 1 ≤ l.length
+long_or b d l m rest h e f = split (leb 1 m.length) refl h b e
   where
     split : (a : Bool) → leb 1 m.length ≡ a → T (a && d) → (b : Bool) → cond b (Known m) rest ≡ Known l → 1 ≤ l.length
     split true y h true e = let same : m ≡ l = cc in subst (λ (x : Layout). 1 ≤ x.length) same (leb-true 1 m.length y)
     split true y h false e = f h e
     split false y h b e = absurd h
 
-long-in : (t : ℕ) (rows : List Row) (l : Layout) → T (all-long rows) → find t rows ≡ Known l → 1 ≤ l.length
+long_in : (t : ℕ) (rows : List Row) (l : Layout) → T (all_long rows) → find t rows ≡ Known l → 1 ≤ l.length
 unfolding find
-long-in t [] l h e = absurd (let z : ◌≡◌ {A = ℕ} 0 1 = cc in omega arith)
-long-in t (r ∷ rows) l h e = long-or (eqb t r.tag) (all-long rows) l r.layout (find t rows) h e (long-in t rows l)
+long_in t [] l h e = absurd (let z : ◌≡◌ {A = ℕ} 0 1 = cc in omega arith)
+long_in t (r ∷ rows) l h e = long_or (eqb t r.tag) (all_long rows) l r.layout (find t rows) h e (long_in t rows l)
 
 long : (t : ℕ) (l : Layout) → layout_of t ≡ Known l → 1 ≤ l.length
 unfolding layout_of table
-long t l e = long-in t table l tt e
+long t l e = long_in t table l tt e
 
 -- ---- what stands at a place
 
@@ -67,8 +67,8 @@ Advances bytes place next.End = Unit
 Advances bytes place (next.Refused number) = Unit
 
 module _ (bytes : List ℕ) (place : ℕ) where
-  by_kind : (k : Kind) (x : Numbers) (n : ℕ) → Inside bytes place n → Advances bytes place (nextOfField k x n)
-  unfolding nextOfField
+  by_kind : (k : Kind) (x : Numbers) (n : ℕ) → Inside bytes place n → Advances bytes place (next_of_field k x n)
+  unfolding next_of_field
   by_kind kind.Begin x n h = h
   by_kind kind.Read x n h = h
   by_kind kind.Write x n h = h
@@ -78,53 +78,53 @@ module _ (bytes : List ℕ) (place : ℕ) where
   by_kind kind.StartingCell x n h = h
   by_kind kind.Hold x n h = h
 
-  by-reading : (r : Reading) → readingAt bytes place ≡ r → Advances bytes place (nextOf r)
-  unfolding nextOf
-  by-reading (reading.Field k x n) e =
+  by_reading : (r : Reading) → reading_at bytes place ≡ r → Advances bytes place (next_of r)
+  unfolding next_of
+  by_reading (reading.Field k x n) e =
       let f = found bytes place k x n e in
       by_kind k x n (record { inside = omega (arith, f.inside, f.long); four = omega (arith, f.long, long _ _ f.known) })
-  by-reading reading.End e = tt
-  by-reading (reading.Refused number at) e = tt
+  by_reading reading.End e = tt
+  by_reading (reading.Refused number at) e = tt
 
-  pub advances : Advances bytes place (nextOf (readingAt bytes place))
-  advances = by-reading (readingAt bytes place) refl
+  pub advances : Advances bytes place (next_of (reading_at bytes place))
+  advances = by_reading (reading_at bytes place) refl
 
 -- ---- the count of items is never used up
 
 module _ (bytes : List ℕ) where
-  following-same : (place : ℕ) (x : Next) (f g : ℕ → List Item) → Advances bytes place x → ((n : ℕ) → 4 ≤ n → f (place + n) ≡ g (place + n)) → following place x f ≡ following place x g
+  following_same : (place : ℕ) (x : Next) (f g : ℕ → List Item) → Advances bytes place x → ((n : ℕ) → 4 ≤ n → f (place + n) ≡ g (place + n)) → following place x f ≡ following place x g
   unfolding following
-  following-same place (next.Cell class value n) f g a h = ap (λ (r : List Item). cell place class value ∷ r) (h n a.four)
-  following-same place (next.Call k n) f g a h = ap (λ (r : List Item). asked k ∷ r) (h n a.four)
-  following-same place next.End f g a h = refl
-  following-same place (next.Refused number) f g a h = refl
+  following_same place (next.Cell class value n) f g a h = ap (λ (r : List Item). cell place class value ∷ r) (h n a.four)
+  following_same place (next.Call k n) f g a h = ap (λ (r : List Item). asked k ∷ r) (h n a.four)
+  following_same place next.End f g a h = refl
+  following_same place (next.Refused number) f g a h = refl
 
-  none-past : (k place : ℕ) → length bytes ≤ place → itemsWithin k bytes place ≡ []
-  unfolding itemsWithin nextOf following
-  none-past zero place h = refl
-  none-past (suc k) place h = rw (← at-end bytes place h)
+  none_past : (k place : ℕ) → length bytes ≤ place → items_within k bytes place ≡ []
+  unfolding items_within next_of following
+  none_past zero place h = refl
+  none_past (suc k) place h = rw (← at_end bytes place h)
 
-  same : (j k place : ℕ) → length bytes ≤ place + j → length bytes ≤ place + k → itemsWithin j bytes place ≡ itemsWithin k bytes place
-  unfolding itemsWithin
-  same zero k place h i = sym (none-past k place (omega arith))
-  same (suc j) zero place h i = none-past (suc j) place (omega arith)
+  same : (j k place : ℕ) → length bytes ≤ place + j → length bytes ≤ place + k → items_within j bytes place ≡ items_within k bytes place
+  unfolding items_within
+  same zero k place h i = sym (none_past k place (omega arith))
+  same (suc j) zero place h i = none_past (suc j) place (omega arith)
   same (suc j) (suc k) place h i =
-      following-same place (nextOf (readingAt bytes place)) (itemsWithin j bytes) (itemsWithin k bytes) (advances bytes place) (λ n f. same j k (place + n) (omega arith) (omega arith))
+      following_same place (next_of (reading_at bytes place)) (items_within j bytes) (items_within k bytes) (advances bytes place) (λ n f. same j k (place + n) (omega arith) (omega arith))
 
-  step-within : (m place : ℕ) → length bytes ≤ m → itemsWithin m bytes place ≡ following place (nextOf (readingAt bytes place)) (itemsWithin m bytes)
-  unfolding itemsWithin nextOf following
-  step-within zero place h = rw (← at-end bytes place (omega arith))
-  step-within (suc m) place h =
-      following-same place (nextOf (readingAt bytes place)) (itemsWithin m bytes) (itemsWithin (suc m) bytes) (advances bytes place) (λ n f. same m (suc m) (place + n) (omega arith) (omega arith))
+  step_within : (m place : ℕ) → length bytes ≤ m → items_within m bytes place ≡ following place (next_of (reading_at bytes place)) (items_within m bytes)
+  unfolding items_within next_of following
+  step_within zero place h = rw (← at_end bytes place (omega arith))
+  step_within (suc m) place h =
+      following_same place (next_of (reading_at bytes place)) (items_within m bytes) (items_within (suc m) bytes) (advances bytes place) (λ n f. same m (suc m) (place + n) (omega arith) (omega arith))
 
   -- the items from a place on, with no count
-  pub items-step : (place : ℕ) → itemsAt bytes place ≡ following place (nextOf (readingAt bytes place)) (itemsAt bytes)
-  unfolding itemsAt
-  items-step place = step-within (length bytes) place (omega arith)
+  pub items_step : (place : ℕ) → items_at bytes place ≡ following place (next_of (reading_at bytes place)) (items_at bytes)
+  unfolding items_at
+  items_step place = step_within (length bytes) place (omega arith)
 
   -- the same, by what stands at the place
-  pub items-by : (place : ℕ) (x : Next) → x ≡ nextOf (readingAt bytes place) → itemsAt bytes place ≡ following place x (itemsAt bytes)
-  items-by place x e = items-step place ∙ ap (λ (y : Next). following place y (itemsAt bytes)) (sym e)
+  pub items_by : (place : ℕ) (x : Next) → x ≡ next_of (reading_at bytes place) → items_at bytes place ≡ following place x (items_at bytes)
+  items_by place x e = items_step place ∙ ap (λ (y : Next). following place y (items_at bytes)) (sym e)
 
 -- ---- the leading cells
 
@@ -143,9 +143,9 @@ closed place (next.Refused number) f h = record { values = refl; classes = refl;
 
 -- the first n of vs and ks are the cells of the items before the place
 pub record Leads (input vs ks : List ℕ) (n place : ℕ) : Type 0 where
-  pub cells : values (itemsAt input 0) ≡ take n vs ++ values (itemsAt input place)
-  pub kinds : classes (itemsAt input 0) ≡ take n ks ++ classes (itemsAt input place)
-  pub rest : later (itemsAt input 0) ≡ later (itemsAt input place)
+  pub cells : values (items_at input 0) ≡ take n vs ++ values (items_at input place)
+  pub kinds : classes (items_at input 0) ≡ take n ks ++ classes (items_at input place)
+  pub rest : later (items_at input 0) ≡ later (items_at input place)
 
 pub none_yet : (input vs ks : List ℕ) → Leads input vs ks 0 0
 none_yet input vs ks = record { cells = refl; kinds = refl; rest = refl }
@@ -154,7 +154,7 @@ more : (all xs ys : List ℕ) (n x : ℕ) → n < length xs → all ≡ take n x
 more all xs ys n x h e =
     e ∙ rw (add-one, take-suc-set xs n x h) (sym (append_assoc (take n xs) (x ∷ []) ys))
 
-module _ (input vs ks : List ℕ) (n place class value m : ℕ) (so_far : Leads input vs ks n place) (here : itemsAt input place ≡ cell place class value ∷ itemsAt input (place + m)) where
+module _ (input vs ks : List ℕ) (n place class value m : ℕ) (so_far : Leads input vs ks n place) (here : items_at input place ≡ cell place class value ∷ items_at input (place + m)) where
   -- one cell more
   pub one_more : n < length vs → n < length ks → Leads input (set vs n value) (set ks n class) (n + 1) (place + m)
   unfolding values classes later
@@ -166,14 +166,14 @@ module _ (input vs ks : List ℕ) (n place class value m : ℕ) (so_far : Leads 
       }
 
   -- one cell too many
-  pub too_many : n ≡ 1024 → n ≤ length vs → 1025 ≤ length (values (itemsAt input 0))
+  pub too_many : n ≡ 1024 → n ≤ length vs → 1025 ≤ length (values (items_at input 0))
   unfolding values
   too_many e h =
       let all = ap length (so_far.cells ∙ ap (λ (r : List Item). take n vs ++ values r) here) in
       omega (arith, simp length-append at all, length-take-le n vs h)
 
 -- the field at the place closes them
-pub closes : (input vs ks : List ℕ) (n place : ℕ) → Leads input vs ks n place → Closed (itemsAt input place) → n ≤ 1024 → place ≤ length input → Leading input vs ks n place
+pub closes : (input vs ks : List ℕ) (n place : ℕ) → Leads input vs ks n place → Closed (items_at input place) → n ≤ 1024 → place ≤ length input → Leading input vs ks n place
 closes input vs ks n place l d h i =
     record {
       cells = l.cells ∙ ap (λ (r : List ℕ). take n vs ++ r) d.values ∙ append-nil (take n vs);

@@ -5,28 +5,28 @@ use Rattle.field.specs.declared.Kind.TheVariants as kind
 use Rattle.field.specs.declared.Call.{Call as Numbers}
 use Rattle.field.specs.declared.Reading.{Reading}
 use Rattle.field.specs.declared.Reading.TheVariants as reading
-use Rattle.field.specs.Field.{readingAt}
+use Rattle.field.specs.Field.{reading_at}
 use Rattle.records.specs.declared.Call.{Call}
 use Rattle.records.specs.declared.Call.TheVariants as call
-use Rattle.model.specs.History.{Action, oneCall}
+use Rattle.model.specs.History.{Action, one_call}
 use Rattle.items.specs.declared.Next.{Next}
 use Rattle.items.specs.declared.Next.TheVariants as next
 
 -- what a field is to the replay, with its length
-unfoldable pub nextOfField : Kind → Numbers → ℕ → Next
-nextOfField kind.Begin x n = next.Call (call.Begin x.session) n
-nextOfField kind.Read x n = next.Call (call.Read x.session x.cell) n
-nextOfField kind.Write x n = next.Call (call.Write x.session x.cell x.value) n
-nextOfField kind.Seal x n = next.Call (call.Seal x.session) n
-nextOfField kind.Advance x n = next.Call (call.Advance x.session) n
-nextOfField kind.Abandon x n = next.Call (call.Abandon x.session) n
-nextOfField kind.StartingCell x n = next.Cell x.class x.value n
-nextOfField kind.Hold x n = next.Call (call.Hold x.session x.cell) n
+unfoldable pub next_of_field : Kind → Numbers → ℕ → Next
+next_of_field kind.Begin x n = next.Call (call.Begin x.session) n
+next_of_field kind.Read x n = next.Call (call.Read x.session x.cell) n
+next_of_field kind.Write x n = next.Call (call.Write x.session x.cell x.value) n
+next_of_field kind.Seal x n = next.Call (call.Seal x.session) n
+next_of_field kind.Advance x n = next.Call (call.Advance x.session) n
+next_of_field kind.Abandon x n = next.Call (call.Abandon x.session) n
+next_of_field kind.StartingCell x n = next.Cell x.class x.value n
+next_of_field kind.Hold x n = next.Call (call.Hold x.session x.cell) n
 
-unfoldable pub nextOf : Reading → Next
-nextOf (reading.Field k x n) = nextOfField k x n
-nextOf reading.End = next.End
-nextOf (reading.Refused number place) = next.Refused number
+unfoldable pub next_of : Reading → Next
+next_of (reading.Field k x n) = next_of_field k x n
+next_of reading.End = next.End
+next_of (reading.Refused number place) = next.Refused number
 
 -- an item: a starting cell with its place, class and value; a call; a refused field with its place and number
 pub data Item : Type 0 where
@@ -41,13 +41,13 @@ following place (next.Call k n) from = asked k ∷ from (place + n)
 following place next.End from = []
 following place (next.Refused number) from = refused place number ∷ []
 
-unfoldable pub itemsWithin : ℕ → List ℕ → ℕ → List Item
-itemsWithin zero bytes place = []
-itemsWithin (suc more) bytes place = following place (nextOf (readingAt bytes place)) (itemsWithin more bytes)
+unfoldable pub items_within : ℕ → List ℕ → ℕ → List Item
+items_within zero bytes place = []
+items_within (suc more) bytes place = following place (next_of (reading_at bytes place)) (items_within more bytes)
 
 -- there are not more items than bytes (proofs/Scanning.antt: items-step)
-unfoldable pub itemsAt : List ℕ → ℕ → List Item
-itemsAt bytes place = itemsWithin (length bytes) bytes place
+unfoldable pub items_at : List ℕ → ℕ → List Item
+items_at bytes place = items_within (length bytes) bytes place
 
 -- ---- the leading starting cells, and the items after them
 
@@ -74,5 +74,5 @@ later (refused place number ∷ items) = refused place number ∷ items
 unfoldable pub calls : List Item → List Action
 calls [] = []
 calls (cell place class value ∷ items) = []
-calls (asked k ∷ items) = oneCall k ∷ calls items
+calls (asked k ∷ items) = one_call k ∷ calls items
 calls (refused place number ∷ items) = []

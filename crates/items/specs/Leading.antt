@@ -2,16 +2,16 @@
 use Rattle.std.specs.Prelude.{ℕ, ◌≤◌, ◌≡◌, List, length, take}
 use Rattle.items.specs.declared.Cells.{Cells}
 use Rattle.items.specs.declared.Cells.TheVariants.{Found, TooMany}
-use Rattle.items.specs.Items.{itemsAt, values, classes, later}
+use Rattle.items.specs.Items.{items_at, values, classes, later}
 
 -- the leading cells of the input, at the front of vs and ks, and the place of the field that closes them; or more than 1,024
 pub record Leading (input vs ks : List ℕ) (n place : ℕ) : Type 0 where
-  pub cells : values (itemsAt input 0) ≡ take n vs
-  pub kinds : classes (itemsAt input 0) ≡ take n ks
-  pub closed : later (itemsAt input 0) ≡ itemsAt input place
+  pub cells : values (items_at input 0) ≡ take n vs
+  pub kinds : classes (items_at input 0) ≡ take n ks
+  pub closed : later (items_at input 0) ≡ items_at input place
   pub few : n ≤ 1024
   pub inside : place ≤ length input
 
 abbrev pub ReadCells : List ℕ → List ℕ → List ℕ → Cells → Type 0
 ReadCells input vs ks (Found n place) = Leading input vs ks n place
-ReadCells input vs ks TooMany = 1025 ≤ length (values (itemsAt input 0))
+ReadCells input vs ks TooMany = 1025 ≤ length (values (items_at input 0))

@@ -1,7 +1,7 @@
 // The replay's input (document 01, "Call fields"): what stands at a place of it, and the starting cells that lead it.
 ghost use Rattle.std.specs.Prelude.{◌≡◌, ◌+◌, ◌≤◌, length};
-ghost use Rattle.field.specs.Field.{readingAt};
-ghost use Rattle.items.specs.Items.{nextOfField, nextOf};
+ghost use Rattle.field.specs.Field.{reading_at};
+ghost use Rattle.items.specs.Items.{next_of_field, next_of};
 ghost use Rattle.items.specs.Leading.{ReadCells};
 
 use field::{Kind, Reading};
@@ -34,7 +34,7 @@ pub enum Cells {
 
 // What a field is to the replay.
 fn next_of(kind: Kind, numbers: field::Call, length: usize) -> Next
-    ensures { result ≡ nextOfField kind numbers length }
+    ensures { result ≡ next_of_field kind numbers length }
 {
     let session = numbers.session;
     let cell = numbers.cell as u32;
@@ -77,7 +77,7 @@ fn next_of(kind: Kind, numbers: field::Call, length: usize) -> Next
 
 // What stands at a place of the input.
 pub fn next_at(input: &[u8], place: usize) -> Next
-    ensures { result ≡ nextOf (readingAt input.now place) }
+    ensures { result ≡ next_of (reading_at input.now place) }
 {
     match field::read_field(input, place) {
         Reading::Field { kind, call, length } => next_of(kind, call, length),

@@ -4,7 +4,7 @@ use Rattle.std.proofs.lemmas.List.Edits.{sets}
 use Rattle.model.specs.Slices.{Slice}
 use Rattle.items.specs.declared.Next.{Next}
 use Rattle.items.specs.declared.Next.TheVariants as next
-use Rattle.replay_text.specs.Lines.{fieldLine}
+use Rattle.replay_text.specs.Lines.{field_line}
 
 -- ---- one text
 
@@ -27,8 +27,8 @@ Puts output at text m r = (out r output.exit.now ≡ put output.entry.now at tex
 -- ---- what ends the calls
 
 -- the line of what stands at a place, where it is no call
-unfoldable pub stopLine : ℕ → Next → List ℕ
-stopLine place (next.Cell class value n) = fieldLine place 11
-stopLine place (next.Call k n) = []
-stopLine place next.End = []
-stopLine place (next.Refused number) = fieldLine place number
+unfoldable pub stop_line : ℕ → Next → List ℕ
+stop_line place (next.Cell class value n) = field_line place 11
+stop_line place (next.Call k n) = []
+stop_line place next.End = []
+stop_line place (next.Refused number) = field_line place number

@@ -1,8 +1,8 @@
 // The replay's output (document 01, "Call fields"): its lines. Each writer puts a text at a place of the output and answers the place after it.
 ghost use Rattle.std.specs.Prelude.{◌≡◌, ◌∷◌, [], ◌++◌, ◌+◌, ◌*◌, ◌≤◌, ◌<◌, length};
 ghost use Rattle.replay_text.specs.Decimal.{decimal};
-ghost use Rattle.replay_text.specs.Lines.{word, space, newline, sizeLine, setUpLine, fieldLine, cellLine, answerLine, cellLines};
-ghost use Rattle.lines.specs.Output.{out, put, Puts, stopLine};
+ghost use Rattle.replay_text.specs.Lines.{word, space, newline, size_line, set_up_line, field_line, cell_line, answer_line, cell_lines};
+ghost use Rattle.lines.specs.Output.{out, put, Puts, stop_line};
 
 use items::Next;
 use records::Answer;
@@ -65,7 +65,7 @@ fn put_text(output: &mut [u8], at: usize, text: &[u8]) -> usize
 // size
 pub fn put_size(output: &mut [u8], at: usize) -> usize
     requires { at + 5 ≤ length output.old }
-    ensures { Puts output at sizeLine 5 result }
+    ensures { Puts output at size_line 5 result }
 {
     put_text(output, at, b"size\n")
 }
@@ -73,7 +73,7 @@ pub fn put_size(output: &mut [u8], at: usize) -> usize
 // setup N
 pub fn put_set_up(output: &mut [u8], at: usize, n: u8) -> usize
     requires { at + 10 ≤ length output.old }
-    ensures { Puts output at (setUpLine n) 10 result }
+    ensures { Puts output at (set_up_line n) 10 result }
 {
     let a = put_text(output, at, b"setup ");
     put_word(output, a, n as u32, NEWLINE)
@@ -82,7 +82,7 @@ pub fn put_set_up(output: &mut [u8], at: usize, n: u8) -> usize
 // field PLACE N
 fn put_field(output: &mut [u8], at: usize, place: u32, n: u8) -> usize
     requires { (place < 100000) × (at + 16 ≤ length output.old) }
-    ensures { Puts output at (fieldLine place n) 16 result }
+    ensures { Puts output at (field_line place n) 16 result }
 {
     let a = put_text(output, at, b"field ");
     put_pair(output, a, place, n as u32, NEWLINE)
@@ -91,7 +91,7 @@ fn put_field(output: &mut [u8], at: usize, place: u32, n: u8) -> usize
 // The line of what ends the calls; none where the input ends.
 fn put_stop(output: &mut [u8], at: usize, place: usize, next: Next) -> usize
     requires { (place < 100000) × (at + 16 ≤ length output.old) }
-    ensures { Puts output at (stopLine place next) 16 result }
+    ensures { Puts output at (stop_line place next) 16 result }
 {
     match next {
         Next::Refused { number } => put_field(output, at, place as u32, number),
@@ -117,7 +117,7 @@ fn put_told(output: &mut [u8], at: usize, ordinal: u32, number: u32, value: u32)
 // ORDINAL N, and after 101 and 104 the value
 pub fn put_answer(output: &mut [u8], at: usize, ordinal: u32, answer: Answer) -> usize
     requires { (ordinal < 100000) × (at + 21 ≤ length output.old) }
-    ensures { Puts output at (answerLine ordinal answer) 21 result }
+    ensures { Puts output at (answer_line ordinal answer) 21 result }
 {
     let n = answer.number() as u32;
     match answer {
@@ -130,7 +130,7 @@ pub fn put_answer(output: &mut [u8], at: usize, ordinal: u32, answer: Answer) ->
 // c CELL VALUE
 fn put_cell(output: &mut [u8], at: usize, cell: u32, value: u32) -> usize
     requires { (cell < 10000) × (at + 18 ≤ length output.old) }
-    ensures { out result output.new ≡ put output.old at (cellLine cell value) }
+    ensures { out result output.new ≡ put output.old at (cell_line cell value) }
 {
     let a = put_text(output, at, b"c ");
     put_pair(output, a, cell, value, NEWLINE)
@@ -139,7 +139,7 @@ fn put_cell(output: &mut [u8], at: usize, cell: u32, value: u32) -> usize
 // A line for each cell.
 fn put_cells(output: &mut [u8], at: usize, values: &[u32]) -> usize
     requires { (length values.now ≤ 1024) × (at + 18 * length values.now ≤ length output.old) }
-    ensures { Puts output at (cellLines 0 values.now) (18 * length values.now) result }
+    ensures { Puts output at (cell_lines 0 values.now) (18 * length values.now) result }
 {
     let mut end = at;
     let mut i = 0;
@@ -153,7 +153,7 @@ fn put_cells(output: &mut [u8], at: usize, values: &[u32]) -> usize
 // The line of what ends the calls, then the cells.
 pub fn put_end(output: &mut [u8], at: usize, place: usize, next: Next, values: &[u32]) -> usize
     requires { (place < 100000) × (length values.now ≤ 1024) × (at + 18448 ≤ length output.old) }
-    ensures { Puts output at (stopLine place next ++ cellLines 0 values.now) 18448 result }
+    ensures { Puts output at (stop_line place next ++ cell_lines 0 values.now) 18448 result }
 {
     let end = put_stop(output, at, place, next);
     put_cells(output, end, values)

@@ -38,9 +38,9 @@ read_all all bytes i w whole some h =
     ap (number_at bytes i) e ∙ ap (λ (j : ℕ). number_at bytes j all) (sym (add-zero i)) ∙ written_out bytes i 0 all (omega arith)
 
 -- Writing a number: without bytes it changes nothing, else it stores all of its bytes.
-pub write-none : (target : List ℕ) (i w x : ℕ) → w ≡ 0 → target ≡ sets target i (bytes_of w x)
+pub write_none : (target : List ℕ) (i w x : ℕ) → w ≡ 0 → target ≡ sets target i (bytes_of w x)
 unfolding bytes_of
-write-none target i w x e = rw e
+write_none target i w x e = rw e
 
-pub write-all : (all : ℕ) (target : List ℕ) (i w x : ℕ) → Whole all w → (w ≡ 0 → ⊥) → sets target i (bytes_of all x) ≡ sets target i (bytes_of w x)
-write-all all target i w x whole some = ap (λ (n : ℕ). sets target i (bytes_of n x)) (sym (all_of all w whole some))
+pub write_all : (all : ℕ) (target : List ℕ) (i w x : ℕ) → Whole all w → (w ≡ 0 → ⊥) → sets target i (bytes_of all x) ≡ sets target i (bytes_of w x)
+write_all all target i w x whole some = ap (λ (n : ℕ). sets target i (bytes_of n x)) (sym (all_of all w whole some))

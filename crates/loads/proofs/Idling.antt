@@ -5,26 +5,26 @@ use mathlib.Core.Bool.{true, false}
 use native.Mathlib.Numerals.{add-one}
 use native.Mathlib.Omega.{arith}
 use borrow.Author.Tests.{eq-eqb, ne_eqb}
-use Rattle.model.specs.Buffers.{sessionAt}
-use Rattle.model.specs.Load.{idleBelow, allIdle}
+use Rattle.model.specs.Buffers.{session_at}
+use Rattle.model.specs.Load.{idle_below, all_idle}
 use Rattle.records.specs.declared.Sessions.{Sessions}
 use Rattle.model.proofs.Tools.{same, and-false}
 
 module _ (ss : Sessions) where
-  pub idle-on : (i : ℕ) → idleBelow i ss ≡ true → (sessionAt ss i).phase ≡ 0 → idleBelow (i + 1) ss ≡ true
-  unfolding idleBelow
-  idle-on i e q = rw (add-one, e, eq-eqb (sessionAt ss i).phase 0 q)
+  pub idle_on : (i : ℕ) → idle_below i ss ≡ true → (session_at ss i).phase ≡ 0 → idle_below (i + 1) ss ≡ true
+  unfolding idle_below
+  idle_on i e q = rw (add-one, e, eq-eqb (session_at ss i).phase 0 q)
 
   -- one that is not idle is among the first m
-  not-below : (i : ℕ) → ((sessionAt ss i).phase ≡ 0 → ⊥) → (m : ℕ) → i < m → false ≡ idleBelow m ss
-  unfolding idleBelow
-  not-below i q (suc m) l =
-      same i m (λ e. rw (← e, ne_eqb (sessionAt ss i).phase 0 q, and-false)) (λ n. rw (← not-below i q m (omega arith)))
+  not_below : (i : ℕ) → ((session_at ss i).phase ≡ 0 → ⊥) → (m : ℕ) → i < m → false ≡ idle_below m ss
+  unfolding idle_below
+  not_below i q (suc m) l =
+      same i m (λ e. rw (← e, ne_eqb (session_at ss i).phase 0 q, and-false)) (λ n. rw (← not_below i q m (omega arith)))
 
-  pub idle-fails : (i : ℕ) → i < 16 → ((sessionAt ss i).phase ≡ 0 → ⊥) → false ≡ allIdle ss
-  unfolding allIdle
-  idle-fails i l q = not-below i q 16 l
+  pub idle_fails : (i : ℕ) → i < 16 → ((session_at ss i).phase ≡ 0 → ⊥) → false ≡ all_idle ss
+  unfolding all_idle
+  idle_fails i l q = not_below i q 16 l
 
-  pub idle-end : idleBelow 16 ss ≡ true → true ≡ allIdle ss
-  unfolding allIdle
-  idle-end e = rw e
+  pub idle_end : idle_below 16 ss ≡ true → true ≡ all_idle ss
+  unfolding all_idle
+  idle_end e = rw e

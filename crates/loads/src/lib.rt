@@ -1,13 +1,13 @@
 // A table of caps loaded in the place of the one in force (document 02, Paper 5): one function for every form of the locks, told the lengths of locks and logs.
 ghost use Rattle.std.specs.Prelude.{◌≡◌, length};
-ghost use Rattle.model.specs.Load.{allIdle};
-ghost use Rattle.loads.specs.Loads.{tableRefusal, LoadsCaps};
+ghost use Rattle.model.specs.Load.{all_idle};
+ghost use Rattle.loads.specs.Loads.{table_refusal, LoadsCaps};
 
 use records::{Answer, Sessions};
 
 // Whether every session is idle.
 pub fn are_idle(sessions: Sessions) -> bool
-    ensures { result ≡ allIdle sessions }
+    ensures { result ≡ all_idle sessions }
 {
     let mut i = 0;
     while i < 16 {
@@ -23,7 +23,7 @@ pub fn are_idle(sessions: Sessions) -> bool
 // Refusals 2, 16, 8 and 17, or 0.
 fn table_refusal(sessions: Sessions, values: &[u32], classes: &[u8], table: &[u32]) -> u8
     requires { (length table.now ≡ 16) × (length classes.now ≡ length values.now) }
-    ensures { result ≡ tableRefusal table.now sessions values.now classes.now }
+    ensures { result ≡ table_refusal table.now sessions values.now classes.now }
 {
     if !are_idle(sessions) {
         return 2;

@@ -16,21 +16,21 @@ use Rattle.model.specs.Readers.{odd, member, assign}
 pub shifted : (w s : ℕ) → s < w → 1 * 2 ^ s % 2 ^ w ≡ 2 ^ s
 shifted w s h = ap (λ (n : ℕ). n % 2 ^ w) (one-mul (2 ^ s)) ∙ mod-eq_of_lt (pow-lt {i = s} {j = w} h)
 
-pub or-joins : (s x : ℕ) → bit_or x (2 ^ s) ≡ assign x s true
+pub or_joins : (s x : ℕ) → bit_or x (2 ^ s) ≡ assign x s true
 unfolding assign
-or-joins zero x =
+or_joins zero x =
     let b : max (x % 2) 1 ≡ 1 = omega arith in
     or_step x 1 ∙ ap₂ (λ (m n : ℕ). m * 2 + n) (or_zero_r (x / 2)) b
-or-joins (suc s) x =
+or_joins (suc s) x =
     let p = pow-suc 2 s in
     let h : 2 ^ suc s / 2 ≡ 2 ^ s = omega arith in
     let b : max (x % 2) (2 ^ suc s % 2) ≡ x % 2 = omega arith in
-    or_step x (2 ^ suc s) ∙ ap₂ (λ (m n : ℕ). m * 2 + n) (ap (bit_or (x / 2)) h ∙ or-joins s (x / 2)) b
+    or_step x (2 ^ suc s) ∙ ap₂ (λ (m n : ℕ). m * 2 + n) (ap (bit_or (x / 2)) h ∙ or_joins s (x / 2)) b
 
-pub and-leaves : (w s x : ℕ) → s < w → x < 2 ^ w → bit_and x (2 ^ w - 1 - 2 ^ s) ≡ assign x s false
+pub and_leaves : (w s x : ℕ) → s < w → x < 2 ^ w → bit_and x (2 ^ w - 1 - 2 ^ s) ≡ assign x s false
 unfolding assign
-and-leaves zero s x l h = absurd (omega arith)
-and-leaves (suc w) zero x l h =
+and_leaves zero s x l h = absurd (omega arith)
+and_leaves (suc w) zero x l h =
     let p = pow-suc 2 w in
     let q = pow_pos w in
     let m = 2 ^ suc w - 1 - 2 ^ 0 in
@@ -38,22 +38,22 @@ and-leaves (suc w) zero x l h =
     let b : min (x % 2) (m % 2) ≡ 0 = omega arith in
     let k : x / 2 < 2 ^ w = omega arith in
     and_step x m ∙ ap₂ (λ (m n : ℕ). m * 2 + n) (ap (bit_and (x / 2)) d ∙ and_mask (x / 2) w ∙ mod-eq_of_lt k) b
-and-leaves (suc w) (suc s) x l h =
+and_leaves (suc w) (suc s) x l h =
     let p = pow-suc 2 w in
     let q = pow-suc 2 s in
     let r = pow-lt {i = s} {j = w} (omega arith) in
     let m = 2 ^ suc w - 1 - 2 ^ suc s in
     let d : m / 2 ≡ 2 ^ w - 1 - 2 ^ s = omega arith in
     let b : min (x % 2) (m % 2) ≡ x % 2 = omega arith in
-    and_step x m ∙ ap₂ (λ (m n : ℕ). m * 2 + n) (ap (bit_and (x / 2)) d ∙ and-leaves w s (x / 2) (omega arith) (omega arith)) b
+    and_step x m ∙ ap₂ (λ (m n : ℕ). m * 2 + n) (ap (bit_and (x / 2)) d ∙ and_leaves w s (x / 2) (omega arith) (omega arith)) b
 
-pub shift-tells : (s x : ℕ) → eqb (x / 2 ^ s % 2) 1 ≡ member x s
+pub shift_tells : (s x : ℕ) → eqb (x / 2 ^ s % 2) 1 ≡ member x s
 unfolding member odd
-shift-tells zero x = let e : x / 1 ≡ x = omega arith in rw e
-shift-tells (suc s) x =
+shift_tells zero x = let e : x / 1 ≡ x = omega arith in rw e
+shift_tells (suc s) x =
     let e : 1 + s ≡ suc s = omega arith in
     let f : x / 2 ^ suc s ≡ x / 2 / 2 ^ s = sym (shr-shr x 1 s ∙ ap (λ (n : ℕ). x / 2 ^ n) e) in
-    rw f (shift-tells s (x / 2))
+    rw f (shift_tells s (x / 2))
 
 -- the empty set
 pub no_member : (s : ℕ) → member 0 s ≡ false

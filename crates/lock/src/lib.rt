@@ -1,6 +1,6 @@
 // One lock by value, and its reader set (document 01, "What the caller lends", Locks): whatever way locks are kept, they change by these.
 ghost use Rattle.std.specs.Prelude.{◌≡◌, ◌<◌, eqb};
-ghost use Rattle.model.specs.Readers.{withReader, withoutReader, otherReaders};
+ghost use Rattle.model.specs.Readers.{with_reader, without_reader, other_readers};
 ghost use Rattle.model.specs.Buffers.{join, leave, vacate, withdraw, claim, acquire};
 ghost use Rattle.model.specs.Plans.{claimed};
 
@@ -11,7 +11,7 @@ use records::Lock;
 // A session joins the readers.
 pub fn with_reader(readers: u16, session: u8) -> u16
     requires { session < 16 }
-    ensures { result ≡ withReader session readers }
+    ensures { result ≡ with_reader session readers }
 {
     readers | (1u16 << session)
 }
@@ -19,7 +19,7 @@ pub fn with_reader(readers: u16, session: u8) -> u16
 // A session leaves the readers.
 pub fn without_reader(readers: u16, session: u8) -> u16
     requires { session < 16 }
-    ensures { result ≡ withoutReader session readers }
+    ensures { result ≡ without_reader session readers }
 {
     readers & !(1u16 << session)
 }
@@ -27,7 +27,7 @@ pub fn without_reader(readers: u16, session: u8) -> u16
 // No other session reads: of the set with the session's own bit put in, one means this session alone.
 pub fn alone(readers: u16, session: u8) -> bool
     requires { session < 16 }
-    ensures { result ≡ eqb (otherReaders session readers) 0 }
+    ensures { result ≡ eqb (other_readers session readers) 0 }
 {
     let set = with_reader(readers, session);
     u16::count_ones(set) == 1
@@ -36,7 +36,7 @@ pub fn alone(readers: u16, session: u8) -> bool
 // How many other sessions read: the ones of that same set, less this session.
 pub fn others(readers: u16, session: u8) -> u32
     requires { session < 16 }
-    ensures { result ≡ otherReaders session readers }
+    ensures { result ≡ other_readers session readers }
 {
     let set = with_reader(readers, session);
     u16::count_ones(set) - 1

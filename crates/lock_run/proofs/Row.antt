@@ -52,38 +52,38 @@ module _ {M : Type 1} {𝓤 : Ura M} (𝓛 : Logic 𝓤) where
     typed d p = ((LL.lawful T.the_type T'.the_laws 𝓛).typed d (vals d) p).0
 
 -- the empty lock is one
-pub free-is : Is R free (vals free)
-free-is = LL.owes T.the_type T'.the_laws free ((refl, lit< tt), ((refl, lit< tt), ((refl, lit< tt), tt)))
+pub free_is : Is R free (vals free)
+free_is = LL.owes T.the_type T'.the_laws free ((refl, lit< tt), ((refl, lit< tt), ((refl, lit< tt), tt)))
 
 -- an element below the length: its place in bytes fits
-pub place-fits : (c n : ℕ) → c < n → n * 4 < 2 ^ 63 → c * 4 < 2 ^ 64
-place-fits c n l r = omega (arith, l, r)
+pub place_fits : (c n : ℕ) → c < n → n * 4 < 2 ^ 63 → c * 4 < 2 ^ 64
+place_fits c n l r = omega (arith, l, r)
 
 -- ---- a change
 
 abbrev pub RC : RattleType
 RC = C.the_row
 
-abbrev pub low-c : Change → Val
-low-c = C'.lowered
+abbrev pub low_c : Change → Val
+low_c = C'.lowered
 
-pub tells-c : Tells RC (Is RC) (λ d. low-c d ∷ [])
-tells-c = (C'.lowers).val_is
+pub tells_c : Tells RC (Is RC) (λ d. low_c d ∷ [])
+tells_c = (C'.lowers).val_is
 
 module _ {M : Type 1} {𝓤 : Ura M} (𝓛 : Logic 𝓤) where
-  pub makes-c : Makes 𝓛 RC (Is RC)
-  makes-c = EL.makes C.the_type C'.the_plain 𝓛
+  pub makes_c : Makes 𝓛 RC (Is RC)
+  makes_c = EL.makes C.the_type C'.the_plain 𝓛
 
-  pub typed-c : (d : Change) (v : Val) → Is RC d (v ∷ []) → T (has_ty C'.mir v) × WT v
-  typed-c d v p = ((EL.lawful C.the_type C'.the_laws 𝓛 tt).typed d (v ∷ []) p).0
+  pub typed_c : (d : Change) (v : Val) → Is RC d (v ∷ []) → T (has_ty C'.mir v) × WT v
+  typed_c d v p = ((EL.lawful C.the_type C'.the_laws 𝓛 tt).typed d (v ∷ []) p).0
 
 -- a change that fits has a session that fits
-pub session-fits : (logs : List ℕ) (d : Change) → ChangeFits logs d → SessionFits d
-session-fits logs Keep ok = tt
-session-fits logs (Join s c) ok = ok
-session-fits logs (Claim s c) ok = ok
-session-fits logs (Acquire s c) ok = ok
-session-fits logs (Vacate s c) ok = ok
-session-fits logs (Withdraw s m) ok = ok.0
-session-fits logs (Leave s m) ok = ok.0
-session-fits logs (Clear n) ok = tt
+pub session_fits : (logs : List ℕ) (d : Change) → ChangeFits logs d → SessionFits d
+session_fits logs Keep ok = tt
+session_fits logs (Join s c) ok = ok
+session_fits logs (Claim s c) ok = ok
+session_fits logs (Acquire s c) ok = ok
+session_fits logs (Vacate s c) ok = ok
+session_fits logs (Withdraw s m) ok = ok.0
+session_fits logs (Leave s m) ok = ok.0
+session_fits logs (Clear n) ok = tt

@@ -1,13 +1,13 @@
 // The run of lock records that the caller lends (document 01, "What the caller lends", Locks): one lock read, one changed, and a change carried out.
 ghost use Rattle.std.specs.Prelude.{◌≡◌};
-ghost use Rattle.run_changes.specs.Run.{lockIn, changedAt, sweptBy, SessionFits, ChangeFits};
+ghost use Rattle.run_changes.specs.Run.{lock_in, changed_at, swept_by, SessionFits, ChangeFits};
 
 use records::Lock;
 use run_changes::Change;
 
 // The lock of a cell; past the last cell an empty one.
 pub fn lock_at(locks: &[Lock], cell: usize) -> Lock
-    ensures { result ≡ lockIn locks.now cell }
+    ensures { result ≡ lock_in locks.now cell }
 {
     if cell < locks.len() {
         locks[cell]
@@ -23,7 +23,7 @@ pub fn lock_at(locks: &[Lock], cell: usize) -> Lock
 // One lock changed; past the last cell nothing is.
 fn change_at(locks: &mut [Lock], cell: usize, change: Change)
     requires { SessionFits change }
-    ensures { locks.new ≡ changedAt change cell locks.old }
+    ensures { locks.new ≡ changed_at change cell locks.old }
 {
     if cell < locks.len() {
         locks[cell] = run_changes::changed(locks[cell], change);
@@ -33,7 +33,7 @@ fn change_at(locks: &mut [Lock], cell: usize, change: Change)
 // The change carried out, lock by lock.
 pub fn sweep<'a>(locks: &'a mut [Lock], logs: &'a [u32], change: Change)
     requires { ChangeFits logs.now change }
-    ensures { locks.new ≡ sweptBy logs.now change locks.old }
+    ensures { locks.new ≡ swept_by logs.now change locks.old }
 {
     let n = run_changes::count_of(change);
     let mut i = 0;

@@ -6,50 +6,50 @@ use lib.ListN.{get_or, set}
 use lib.Seq.{set-get_or}
 use types.Run.{OneOf, miss}
 use denote.Enum.Declared.{tag_of}
-use Rattle.model.specs.Buffers.{Locks, lockAt, setLock, onLock, join, claim, acquire, vacate}
-use Rattle.model.specs.Effects.{rolledBack, readsDropped}
-use Rattle.model.specs.Readers.{withReader, withoutReader}
+use Rattle.model.specs.Buffers.{Locks, lock_at, set_lock, on_lock, join, claim, acquire, vacate}
+use Rattle.model.specs.Effects.{rolled_back, reads_dropped}
+use Rattle.model.specs.Readers.{with_reader, without_reader}
 use Rattle.model.specs.Turns.{changed}
 use Rattle.records.specs.declared.Lock.{Lock}
 use Rattle.records.specs.declared.Plan.{Plan}
 use Rattle.records.specs.declared.Plan.TheVariants.{Enter, EnterUpdate, EnterMark}
 use Rattle.records.specs.declared.Change.{Change}
 use Rattle.records.specs.declared.Change.TheVariants.{Keep, Join, Claim, Acquire, Vacate, Withdraw, DropReads}
-use Rattle.contracts.specs.Lent.{locksOf}
+use Rattle.contracts.specs.Lent.{locks_of}
 use Rattle.sweeps.specs.Sweeps.{Swept, DropsReads}
-use Rattle.locks.specs.Changes.{LockFor, one_of, withdrawOf, dropOf, ChangeFits, DropsIf}
+use Rattle.locks.specs.Changes.{LockFor, one_of, withdraw_of, drop_of, ChangeFits, DropsIf}
 use Rattle.records.specs.contracts.Change as change
 use Rattle.records.proofs.Tags.{Passed, passed, clashes}
 
 -- ---- the lock of a plan
 
 module _ (p : Plan) (L : Locks) (l : Lock) where
-  pub for-enter : (c : ℕ) → p ≡ Enter c → l ≡ lockAt L c → LockFor p L l
-  for-enter c e f =
+  pub for_enter : (c : ℕ) → p ≡ Enter c → l ≡ lock_at L c → LockFor p L l
+  for_enter c e f =
       record {
         enters = λ d g. let q : c ≡ d = cc in rw q at f;
         updates = λ d v g. absurd (clashes p (Enter c) (EnterUpdate d v) tt e g);
         marks = λ d g. absurd (clashes p (Enter c) (EnterMark d) tt e g);
       }
 
-  pub for-update : (c v : ℕ) → p ≡ EnterUpdate c v → l ≡ lockAt L c → LockFor p L l
-  for-update c v e f =
+  pub for_update : (c v : ℕ) → p ≡ EnterUpdate c v → l ≡ lock_at L c → LockFor p L l
+  for_update c v e f =
       record {
         enters = λ d g. absurd (clashes p (EnterUpdate c v) (Enter d) tt e g);
         updates = λ d w g. let q : c ≡ d = cc in rw q at f;
         marks = λ d g. absurd (clashes p (EnterUpdate c v) (EnterMark d) tt e g);
       }
 
-  pub for-mark : (c : ℕ) → p ≡ EnterMark c → l ≡ lockAt L c → LockFor p L l
-  for-mark c e f =
+  pub for_mark : (c : ℕ) → p ≡ EnterMark c → l ≡ lock_at L c → LockFor p L l
+  for_mark c e f =
       record {
         enters = λ d g. absurd (clashes p (EnterMark c) (Enter d) tt e g);
         updates = λ d w g. absurd (clashes p (EnterMark c) (EnterUpdate d w) tt e g);
         marks = λ d g. let q : c ≡ d = cc in rw q at f;
       }
 
-  pub for-none : Passed 3 p → Passed 5 p → Passed 17 p → LockFor p L l
-  for-none a b m =
+  pub for_none : Passed 3 p → Passed 5 p → Passed 17 p → LockFor p L l
+  for_none a b m =
       record {
         enters = λ c e. absurd (passed 3 p (Enter c) tt e a);
         updates = λ c v e. absurd (passed 5 p (EnterUpdate c v) tt e b);
@@ -60,8 +60,8 @@ module _ (p : Plan) (L : Locks) (l : Lock) where
 
 -- one after the other they carry the change out
 pub in_three : (d : Change) (log : List ℕ) (m s : ℕ) (L : Locks)
-    → changed (dropOf d) log m s (changed (withdrawOf d) log m s (changed (one_of d) [] 0 s L)) ≡ changed d log m s L
-unfolding changed one_of withdrawOf dropOf
+    → changed (drop_of d) log m s (changed (withdraw_of d) log m s (changed (one_of d) [] 0 s L)) ≡ changed d log m s L
+unfolding changed one_of withdraw_of drop_of
 in_three Keep log m s L = refl
 in_three (Join c) log m s L = refl
 in_three (Claim c) log m s L = refl
@@ -71,84 +71,84 @@ in_three Withdraw log m s L = refl
 in_three DropReads log m s L = refl
 
 -- so the first two carry it out but for the third
-pub in_two : (d : Change) (log : List ℕ) (m s : ℕ) (L M N : Locks) → M ≡ changed (one_of d) [] 0 s L → N ≡ changed (withdrawOf d) log m s M
-    → changed (dropOf d) log m s N ≡ changed d log m s L
+pub in_two : (d : Change) (log : List ℕ) (m s : ℕ) (L M N : Locks) → M ≡ changed (one_of d) [] 0 s L → N ≡ changed (withdraw_of d) log m s M
+    → changed (drop_of d) log m s N ≡ changed d log m s L
 in_two d log m s L M N f g = rw (g, f) (in_three d log m s L)
 
 -- a change of one cell asks no more than the change
-pub one-fits : (d : Change) (s : ℕ) (log : List ℕ) (m n : ℕ) → ChangeFits d s log m n → ChangeFits (one_of d) s [] 0 n
+pub one_fits : (d : Change) (s : ℕ) (log : List ℕ) (m n : ℕ) → ChangeFits d s log m n → ChangeFits (one_of d) s [] 0 n
 unfolding ChangeFits one_of
-one-fits Keep s log m n f = tt
-one-fits (Join c) s log m n f = f
-one-fits (Claim c) s log m n f = f
-one-fits (Acquire c) s log m n f = f
-one-fits (Vacate c) s log m n f = f
-one-fits Withdraw s log m n f = tt
-one-fits DropReads s log m n f = tt
+one_fits Keep s log m n f = tt
+one_fits (Join c) s log m n f = f
+one_fits (Claim c) s log m n f = f
+one_fits (Acquire c) s log m n f = f
+one_fits (Vacate c) s log m n f = f
+one_fits Withdraw s log m n f = tt
+one_fits DropReads s log m n f = tt
 
 -- ---- what a change asks
 
 module _ (d : Change) (s n : ℕ) (a : ChangeFits (one_of d) s [] 0 n) {c : ℕ} where
-  pub asks-join : d ≡ Join c → c < n
+  pub asks_join : d ≡ Join c → c < n
   unfolding ChangeFits one_of
-  asks-join e = rw e at a
+  asks_join e = rw e at a
 
-  pub asks-claim : d ≡ Claim c → c < n
+  pub asks_claim : d ≡ Claim c → c < n
   unfolding ChangeFits one_of
-  asks-claim e = rw e at a
+  asks_claim e = rw e at a
 
-  pub asks-acquire : d ≡ Acquire c → c < n
+  pub asks_acquire : d ≡ Acquire c → c < n
   unfolding ChangeFits one_of
-  asks-acquire e = rw e at a
+  asks_acquire e = rw e at a
 
-  pub asks-vacate : d ≡ Vacate c → c < n
+  pub asks_vacate : d ≡ Vacate c → c < n
   unfolding ChangeFits one_of
-  asks-vacate e = rw e at a
+  asks_vacate e = rw e at a
 
 module _ (d : Change) (s : ℕ) (log : List ℕ) (m n : ℕ) (a : ChangeFits d s log m n) where
-  pub asks-withdraw : d ≡ Withdraw → Swept s log m n
+  pub asks_withdraw : d ≡ Withdraw → Swept s log m n
   unfolding ChangeFits
-  asks-withdraw e = rw e at a
+  asks_withdraw e = rw e at a
 
-  pub asks-drop : d ≡ DropReads → Swept s log m n × (n ≤ 1024)
+  pub asks_drop : d ≡ DropReads → Swept s log m n × (n ≤ 1024)
   unfolding ChangeFits
-  asks-drop e = rw e at a
+  asks_drop e = rw e at a
 
 -- ---- what each way leaves
 
 module _ (d : Change) (s : ℕ) (R C E : List ℕ) where
-  pub keeps : d ≡ Keep → locksOf R C E ≡ changed (one_of d) [] 0 s (locksOf R C E)
+  pub keeps : d ≡ Keep → locks_of R C E ≡ changed (one_of d) [] 0 s (locks_of R C E)
   unfolding changed one_of
   keeps e = rw e
 
-  pub one-withdraw : d ≡ Withdraw → locksOf R C E ≡ changed (one_of d) [] 0 s (locksOf R C E)
+  pub one_withdraw : d ≡ Withdraw → locks_of R C E ≡ changed (one_of d) [] 0 s (locks_of R C E)
   unfolding changed one_of
-  one-withdraw e = rw e
+  one_withdraw e = rw e
 
-  pub one-drop : d ≡ DropReads → locksOf R C E ≡ changed (one_of d) [] 0 s (locksOf R C E)
+  pub one_drop : d ≡ DropReads → locks_of R C E ≡ changed (one_of d) [] 0 s (locks_of R C E)
   unfolding changed one_of
-  one-drop e = rw e
+  one_drop e = rw e
 
   module _ (c : ℕ) where
-    pub joins : d ≡ Join c → (v : ℕ) → v ≡ withReader s (get_or R c 0) → locksOf (set R c v) C E ≡ changed (one_of d) [] 0 s (locksOf R C E)
-    unfolding changed one_of onLock lockAt setLock join
+    pub joins : d ≡ Join c → (v : ℕ) → v ≡ with_reader s (get_or R c 0) → locks_of (set R c v) C E ≡ changed (one_of d) [] 0 s (locks_of R C E)
+    unfolding changed one_of on_lock lock_at set_lock join
     joins e v f = rw (e, f, set-get_or C c 16, set-get_or E c 0)
 
-    pub claims : d ≡ Claim c → locksOf R (set C c s) E ≡ changed (one_of d) [] 0 s (locksOf R C E)
-    unfolding changed one_of onLock lockAt setLock claim
+    pub claims : d ≡ Claim c → locks_of R (set C c s) E ≡ changed (one_of d) [] 0 s (locks_of R C E)
+    unfolding changed one_of on_lock lock_at set_lock claim
     claims e = rw (e, set-get_or R c 0, set-get_or E c 0)
 
-    pub acquires : d ≡ Acquire c → locksOf R (set C c s) (set E c 1) ≡ changed (one_of d) [] 0 s (locksOf R C E)
-    unfolding changed one_of onLock lockAt setLock acquire
+    pub acquires : d ≡ Acquire c → locks_of R (set C c s) (set E c 1) ≡ changed (one_of d) [] 0 s (locks_of R C E)
+    unfolding changed one_of on_lock lock_at set_lock acquire
     acquires e = rw (e, set-get_or R c 0)
 
-    pub vacates : d ≡ Vacate c → (v : ℕ) → v ≡ withoutReader s (get_or R c 0)
-        → locksOf (set R c v) (set C c 16) (set E c 0) ≡ changed (one_of d) [] 0 s (locksOf R C E)
-    unfolding changed one_of onLock lockAt setLock vacate
+    pub vacates : d ≡ Vacate c → (v : ℕ) → v ≡ without_reader s (get_or R c 0)
+        → locks_of (set R c v) (set C c 16) (set E c 0) ≡ changed (one_of d) [] 0 s (locks_of R C E)
+    unfolding changed one_of on_lock lock_at set_lock vacate
     vacates e v f = rw (e, f)
 
-unwithdrawn : (d : Change) → OneOf (0 ∷ 1 ∷ 2 ∷ 3 ∷ 4 ∷ 6 ∷ []) (tag_of change.the_type d) → withdrawOf d ≡ Keep
-unfolding withdrawOf
+unwithdrawn : (d : Change) → OneOf (0 ∷ 1 ∷ 2 ∷ 3 ∷ 4 ∷ 6 ∷ []) (tag_of change.the_type d) → withdraw_of d ≡ Keep
+unfolding withdraw_of
 unwithdrawn Keep h = refl
 unwithdrawn (Join c) h = refl
 unwithdrawn (Claim c) h = refl
@@ -157,8 +157,8 @@ unwithdrawn (Vacate c) h = refl
 unwithdrawn Withdraw h = absurd (miss (0 ∷ 1 ∷ 2 ∷ 3 ∷ 4 ∷ 6 ∷ []) 5 tt h)
 unwithdrawn DropReads h = refl
 
-undropped : (d : Change) → OneOf (0 ∷ 1 ∷ 2 ∷ 3 ∷ 4 ∷ 5 ∷ []) (tag_of change.the_type d) → dropOf d ≡ Keep
-unfolding dropOf
+undropped : (d : Change) → OneOf (0 ∷ 1 ∷ 2 ∷ 3 ∷ 4 ∷ 5 ∷ []) (tag_of change.the_type d) → drop_of d ≡ Keep
+unfolding drop_of
 undropped Keep h = refl
 undropped (Join c) h = refl
 undropped (Claim c) h = refl
@@ -168,19 +168,19 @@ undropped Withdraw h = refl
 undropped DropReads h = absurd (miss (0 ∷ 1 ∷ 2 ∷ 3 ∷ 4 ∷ 5 ∷ []) 6 tt h)
 
 module _ (d : Change) (log : List ℕ) (m s : ℕ) where
-  pub withdraws : d ≡ Withdraw → (L M : Locks) → M ≡ rolledBack log m s L → M ≡ changed (withdrawOf d) log m s L
-  unfolding changed withdrawOf
+  pub withdraws : d ≡ Withdraw → (L M : Locks) → M ≡ rolled_back log m s L → M ≡ changed (withdraw_of d) log m s L
+  unfolding changed withdraw_of
   withdraws e L M f = rw e f
 
   -- the match has passed over rolling back, or over sealing
-  pub not-withdraws : OneOf (0 ∷ 1 ∷ 2 ∷ 3 ∷ 4 ∷ 6 ∷ []) (tag_of change.the_type d) → (L : Locks) → L ≡ changed (withdrawOf d) log m s L
+  pub not_withdraws : OneOf (0 ∷ 1 ∷ 2 ∷ 3 ∷ 4 ∷ 6 ∷ []) (tag_of change.the_type d) → (L : Locks) → L ≡ changed (withdraw_of d) log m s L
   unfolding changed
-  not-withdraws h L = rw (unwithdrawn d h)
+  not_withdraws h L = rw (unwithdrawn d h)
 
-  pub not-drops : OneOf (0 ∷ 1 ∷ 2 ∷ 3 ∷ 4 ∷ 5 ∷ []) (tag_of change.the_type d) → (R : List ℕ) → DropsIf d log m s R R
+  pub not_drops : OneOf (0 ∷ 1 ∷ 2 ∷ 3 ∷ 4 ∷ 5 ∷ []) (tag_of change.the_type d) → (R : List ℕ) → DropsIf d log m s R R
   unfolding changed
-  not-drops h R C E p q = rw (undropped d h)
+  not_drops h R C E p q = rw (undropped d h)
 
   pub drops : (R R' : List ℕ) → d ≡ DropReads → DropsReads log m s R R' → DropsIf d log m s R R'
-  unfolding changed dropOf readsDropped
+  unfolding changed drop_of reads_dropped
   drops R R' e f C E p q = rw e (f C E p q)

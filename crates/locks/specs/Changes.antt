@@ -1,6 +1,6 @@
 -- A change of the locks on three lent lists, carried out by three functions: that of one cell's lock, rolling back, sealing.
 use Rattle.std.specs.Prelude.{◌≡◌, ℕ, ◌≤◌, ◌<◌, List, [], length}
-use Rattle.model.specs.Buffers.{Locks, lockAt}
+use Rattle.model.specs.Buffers.{Locks, lock_at}
 use Rattle.model.specs.Slices.{Slice}
 use Rattle.model.specs.Turns.{changed}
 use Rattle.records.specs.declared.Lock.{Lock}
@@ -8,14 +8,14 @@ use Rattle.records.specs.declared.Plan.{Plan}
 use Rattle.records.specs.declared.Plan.TheVariants.{Enter, EnterUpdate, EnterMark}
 use Rattle.records.specs.declared.Change.{Change}
 use Rattle.records.specs.declared.Change.TheVariants.{Keep, Join, Claim, Acquire, Vacate, Withdraw, DropReads}
-use Rattle.contracts.specs.Lent.{locksOf, locksBefore, locksAfter}
+use Rattle.contracts.specs.Lent.{locks_of, locks_before, locks_after}
 use Rattle.sweeps.specs.Sweeps.{Swept}
 
 -- l is the lock of the cell that a plan enters
 pub record LockFor (p : Plan) (L : Locks) (l : Lock) : Type 0 where
-  pub enters : (c : ℕ) → p ≡ Enter c → l ≡ lockAt L c
-  pub updates : (c v : ℕ) → p ≡ EnterUpdate c v → l ≡ lockAt L c
-  pub marks : (c : ℕ) → p ≡ EnterMark c → l ≡ lockAt L c
+  pub enters : (c : ℕ) → p ≡ Enter c → l ≡ lock_at L c
+  pub updates : (c v : ℕ) → p ≡ EnterUpdate c v → l ≡ lock_at L c
+  pub marks : (c : ℕ) → p ≡ EnterMark c → l ≡ lock_at L c
 
 -- the part of a change that each function carries out: of one cell, of rolling back, of sealing
 unfoldable pub one_of : Change → Change
@@ -27,23 +27,23 @@ one_of (Vacate c) = Vacate c
 one_of Withdraw = Keep
 one_of DropReads = Keep
 
-unfoldable pub withdrawOf : Change → Change
-withdrawOf Keep = Keep
-withdrawOf (Join c) = Keep
-withdrawOf (Claim c) = Keep
-withdrawOf (Acquire c) = Keep
-withdrawOf (Vacate c) = Keep
-withdrawOf Withdraw = Withdraw
-withdrawOf DropReads = Keep
+unfoldable pub withdraw_of : Change → Change
+withdraw_of Keep = Keep
+withdraw_of (Join c) = Keep
+withdraw_of (Claim c) = Keep
+withdraw_of (Acquire c) = Keep
+withdraw_of (Vacate c) = Keep
+withdraw_of Withdraw = Withdraw
+withdraw_of DropReads = Keep
 
-unfoldable pub dropOf : Change → Change
-dropOf Keep = Keep
-dropOf (Join c) = Keep
-dropOf (Claim c) = Keep
-dropOf (Acquire c) = Keep
-dropOf (Vacate c) = Keep
-dropOf Withdraw = Keep
-dropOf DropReads = DropReads
+unfoldable pub drop_of : Change → Change
+drop_of Keep = Keep
+drop_of (Join c) = Keep
+drop_of (Claim c) = Keep
+drop_of (Acquire c) = Keep
+drop_of (Vacate c) = Keep
+drop_of Withdraw = Keep
+drop_of DropReads = DropReads
 
 -- what a change asks, of session s with m entries and n cells: its cell has a lock; or its entries can be swept
 unfoldable pub ChangeFits : Change → ℕ → List ℕ → ℕ → ℕ → Type 0
@@ -58,16 +58,16 @@ ChangeFits DropReads s log m n = Swept s log m n × (n ≤ 1024)
 -- what each function leaves; the third, which calls the first two, of a change but for the reads that it drops
 abbrev pub ChangesOne : Change → ℕ → Slice → Slice → Slice → Type 0
 ChangesOne d s readers claimants exclusives =
-    locksAfter readers claimants exclusives ≡ changed (one_of d) [] 0 s (locksBefore readers claimants exclusives)
+    locks_after readers claimants exclusives ≡ changed (one_of d) [] 0 s (locks_before readers claimants exclusives)
 
 abbrev pub Withdraws : Change → Slice → ℕ → ℕ → Slice → Slice → Slice → Type 0
 Withdraws d log m s readers claimants exclusives =
-    locksAfter readers claimants exclusives ≡ changed (withdrawOf d) log.entry.now m s (locksBefore readers claimants exclusives)
+    locks_after readers claimants exclusives ≡ changed (withdraw_of d) log.entry.now m s (locks_before readers claimants exclusives)
 
 abbrev pub CarriesOut : Change → Slice → ℕ → ℕ → Slice → Slice → Slice → Type 0
 CarriesOut d log m s readers claimants exclusives =
-    changed (dropOf d) log.entry.now m s (locksAfter readers claimants exclusives) ≡ changed d log.entry.now m s (locksBefore readers claimants exclusives)
+    changed (drop_of d) log.entry.now m s (locks_after readers claimants exclusives) ≡ changed d log.entry.now m s (locks_before readers claimants exclusives)
 
 abbrev pub DropsIf : Change → List ℕ → ℕ → ℕ → List ℕ → List ℕ → Type 0
 DropsIf d log m s R R' =
-    (C E : List ℕ) → length C ≡ length R → length E ≡ length R → locksOf R' C E ≡ changed (dropOf d) log m s (locksOf R C E)
+    (C E : List ℕ) → length C ≡ length R → length E ≡ length R → locks_of R' C E ≡ changed (drop_of d) log m s (locks_of R C E)

@@ -1,7 +1,7 @@
 // The locks of all cells on three lent slices (document 01, "What the caller lends", Locks): the lock that a call needs, and a change of the locks carried out.
 ghost use Rattle.std.specs.Prelude.{◌≡◌, [], ◌<◌, length};
-ghost use Rattle.model.specs.Buffers.{lockAt};
-ghost use Rattle.contracts.specs.Lent.{locksBefore};
+ghost use Rattle.model.specs.Buffers.{lock_at};
+ghost use Rattle.contracts.specs.Lent.{locks_before};
 ghost use Rattle.locks.specs.Changes.{LockFor, one_of, ChangeFits, ChangesOne, Withdraws, CarriesOut, DropsIf};
 
 use records::{Change, Lock, Plan};
@@ -11,7 +11,7 @@ use records::{Change, Lock, Plan};
 // The lock of a cell; an empty one past the last cell.
 pub fn at(readers: &[u16], claimants: &[u8], exclusives: &[u8], cell: u32) -> Lock
     requires { (length claimants.now ≡ length readers.now) × (length exclusives.now ≡ length readers.now) }
-    ensures { result ≡ lockAt (locksBefore readers claimants exclusives) cell }
+    ensures { result ≡ lock_at (locks_before readers claimants exclusives) cell }
 {
     let c = cell as usize;
     if readers.len() <= c {
@@ -31,7 +31,7 @@ pub fn at(readers: &[u16], claimants: &[u8], exclusives: &[u8], cell: u32) -> Lo
 // The lock of the cell that a plan enters; an empty one where it enters none.
 pub fn lock_for(readers: &[u16], claimants: &[u8], exclusives: &[u8], p: Plan) -> Lock
     requires { (length claimants.now ≡ length readers.now) × (length exclusives.now ≡ length readers.now) }
-    ensures { LockFor p (locksBefore readers claimants exclusives) result }
+    ensures { LockFor p (locks_before readers claimants exclusives) result }
 {
     if let Plan::Enter(cell) = p {
         return at(readers, claimants, exclusives, cell);

@@ -9,10 +9,10 @@ use native.Mathlib.Omega.{arith}
 use lib.Dec.{eqb}
 use lib.ListN.{get_or, set}
 use borrow.Author.Tests.{lt-ltb, le-ltb, ltb-true, ltb-false, eq-eqb, ne_eqb}
-use Rattle.model.specs.Buffers.{word, cell_at, entry_at, slotIn, publishes, appended, withDirty, withHeld, updated, marked}
+use Rattle.model.specs.Buffers.{word, cell_at, entry_at, slot_in, publishes, appended, with_dirty, with_held, updated, marked}
 use Rattle.model.specs.Readers.{odd}
 use Rattle.model.specs.Search.{or_else, find, below}
-use Rattle.model.proofs.Laws.{find-some}
+use Rattle.model.proofs.Laws.{find_some}
 use Rattle.model.proofs.Tools.{same, which, and-false}
 use Rattle.log.specs.Slots.{found, Locates}
 
@@ -22,9 +22,9 @@ pub word_at : (log : List ℕ) (k j : ℕ) → word log k j ≡ get_or log (4 * 
 unfolding word
 word_at log k j = ap (λ (i : ℕ). get_or log i 0) (omega arith)
 
-pub cell-word : (log : List ℕ) (k : ℕ) → cell_at log k ≡ get_or log (4 * k) 0
+pub cell_word : (log : List ℕ) (k : ℕ) → cell_at log k ≡ get_or log (4 * k) 0
 unfolding cell_at word
-cell-word log k = ap (λ (i : ℕ). get_or log i 0) (omega arith)
+cell_word log k = ap (λ (i : ℕ). get_or log i 0) (omega arith)
 
 -- ---- an entry publishes by the two marks of its fourth word, and where it is written and not held by its values
 
@@ -55,70 +55,70 @@ module _ (log : List ℕ) (k : ℕ) where
 
 -- ---- the stores of an append, an update and a mark, at the code's indices
 
-pub append-stores : (log : List ℕ) (k c v : ℕ)
+pub append_stores : (log : List ℕ) (k c v : ℕ)
     → set (set (set (set log (4 * k) c) (4 * k + 1) v) (4 * k + 2) v) (4 * k + 3) 0 ≡ appended log k c v
 unfolding appended
-append-stores log k c v =
+append_stores log k c v =
     let e₁ : 4 * k + 1 ≡ suc (4 * k) = omega arith in
     let e₂ : 4 * k + 2 ≡ suc (suc (4 * k)) = omega arith in
     let e₃ : 4 * k + 3 ≡ suc (suc (suc (4 * k))) = omega arith in
     rw (e₁, e₂, e₃)
 
-pub update-stores : (log : List ℕ) (k v : ℕ)
+pub update_stores : (log : List ℕ) (k v : ℕ)
     → set (set log (4 * k + 2) v) (4 * k + 2 + 1) (get_or log (4 * k + 2 + 1) 0 / 2 % 2 * 2 + 1) ≡ updated log k v
-unfolding updated withDirty word
-update-stores log k v =
+unfolding updated with_dirty word
+update_stores log k v =
     let e₁ : 4 * k + 2 + 1 ≡ suc (4 * k + 2) = omega arith in
     let e₂ : 4 * k + 3 ≡ suc (4 * k + 2) = omega arith in
     rw (e₁, e₂)
 
-pub mark-stores : (log : List ℕ) (k : ℕ) → set log (4 * k + 3) (2 + get_or log (4 * k + 3) 0 % 2) ≡ marked log k
-unfolding marked withHeld word
-mark-stores log k = refl
+pub mark_stores : (log : List ℕ) (k : ℕ) → set log (4 * k + 3) (2 + get_or log (4 * k + 3) 0 % 2) ≡ marked log k
+unfolding marked with_held word
+mark_stores log k = refl
 
 -- ---- find
 
 module _ (cell : ℕ → ℕ) (c : ℕ) where
-  pub find-miss : (k : ℕ) → find cell k c ≡ none → (cell k ≡ c → ⊥) → find cell (suc k) c ≡ none
+  pub find_miss : (k : ℕ) → find cell k c ≡ none → (cell k ≡ c → ⊥) → find cell (suc k) c ≡ none
   unfolding find or_else
-  find-miss k h m = simp (h, ne_eqb (cell k) c m)
+  find_miss k h m = simp (h, ne_eqb (cell k) c m)
 
-  pub find-here : (k : ℕ) → find cell k c ≡ none → cell k ≡ c → find cell (suc k) c ≡ some k
+  pub find_here : (k : ℕ) → find cell k c ≡ none → cell k ≡ c → find cell (suc k) c ≡ some k
   unfolding find or_else
-  find-here k h e = simp (h, eq-eqb (cell k) c e)
+  find_here k h e = simp (h, eq-eqb (cell k) c e)
 
   -- what is found among k entries is found among more
-  pub find-up : (k m : ℕ) {i : ℕ} → k ≤ m → find cell k c ≡ some i → find cell m c ≡ some i
+  pub find_up : (k m : ℕ) {i : ℕ} → k ≤ m → find cell k c ≡ some i → find cell m c ≡ some i
   unfolding find or_else
-  find-up k zero l h = let e : k ≡ 0 = omega arith in rw e at h
-  find-up k (suc m) l h = same k (suc m) (λ e. rw e at h) (λ n. simp (find-up k m (omega arith) h))
+  find_up k zero l h = let e : k ≡ 0 = omega arith in rw e at h
+  find_up k (suc m) l h = same k (suc m) (λ e. rw e at h) (λ n. simp (find_up k m (omega arith) h))
 
   -- before the entry that is found there is none
-  pub find-before : (m : ℕ) {k : ℕ} → find cell m c ≡ some k → find cell k c ≡ none
-  find-before m {k} h =
+  pub find_before : (m : ℕ) {k : ℕ} → find cell m c ≡ some k → find cell k c ≡ none
+  find_before m {k} h =
       which (find cell k c) (λ e. e)
       (λ i e.
-      let w = find-some cell c m h in
-      let u = find-some cell c k e in
-      let z : ◌≡◌ {A = Option ℕ} (some i) (some k) = sym (find-up k m (omega arith) e) ∙ h in
+      let w = find_some cell c m h in
+      let u = find_some cell c k e in
+      let z : ◌≡◌ {A = Option ℕ} (some i) (some k) = sym (find_up k m (omega arith) e) ∙ h in
       let q : i ≡ k = cc in
       absurd (omega arith))
 
 -- ---- below
 
-pub below-stop : (n : ℕ) (cell : ℕ → ℕ) (k m : ℕ) → n ≤ cell k → k < m → below n cell m ≡ false
+pub below_stop : (n : ℕ) (cell : ℕ → ℕ) (k m : ℕ) → n ≤ cell k → k < m → below n cell m ≡ false
 unfolding below
-below-stop n cell k zero h l = absurd (omega arith)
-below-stop n cell k (suc m) h l =
-    same k m (λ e. let g : n ≤ cell m = rw e at h in simp (le-ltb (cell m) n g)) (λ d. simp (below-stop n cell k m h (omega arith), and-false))
+below_stop n cell k zero h l = absurd (omega arith)
+below_stop n cell k (suc m) h l =
+    same k m (λ e. let g : n ≤ cell m = rw e at h in simp (le-ltb (cell m) n g)) (λ d. simp (below_stop n cell k m h (omega arith), and-false))
 
 pub below_more : (n : ℕ) (cell : ℕ → ℕ) (k : ℕ) → below n cell k ≡ true → cell k < n → below n cell (suc k) ≡ true
 unfolding below
 below_more n cell k h l = simp (h, lt-ltb (cell k) n l)
 
 -- the same, where the place after k is written another way
-pub below-past : (n : ℕ) (cell : ℕ → ℕ) (k : ℕ) {j : ℕ} → below n cell k ≡ true → cell k < n → j ≡ k + 1 → below n cell j ≡ true
-below-past n cell k h l e = rw (e, add-one) (below_more n cell k h l)
+pub below_past : (n : ℕ) (cell : ℕ → ℕ) (k : ℕ) {j : ℕ} → below n cell k ≡ true → cell k < n → j ≡ k + 1 → below n cell j ≡ true
+below_past n cell k h l e = rw (e, add-one) (below_more n cell k h l)
 
 -- what is not below n among k entries is not among more
 pub below_fails : (n : ℕ) (cell : ℕ → ℕ) (k m : ℕ) → k ≤ m → below n cell k ≡ false → below n cell m ≡ false
@@ -129,49 +129,49 @@ below_fails n cell k (suc m) l h = same k (suc m) (λ e. rw e at h) (λ d. simp 
 -- ---- how the loops end
 
 module _ (log : List ℕ) (count c : ℕ) where
-  pub slot-here : (i : ℕ) → slotIn log i c ≡ none → cell_at log i ≡ c → i < count → found count i ≡ slotIn log count c
-  unfolding slotIn found
-  slot-here i h e l =
-      simp (lt-ltb i count l) (sym (find-up (cell_at log) c (suc i) count (omega arith) (find-here (cell_at log) c i h e)))
+  pub slot_here : (i : ℕ) → slot_in log i c ≡ none → cell_at log i ≡ c → i < count → found count i ≡ slot_in log count c
+  unfolding slot_in found
+  slot_here i h e l =
+      simp (lt-ltb i count l) (sym (find_up (cell_at log) c (suc i) count (omega arith) (find_here (cell_at log) c i h e)))
 
-  pub slot-nowhere : slotIn log count c ≡ none → found count count ≡ slotIn log count c
+  pub slot_nowhere : slot_in log count c ≡ none → found count count ≡ slot_in log count c
   unfolding found
-  slot-nowhere h = simp (h, le-ltb count count (omega arith))
+  slot_nowhere h = simp (h, le-ltb count count (omega arith))
 
 -- ---- what looking a cell up answers
 
 -- a cell that is known has a place among the entries, and only such a cell
-pub known-within : (log : List ℕ) (m c : ℕ) (known : Bool) (i : ℕ) → Locates log m c known i → known ≡ true → i < m
-known-within log m c known i w t = ltb-true i m (sym w.known_is ∙ t)
+pub known_within : (log : List ℕ) (m c : ℕ) (known : Bool) (i : ℕ) → Locates log m c known i → known ≡ true → i < m
+known_within log m c known i w t = ltb-true i m (sym w.known_is ∙ t)
 
-pub unknown-past : (log : List ℕ) (m c : ℕ) (known : Bool) (i : ℕ) → Locates log m c known i → known ≡ false → m ≤ i
-unknown-past log m c known i w t = ltb-false i m (sym w.known_is ∙ t)
+pub unknown_past : (log : List ℕ) (m c : ℕ) (known : Bool) (i : ℕ) → Locates log m c known i → known ≡ false → m ≤ i
+unknown_past log m c known i w t = ltb-false i m (sym w.known_is ∙ t)
 
 module _ (log : List ℕ) (count c : ℕ) where
-  pub located_here : (i : ℕ) → slotIn log i c ≡ none → cell_at log i ≡ c → i < count → Locates log count c true i
-  located_here i h e l = record { slot_is = slot-here log count c i h e l; known_is = sym (lt-ltb i count l) }
+  pub located_here : (i : ℕ) → slot_in log i c ≡ none → cell_at log i ≡ c → i < count → Locates log count c true i
+  located_here i h e l = record { slot_is = slot_here log count c i h e l; known_is = sym (lt-ltb i count l) }
 
-  pub located-nowhere : slotIn log count c ≡ none → Locates log count c false count
-  located-nowhere h = record { slot_is = slot-nowhere log count c h; known_is = sym (le-ltb count count (omega arith)) }
+  pub located_nowhere : slot_in log count c ≡ none → Locates log count c false count
+  located_nowhere h = record { slot_is = slot_nowhere log count c h; known_is = sym (le-ltb count count (omega arith)) }
 
   -- what is known among fewer entries is known among all, at its place
-  pub located-among : (m : ℕ) (known : Bool) (i : ℕ) → Locates log m c known i → known ≡ true → m ≤ count → Locates log count c known i
-  unfolding slotIn found
-  located-among m known i w t u =
-      let l = known-within log m c known i w t in
+  pub located_among : (m : ℕ) (known : Bool) (i : ℕ) → Locates log m c known i → known ≡ true → m ≤ count → Locates log count c known i
+  unfolding slot_in found
+  located_among m known i w t u =
+      let l = known_within log m c known i w t in
       let e : find (cell_at log) m c ≡ some i = sym (simp (lt-ltb i m l) at w.slot_is) in
       let v : i < count = omega arith in
-      record { slot_is = simp (lt-ltb i count v) (sym (find-up (cell_at log) c m count u e)); known_is = t ∙ sym (lt-ltb i count v) }
+      record { slot_is = simp (lt-ltb i count v) (sym (find_up (cell_at log) c m count u e)); known_is = t ∙ sym (lt-ltb i count v) }
 
 -- what is not known among some entries is at none of them
-pub located-missed : (log : List ℕ) (m c : ℕ) (known : Bool) (i : ℕ) → Locates log m c known i → known ≡ false → slotIn log m c ≡ none
+pub located_missed : (log : List ℕ) (m c : ℕ) (known : Bool) (i : ℕ) → Locates log m c known i → known ≡ false → slot_in log m c ≡ none
 unfolding found
-located-missed log m c known i w t = sym (simp (sym w.known_is ∙ t) at w.slot_is)
+located_missed log m c known i w t = sym (simp (sym w.known_is ∙ t) at w.slot_is)
 
-pub slot-past : (log : List ℕ) (c i : ℕ) {j : ℕ} → slotIn log i c ≡ none → (cell_at log i ≡ c → ⊥) → j ≡ i + 1 → slotIn log j c ≡ none
-unfolding slotIn
-slot-past log c i h m e = rw (e, add-one) (find-miss (cell_at log) c i h m)
+pub slot_past : (log : List ℕ) (c i : ℕ) {j : ℕ} → slot_in log i c ≡ none → (cell_at log i ≡ c → ⊥) → j ≡ i + 1 → slot_in log j c ≡ none
+unfolding slot_in
+slot_past log c i h m e = rw (e, add-one) (find_miss (cell_at log) c i h m)
 
-pub slot-start : (log : List ℕ) (c : ℕ) → slotIn log 0 c ≡ none
-unfolding slotIn find
-slot-start log c = refl
+pub slot_start : (log : List ℕ) (c : ℕ) → slot_in log 0 c ≡ none
+unfolding slot_in find
+slot_start log c = refl

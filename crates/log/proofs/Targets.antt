@@ -10,12 +10,12 @@ use native.Mathlib.Numerals.{add-one}
 use native.Mathlib.Omega.{arith}
 use lib.Dec.{ltb, leb}
 use borrow.Author.Tests.{lt-ltb, le-ltb, le-leb, lt-leb, leb-true, leb-false, ltb-true, ltb-false}
-use Rattle.model.specs.Buffers.{cell_at, entry_at, entry_of, slotIn, lookIn, publishes, publishesIn, targetIn}
+use Rattle.model.specs.Buffers.{cell_at, entry_at, entry_of, slot_in, look_in, publishes, publishes_in, target_in}
 use Rattle.model.specs.Search.{some?, lowest, below}
-use Rattle.model.proofs.Laws.{find-some, find_none, Low, lowest-is, below-is}
+use Rattle.model.proofs.Laws.{find_some, find_none, Low, lowest_is, below_is}
 use Rattle.model.proofs.Tools.{same, split, test, which, nothing, clash, both_l, both_r, and-false}
-use Rattle.log.specs.Slots.{found, better, lowestPublishing, slot_of, targetSlot, firstPublishes}
-use Rattle.log.proofs.Searches.{find-here, find-up, find-before}
+use Rattle.log.specs.Slots.{found, better, lowest_publishing, slot_of, target_slot, first_publishes}
+use Rattle.log.proofs.Searches.{find_here, find_up, find_before}
 
 -- ---- what a search answers
 
@@ -33,21 +33,21 @@ found_some m k {i} h =
 module _ (log : List ℕ) where
   -- ---- a cell publishes where its first entry does
 
-  pub first-judges : (m c : ℕ) {k : ℕ} → slotIn log m c ≡ some k → publishesIn log m c ≡ publishes (entry_at log k)
-  unfolding publishesIn lookIn entry_of
-  first-judges m c e = rw e
+  pub first_judges : (m c : ℕ) {k : ℕ} → slot_in log m c ≡ some k → publishes_in log m c ≡ publishes (entry_at log k)
+  unfolding publishes_in look_in entry_of
+  first_judges m c e = rw e
 
-  pub written-first : (m c : ℕ) → publishesIn log m c ≡ true → (k : ℕ) × (slotIn log m c ≡ some k) × (publishes (entry_at log k) ≡ true)
-  unfolding publishesIn lookIn entry_of
-  written-first m c h = which (slotIn log m c) (λ p. absurd (clash false (rw p at h) refl)) (λ k p. (k, p, rw p at h))
+  pub written_first : (m c : ℕ) → publishes_in log m c ≡ true → (k : ℕ) × (slot_in log m c ≡ some k) × (publishes (entry_at log k) ≡ true)
+  unfolding publishes_in look_in entry_of
+  written_first m c h = which (slot_in log m c) (λ p. absurd (clash false (rw p at h) refl)) (λ k p. (k, p, rw p at h))
 
-  pub slot-some : (m c : ℕ) {k : ℕ} → slotIn log m c ≡ some k → (k < m) × (cell_at log k ≡ c)
-  unfolding slotIn
-  slot-some m c e = find-some (cell_at log) c m e
+  pub slot_some : (m c : ℕ) {k : ℕ} → slot_in log m c ≡ some k → (k < m) × (cell_at log k ≡ c)
+  unfolding slot_in
+  slot_some m c e = find_some (cell_at log) c m e
 
-  pub slot-none : (m c : ℕ) → slotIn log m c ≡ none → (j : ℕ) → j < m → cell_at log j ≡ c → ⊥
-  unfolding slotIn
-  slot-none m c e = find_none (cell_at log) c m e
+  pub slot_none : (m c : ℕ) → slot_in log m c ≡ none → (j : ℕ) → j < m → cell_at log j ≡ c → ⊥
+  unfolding slot_in
+  slot_none m c e = find_none (cell_at log) c m e
 
   -- ---- the lowest cell of entries judged each by itself
 
@@ -56,9 +56,9 @@ module _ (log : List ℕ) where
     pub place : r < n → (j : ℕ) × (j < k) × (cell_at log j ≡ r) × (from ≤ r) × (publishes (entry_at log j) ≡ true)
     pub most : r ≤ n
 
-  publishing-step : (n from k best : ℕ) → LowestPublishing n from k best → LowestPublishing n from (suc k) (better log from k best)
+  publishing_step : (n from k best : ℕ) → LowestPublishing n from k best → LowestPublishing n from (suc k) (better log from k best)
   unfolding better
-  publishing-step n from k best w =
+  publishing_step n from k best w =
       let c = cell_at log k in
       let p = publishes (entry_at log k) in
       split (LowestPublishing n from (suc k)) (leb from c && (ltb c best && p))
@@ -83,163 +83,163 @@ module _ (log : List ℕ) where
         most = w.most;
       })
 
-  pub lowest-publishing : (n from k : ℕ) → LowestPublishing n from k (lowestPublishing log n from k)
-  unfolding lowestPublishing
-  lowest-publishing n from zero = record { least = λ j l f o. absurd (omega arith); place = λ l. absurd (omega arith); most = omega arith }
-  lowest-publishing n from (suc k) = publishing-step n from k (lowestPublishing log n from k) (lowest-publishing n from k)
+  pub lowest_publishing_lem : (n from k : ℕ) → LowestPublishing n from k (lowest_publishing log n from k)
+  unfolding lowest_publishing
+  lowest_publishing_lem n from zero = record { least = λ j l f o. absurd (omega arith); place = λ l. absurd (omega arith); most = omega arith }
+  lowest_publishing_lem n from (suc k) = publishing_step n from k (lowest_publishing log n from k) (lowest_publishing_lem n from k)
 
   -- the four ways through one entry, with its cell read
   module _ (from i best c : ℕ) (e : c ≡ cell_at log i) where
-    pub lower-before : c < from → best ≡ better log from i best
+    pub lower_before : c < from → best ≡ better log from i best
     unfolding better
-    lower-before h = rw (← e, lt-leb from c h)
+    lower_before h = rw (← e, lt-leb from c h)
 
-    pub lower-above : best ≤ c → best ≡ better log from i best
+    pub lower_above : best ≤ c → best ≡ better log from i best
     unfolding better
-    lower-above h = rw (← e, le-ltb c best h, and-false)
+    lower_above h = rw (← e, le-ltb c best h, and-false)
 
-    pub lower-here : from ≤ c → c < best → publishes (entry_at log i) ≡ true → c ≡ better log from i best
+    pub lower_here : from ≤ c → c < best → publishes (entry_at log i) ≡ true → c ≡ better log from i best
     unfolding better
-    lower-here f h p = rw (← e, le-leb from c f, lt-ltb c best h, p)
+    lower_here f h p = rw (← e, le-leb from c f, lt-ltb c best h, p)
 
-    pub lower-unpublished : publishes (entry_at log i) ≡ false → best ≡ better log from i best
+    pub lower_unpublished : publishes (entry_at log i) ≡ false → best ≡ better log from i best
     unfolding better
-    lower-unpublished p = rw (← e, p, and-false, and-false)
+    lower_unpublished p = rw (← e, p, and-false, and-false)
 
-  pub publishing-more : (n from k : ℕ) → better log from k (lowestPublishing log n from k) ≡ lowestPublishing log n from (k + 1)
-  unfolding lowestPublishing
-  publishing-more n from k = rw add-one
+  pub publishing_more : (n from k : ℕ) → better log from k (lowest_publishing log n from k) ≡ lowest_publishing log n from (k + 1)
+  unfolding lowest_publishing
+  publishing_more n from k = rw add-one
 
   -- ---- the model's target
 
   abbrev fit : ℕ → ℕ → ℕ → Bool
-  fit m from c = leb from c && publishesIn log m c
+  fit m from c = leb from c && publishes_in log m c
 
-  target_is : (m from : ℕ) → Low (fit m from) (cell_at log) m (targetIn log m from)
-  unfolding targetIn
-  target_is m from = lowest-is (fit m from) (cell_at log) m
+  target_is : (m from : ℕ) → Low (fit m from) (cell_at log) m (target_in log m from)
+  unfolding target_in
+  target_is m from = lowest_is (fit m from) (cell_at log) m
 
   -- a target is a cell that publishes, not below the start, and no such cell is lower
-  pub target-some : (m from : ℕ) {c : ℕ} → targetIn log m from ≡ some c
-      → (from ≤ c) × (publishesIn log m c ≡ true) × ((d : ℕ) → from ≤ d → publishesIn log m d ≡ true → c ≤ d)
-  target-some m from {c} e =
+  pub target_some : (m from : ℕ) {c : ℕ} → target_in log m from ≡ some c
+      → (from ≤ c) × (publishes_in log m c ≡ true) × ((d : ℕ) → from ≤ d → publishes_in log m d ≡ true → c ≤ d)
+  target_some m from {c} e =
       let w = subst (Low (fit m from) (cell_at log) m) e (target_is m from) in (
-        leb-true from c (both_l (leb from c) (publishesIn log m c) w.fits),
-        both_r (leb from c) (publishesIn log m c) w.fits,
+        leb-true from c (both_l (leb from c) (publishes_in log m c) w.fits),
+        both_r (leb from c) (publishes_in log m c) w.fits,
         λ d l p.
-            let k = written-first m d p in
-            let s = slot-some m d k.1 in
+            let k = written_first m d p in
+            let s = slot_some m d k.1 in
             rw s.1 at (w.least k.0 s.0 (rw s.1 (simp (le-leb from d l, p)))),
       )
 
   -- where there is none, no cell not below the start publishes
-  pub target_none : (m from : ℕ) → targetIn log m from ≡ none → (d : ℕ) → from ≤ d → publishesIn log m d ≡ true → ⊥
+  pub target_none : (m from : ℕ) → target_in log m from ≡ none → (d : ℕ) → from ≤ d → publishes_in log m d ≡ true → ⊥
   target_none m from e d l p =
       let w = subst (Low (fit m from) (cell_at log) m) e (target_is m from) in
-      let k = written-first m d p in
-      let s = slot-some m d k.1 in
+      let k = written_first m d p in
+      let s = slot_some m d k.1 in
       clash (fit m from d) (simp (le-leb from d l, p)) (rw s.1 at (w k.0 s.0))
 
   -- a start may be raised past cells that do not publish
-  target-later : (m from next : ℕ) → from ≤ next → ((d : ℕ) → from ≤ d → d < next → publishesIn log m d ≡ true → ⊥)
-      → targetIn log m from ≡ targetIn log m next
-  unfolding targetIn
-  target-later m from next l h =
+  target_later : (m from next : ℕ) → from ≤ next → ((d : ℕ) → from ≤ d → d < next → publishes_in log m d ≡ true → ⊥)
+      → target_in log m from ≡ target_in log m next
+  unfolding target_in
+  target_later m from next l h =
       let fits : (d : ℕ) → fit m from d ≡ fit m next d = λ d.
       test (leb next d)
       (λ t. let u = leb-true next d t in simp (le-leb from d (omega arith), t))
       (λ t.
       test (fit m from d)
       (λ f.
-      absurd (h d (leb-true from d (both_l (leb from d) (publishesIn log m d) f)) (leb-false next d t)
-      (both_r (leb from d) (publishesIn log m d) f)))
+      absurd (h d (leb-true from d (both_l (leb from d) (publishes_in log m d) f)) (leb-false next d t)
+      (both_r (leb from d) (publishes_in log m d) f)))
       (λ f. f ∙ sym (simp t))) in
       λ i. lowest (λ d. fits d i) (cell_at log) m
 
   -- ---- one turn of the search
 
-  module _ (n m from r : ℕ) (is : r ≡ lowestPublishing log n from m) where
-    pub lowest-r : LowestPublishing n from m r
-    lowest-r = rw is (lowest-publishing n from m)
+  module _ (n m from r : ℕ) (is : r ≡ lowest_publishing log n from m) where
+    pub lowest_r : LowestPublishing n from m r
+    lowest_r = rw is (lowest_publishing_lem n from m)
 
     -- the lowest cell is not above one that publishes
-    publishing-least : (d : ℕ) → from ≤ d → publishesIn log m d ≡ true → r ≤ d
-    publishing-least d l p =
-        let k = written-first m d p in
-        let s = slot-some m d k.1 in
-        rw s.1 at (lowest-r.least k.0 s.0 (rw s.1 l) k.2)
+    publishing_least : (d : ℕ) → from ≤ d → publishes_in log m d ≡ true → r ≤ d
+    publishing_least d l p =
+        let k = written_first m d p in
+        let s = slot_some m d k.1 in
+        rw s.1 at (lowest_r.least k.0 s.0 (rw s.1 l) k.2)
 
-    pub turn-ends : below n (cell_at log) m ≡ true → n ≤ r → found m m ≡ targetSlot log m from
-    unfolding found targetSlot slot_of
-    turn-ends b h =
-        which (targetIn log m from) (λ e. simp (e, le-ltb m m (omega arith)))
+    pub turn_ends : below n (cell_at log) m ≡ true → n ≤ r → found m m ≡ target_slot log m from
+    unfolding found target_slot slot_of
+    turn_ends b h =
+        which (target_in log m from) (λ e. simp (e, le-ltb m m (omega arith)))
         (λ c e.
-        let t = target-some m from e in
-        let k = written-first m c t.1 in
-        let s = slot-some m c k.1 in
-        absurd (omega (arith, publishing-least c t.0 t.1, below-is n (cell_at log) m b k.0 s.0, s.1)))
+        let t = target_some m from e in
+        let k = written_first m c t.1 in
+        let s = slot_some m c k.1 in
+        absurd (omega (arith, publishing_least c t.0 t.1, below_is n (cell_at log) m b k.0 s.0, s.1)))
 
     -- the cell found is one of the log's, and not below the start
-    module _ (lt : r < n) (k : ℕ) (f : found m k ≡ slotIn log m r) where
-      pub turn-slot : slotIn log m r ≡ some k
-      turn-slot =
-          which (slotIn log m r) (λ e. let p = lowest-r.place lt in absurd (slot-none m r e p.0 p.1 p.2))
+    module _ (lt : r < n) (k : ℕ) (f : found m k ≡ slot_in log m r) where
+      pub turn_slot : slot_in log m r ≡ some k
+      turn_slot =
+          which (slot_in log m r) (λ e. let p = lowest_r.place lt in absurd (slot_none m r e p.0 p.1 p.2))
           (λ i e. e ∙ ap some (sym (found_some m k (f ∙ e)).1))
 
       pub turn_inside : k < m
-      turn_inside = (found_some m k (f ∙ turn-slot)).0
+      turn_inside = (found_some m k (f ∙ turn_slot)).0
 
-      pub turn-from : from ≤ r
-      turn-from = (lowest-r.place lt).3
+      pub turn_from : from ≤ r
+      turn_from = (lowest_r.place lt).3
 
-      pub turn-here : publishes (entry_at log k) ≡ true → found m k ≡ targetSlot log m from
-      unfolding targetSlot slot_of
-      turn-here p =
-          let w = first-judges m r turn-slot ∙ p in
-          which (targetIn log m from) (λ e. absurd (target_none m from e r turn-from w))
+      pub turn_here : publishes (entry_at log k) ≡ true → found m k ≡ target_slot log m from
+      unfolding target_slot slot_of
+      turn_here p =
+          let w = first_judges m r turn_slot ∙ p in
+          which (target_in log m from) (λ e. absurd (target_none m from e r turn_from w))
           (λ c e.
-          let t = target-some m from e in
-          let q : r ≡ c = omega (arith, publishing-least c t.0 t.1, t.2 r turn-from w) in
+          let t = target_some m from e in
+          let q : r ≡ c = omega (arith, publishing_least c t.0 t.1, t.2 r turn_from w) in
           rw (e, ← q) f)
 
-      pub turn-next : publishes (entry_at log k) ≡ false → targetSlot log m from ≡ targetSlot log m (r + 1)
-      unfolding targetSlot
-      turn-next p =
+      pub turn_next : publishes (entry_at log k) ≡ false → target_slot log m from ≡ target_slot log m (r + 1)
+      unfolding target_slot
+      turn_next p =
           ap (slot_of log m)
-          (target-later m from (r + 1) (omega (arith, turn-from))
+          (target_later m from (r + 1) (omega (arith, turn_from))
           (λ d a b w.
-          let q : d ≡ r = omega (arith, publishing-least d a w) in
-          clash (publishesIn log m r) (rw q at w) (first-judges m r turn-slot ∙ p)))
+          let q : d ≡ r = omega (arith, publishing_least d a w) in
+          clash (publishes_in log m r) (rw q at w) (first_judges m r turn_slot ∙ p)))
 
   -- ---- whether there is a target
 
   module _ (m from : ℕ) where
-    pub any_here : (i : ℕ) → i < m → firstPublishes log i from ≡ true → true ≡ some? (targetIn log m from)
-    unfolding firstPublishes slotIn
+    pub any_here : (i : ℕ) → i < m → first_publishes log i from ≡ true → true ≡ some? (target_in log m from)
+    unfolding first_publishes slot_in
     any_here i l h =
         let c = cell_at log i in
         let p = publishes (entry_at log i) in
-        let a = both_l (leb from c && p) (not (some? (slotIn log i c))) h in
-        let b = both_r (leb from c && p) (not (some? (slotIn log i c))) h in
-        which (slotIn log i c)
+        let a = both_l (leb from c && p) (not (some? (slot_in log i c))) h in
+        let b = both_r (leb from c && p) (not (some? (slot_in log i c))) h in
+        which (slot_in log i c)
         (λ e.
-        let s = find-up (cell_at log) c (suc i) m (omega arith) (find-here (cell_at log) c i e refl) in
-        which (targetIn log m from) (λ t. absurd (target_none m from t c (leb-true from c (both_l (leb from c) p a)) (first-judges m c s ∙ both_r (leb from c) p a))) (λ d t. rw t))
+        let s = find_up (cell_at log) c (suc i) m (omega arith) (find_here (cell_at log) c i e refl) in
+        which (target_in log m from) (λ t. absurd (target_none m from t c (leb-true from c (both_l (leb from c) p a)) (first_judges m c s ∙ both_r (leb from c) p a))) (λ d t. rw t))
         (λ k e. absurd (clash false (rw e at b) refl))
 
-    pub any-nowhere : ((j : ℕ) → j < m → firstPublishes log j from ≡ false) → false ≡ some? (targetIn log m from)
-    unfolding firstPublishes slotIn
-    any-nowhere h =
-        which (targetIn log m from) (λ t. rw t)
+    pub any_nowhere : ((j : ℕ) → j < m → first_publishes log j from ≡ false) → false ≡ some? (target_in log m from)
+    unfolding first_publishes slot_in
+    any_nowhere h =
+        which (target_in log m from) (λ t. rw t)
         (λ c t.
-        let g = target-some m from t in
-        let k = written-first m c g.1 in
-        let s = slot-some m c k.1 in
-        let b = find-before (cell_at log) c m k.1 in
+        let g = target_some m from t in
+        let k = written_first m c g.1 in
+        let s = slot_some m c k.1 in
+        let b = find_before (cell_at log) c m k.1 in
         absurd (clash true refl (simp (s.1, b, k.2, le-leb from c g.0) at (h k.0 s.0))))
 
-  pub first_found : (i r from : ℕ) → found i r ≡ slotIn log i (cell_at log i) → (leb from (cell_at log i) && publishes (entry_at log i)) ≡ true → leb i r ≡ firstPublishes log i from
-  unfolding firstPublishes
+  pub first_found : (i r from : ℕ) → found i r ≡ slot_in log i (cell_at log i) → (leb from (cell_at log i) && publishes (entry_at log i)) ≡ true → leb i r ≡ first_publishes log i from
+  unfolding first_publishes
   first_found i r from f p =
       which (found i r)
       (λ e. rw (p, ← f, e) (le-leb i r (found_none i r e)))

@@ -7,17 +7,17 @@ use mathlib.Core.Path.{◌≡◌, sym, ap, ◌∙◌}
 use native.Mathlib.Omega.{arith}
 use lib.Dec.{ltb}
 use borrow.Author.Tests.{lt-ltb, le-ltb, ltb-true, ltb-false}
-use Rattle.model.specs.Buffers.{cell_at, entry_at, slotIn, publishes, targetIn}
+use Rattle.model.specs.Buffers.{cell_at, entry_at, slot_in, publishes, target_in}
 use Rattle.model.specs.Search.{some?, below}
 use Rattle.model.proofs.Tools.{test, which}
-use Rattle.log.specs.Slots.{found, better, lowestPublishing, slot_of, targetSlot, isMore, LowestTwo, IsNext}
-use Rattle.log.proofs.Targets.{LowestPublishing, lowest-publishing, lowest-r, lower-before, lower-above, lower-here, lower-unpublished, publishing-more, written-first, slot-some, target-some, turn-slot, turn_inside, turn-ends, turn-here}
+use Rattle.log.specs.Slots.{found, better, lowest_publishing, slot_of, target_slot, is_more, LowestTwo, IsNext}
+use Rattle.log.proofs.Targets.{LowestPublishing, lowest_publishing_lem, lowest_r, lower_before, lower_above, lower_here, lower_unpublished, publishing_more, written_first, slot_some, target_some, turn_slot, turn_inside, turn_ends, turn_here}
 
 module _ (log : List ℕ) where
   -- ---- a start that is raised up to the lowest cell leaves it the lowest
 
-  lowest-order : {n from next k r s : ℕ} → LowestPublishing log n from k r → LowestPublishing log n next k s → (s < n → from ≤ s) → r ≤ s
-  lowest-order {n} {s = s} w v l =
+  lowest_order : {n from next k r s : ℕ} → LowestPublishing log n from k r → LowestPublishing log n next k s → (s < n → from ≤ s) → r ≤ s
+  lowest_order {n} {s = s} w v l =
       test (ltb s n)
       (λ t.
       let b = ltb-true s n t in
@@ -25,108 +25,108 @@ module _ (log : List ℕ) where
       rw p.2 at (w.least p.0 p.1 (rw p.2 (l b)) p.4))
       (λ t. omega (arith, ltb-false s n t, w.most))
 
-  lowest-later : {n from next k r s : ℕ} → LowestPublishing log n from k r → LowestPublishing log n next k s → from ≤ next → next ≤ r → r ≡ s
-  lowest-later w v l h =
-      omega (arith, lowest-order w v (λ t. omega (arith, (v.place t).3)), lowest-order v w (λ t. h))
+  lowest_later : {n from next k r s : ℕ} → LowestPublishing log n from k r → LowestPublishing log n next k s → from ≤ next → next ≤ r → r ≡ s
+  lowest_later w v l h =
+      omega (arith, lowest_order w v (λ t. omega (arith, (v.place t).3)), lowest_order v w (λ t. h))
 
   -- ---- one entry more
 
   module _ (n from i low high c : ℕ) (e : c ≡ cell_at log i) (w : LowestTwo log n from i low high) where
-    low-facts : LowestPublishing log n from i low
-    low-facts = lowest-r log n i from low w.low-is
+    low_facts : LowestPublishing log n from i low
+    low_facts = lowest_r log n i from low w.low_is
 
-    high-facts : LowestPublishing log n (suc low) i high
-    high-facts = lowest-r log n i (suc low) high w.high_is
+    high_facts : LowestPublishing log n (suc low) i high
+    high_facts = lowest_r log n i (suc low) high w.high_is
 
-    low-high : low ≤ high
-    low-high =
-        test (ltb high n) (λ t. omega (arith, (high-facts.place (ltb-true high n t)).3))
-        (λ t. omega (arith, ltb-false high n t, low-facts.most))
+    low_high : low ≤ high
+    low_high =
+        test (ltb high n) (λ t. omega (arith, (high_facts.place (ltb-true high n t)).3))
+        (λ t. omega (arith, ltb-false high n t, low_facts.most))
 
-    lowest-more : (f : ℕ) {r s : ℕ} → r ≡ lowestPublishing log n f i → s ≡ better log f i r → s ≡ lowestPublishing log n f (i + 1)
-    lowest-more f h g = g ∙ ap (better log f i) h ∙ publishing-more log n f i
+    lowest_more : (f : ℕ) {r s : ℕ} → r ≡ lowest_publishing log n f i → s ≡ better log f i r → s ≡ lowest_publishing log n f (i + 1)
+    lowest_more f h g = g ∙ ap (better log f i) h ∙ publishing_more log n f i
 
-    two-kept : low ≡ better log from i low → high ≡ better log (suc low) i high → LowestTwo log n from (i + 1) low high
-    two-kept a b = record { low-is = lowest-more from w.low-is a; high_is = lowest-more (suc low) w.high_is b }
+    two_kept : low ≡ better log from i low → high ≡ better log (suc low) i high → LowestTwo log n from (i + 1) low high
+    two_kept a b = record { low_is = lowest_more from w.low_is a; high_is = lowest_more (suc low) w.high_is b }
 
-    pub two-unpublished : publishes (entry_at log i) ≡ false → LowestTwo log n from (i + 1) low high
-    two-unpublished p = two-kept (lower-unpublished log from i low c e p) (lower-unpublished log (suc low) i high c e p)
+    pub two_unpublished : publishes (entry_at log i) ≡ false → LowestTwo log n from (i + 1) low high
+    two_unpublished p = two_kept (lower_unpublished log from i low c e p) (lower_unpublished log (suc low) i high c e p)
 
-    pub two-before : c < from → LowestTwo log n from (i + 1) low high
-    two-before h =
-        two-kept (lower-before log from i low c e h)
+    pub two_before : c < from → LowestTwo log n from (i + 1) low high
+    two_before h =
+        two_kept (lower_before log from i low c e h)
         (test (ltb low c)
         (λ t.
         let u = ltb-true low c t in
-        lower-above log (suc low) i high c e
-        (test (ltb low n) (λ v. absurd (omega (arith, (low-facts.place (ltb-true low n v)).3))) (λ v. omega (arith, ltb-false low n v, high-facts.most))))
-        (λ t. lower-before log (suc low) i high c e (omega (arith, ltb-false low c t))))
+        lower_above log (suc low) i high c e
+        (test (ltb low n) (λ v. absurd (omega (arith, (low_facts.place (ltb-true low n v)).3))) (λ v. omega (arith, ltb-false low n v, high_facts.most))))
+        (λ t. lower_before log (suc low) i high c e (omega (arith, ltb-false low c t))))
 
-    pub two-above : high ≤ c → LowestTwo log n from (i + 1) low high
-    two-above h = two-kept (lower-above log from i low c e (omega (arith, low-high))) (lower-above log (suc low) i high c e h)
+    pub two_above : high ≤ c → LowestTwo log n from (i + 1) low high
+    two_above h = two_kept (lower_above log from i low c e (omega (arith, low_high))) (lower_above log (suc low) i high c e h)
 
-    pub two-again : low ≤ c → c ≤ low → LowestTwo log n from (i + 1) low high
-    two-again a b = two-kept (lower-above log from i low c e a) (lower-before log (suc low) i high c e (omega arith))
+    pub two_again : low ≤ c → c ≤ low → LowestTwo log n from (i + 1) low high
+    two_again a b = two_kept (lower_above log from i low c e a) (lower_before log (suc low) i high c e (omega arith))
 
     module _ (p : publishes (entry_at log i) ≡ true) where
-      pub two-lower : from ≤ c → c < low → LowestTwo log n from (i + 1) c low
-      two-lower f h =
-          let raised = lowest-later low-facts (lowest-publishing log n (suc c) i) (omega arith) (omega arith) in
+      pub two_lower : from ≤ c → c < low → LowestTwo log n from (i + 1) c low
+      two_lower f h =
+          let raised = lowest_later low_facts (lowest_publishing_lem log n (suc c) i) (omega arith) (omega arith) in
           record {
-            low-is = lowest-more from w.low-is (lower-here log from i low c e f h p);
-            high_is = lowest-more (suc c) raised (lower-before log (suc c) i low c e (omega arith));
+            low_is = lowest_more from w.low_is (lower_here log from i low c e f h p);
+            high_is = lowest_more (suc c) raised (lower_before log (suc c) i low c e (omega arith));
           }
 
-      pub two-between : low < c → c < high → LowestTwo log n from (i + 1) low c
-      two-between a b = record {
-        low-is = lowest-more from w.low-is (lower-above log from i low c e (omega arith));
-        high_is = lowest-more (suc low) w.high_is (lower-here log (suc low) i high c e (omega arith) b p);
+      pub two_between : low < c → c < high → LowestTwo log n from (i + 1) low c
+      two_between a b = record {
+        low_is = lowest_more from w.low_is (lower_above log from i low c e (omega arith));
+        high_is = lowest_more (suc low) w.high_is (lower_here log (suc low) i high c e (omega arith) b p);
       }
 
   -- ---- the entry handled, and whether another is left
 
-  found-there : (m j : ℕ) → some? (found m j) ≡ ltb j m
+  found_there : (m j : ℕ) → some? (found m j) ≡ ltb j m
   unfolding found
-  found-there m j = test (ltb j m) (λ t. rw t) (λ t. rw t)
+  found_there m j = test (ltb j m) (λ t. rw t) (λ t. rw t)
 
-  slot-there : (m from : ℕ) → some? (targetSlot log m from) ≡ some? (targetIn log m from)
-  unfolding targetSlot slot_of
-  slot-there m from =
-      which (targetIn log m from) (λ e. rw e) (λ c e. let k = written-first log m c (target-some log m from e).1 in rw (e, k.1))
+  slot_there : (m from : ℕ) → some? (target_slot log m from) ≡ some? (target_in log m from)
+  unfolding target_slot slot_of
+  slot_there m from =
+      which (target_in log m from) (λ e. rw e) (λ c e. let k = written_first log m c (target_some log m from e).1 in rw (e, k.1))
 
   module _ (m from : ℕ) where
-    pub next-none : (k : ℕ) → m ≤ k → found m k ≡ targetSlot log m from → IsNext log m from k false
-    unfolding found isMore
-    next-none k l h = record { slot_is = h; more-is = rw (← h, le-ltb k m l) }
+    pub next_none : (k : ℕ) → m ≤ k → found m k ≡ target_slot log m from → IsNext log m from k false
+    unfolding found is_more
+    next_none k l h = record { slot_is = h; more_is = rw (← h, le-ltb k m l) }
 
-    pub next-some : (k : ℕ) (b : Bool) → k < m → found m k ≡ targetSlot log m from → b ≡ some? (targetIn log m (suc (cell_at log k))) → IsNext log m from k b
-    unfolding found isMore
-    next-some k b l h t = record { slot_is = h; more-is = rw (← h, lt-ltb k m l) t }
+    pub next_some : (k : ℕ) (b : Bool) → k < m → found m k ≡ target_slot log m from → b ≡ some? (target_in log m (suc (cell_at log k))) → IsNext log m from k b
+    unfolding found is_more
+    next_some k b l h t = record { slot_is = h; more_is = rw (← h, lt-ltb k m l) t }
 
     -- another by its place
-    next-by : (k j : ℕ) (b : Bool) → k < m → found m k ≡ targetSlot log m from → found m j ≡ targetSlot log m (suc (cell_at log k)) → ltb j m ≡ b → IsNext log m from k b
-    next-by k j b l h g t = next-some k b l h (sym t ∙ sym (found-there m j) ∙ ap some? g ∙ slot-there m (suc (cell_at log k)))
+    next_by : (k j : ℕ) (b : Bool) → k < m → found m k ≡ target_slot log m from → found m j ≡ target_slot log m (suc (cell_at log k)) → ltb j m ≡ b → IsNext log m from k b
+    next_by k j b l h g t = next_some k b l h (sym t ∙ sym (found_there m j) ∙ ap some? g ∙ slot_there m (suc (cell_at log k)))
 
     module _ (n low high : ℕ) (w : LowestTwo log n from m low high) where
       pub two_none : below n (cell_at log) m ≡ true → n ≤ low → IsNext log m from m false
-      two_none b h = next-none m (omega arith) (turn-ends log n m from low w.low-is b h)
+      two_none b h = next_none m (omega arith) (turn_ends log n m from low w.low_is b h)
 
-      module _ (lt : low < n) (k : ℕ) (f : found m k ≡ slotIn log m low) where
-        pub two-inside : k < m
-        two-inside = turn_inside log n m from low w.low-is lt k f
+      module _ (lt : low < n) (k : ℕ) (f : found m k ≡ slot_in log m low) where
+        pub two_inside : k < m
+        two_inside = turn_inside log n m from low w.low_is lt k f
 
-        two-cell : cell_at log k ≡ low
-        two-cell = (slot-some log m low (turn-slot log n m from low w.low-is lt k f)).1
+        two_cell : cell_at log k ≡ low
+        two_cell = (slot_some log m low (turn_slot log n m from low w.low_is lt k f)).1
 
         module _ (p : publishes (entry_at log k) ≡ true) where
-          two_here : found m k ≡ targetSlot log m from
-          two_here = turn-here log n m from low w.low-is lt k f p
+          two_here : found m k ≡ target_slot log m from
+          two_here = turn_here log n m from low w.low_is lt k f p
 
-          pub two-last : below n (cell_at log) m ≡ true → n ≤ high → IsNext log m from k false
-          two-last b h =
-              next-by k m false two-inside two_here (rw two-cell (turn-ends log n m (suc low) high w.high_is b h)) (le-ltb m m (omega arith))
+          pub two_last : below n (cell_at log) m ≡ true → n ≤ high → IsNext log m from k false
+          two_last b h =
+              next_by k m false two_inside two_here (rw two_cell (turn_ends log n m (suc low) high w.high_is b h)) (le-ltb m m (omega arith))
 
-          pub two-more : high < n → (j : ℕ) → found m j ≡ slotIn log m high → publishes (entry_at log j) ≡ true → IsNext log m from k true
-          two-more l j g q =
-              next-by k j true two-inside two_here (rw two-cell (turn-here log n m (suc low) high w.high_is l j g q))
+          pub two_more : high < n → (j : ℕ) → found m j ≡ slot_in log m high → publishes (entry_at log j) ≡ true → IsNext log m from k true
+          two_more l j g q =
+              next_by k j true two_inside two_here (rw two_cell (turn_here log n m (suc low) high w.high_is l j g q))
               (lt-ltb j m (turn_inside log n m (suc low) high w.high_is l j g))

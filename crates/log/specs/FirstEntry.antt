@@ -1,4 +1,4 @@
--- What looking a cell up answers, entry by entry (document 02, Paper 3). The contracts of the searches for a cell cite the model (`found m r ≡ slotIn log m c`); proofs/FirstEntry.antt
+-- What looking a cell up answers, entry by entry (document 02, Paper 3). The contracts of the searches for a cell cite the model (`found m r ≡ slot_in log m c`); proofs/FirstEntry.antt
 -- proves that it is the same.
 use Rattle.std.specs.Prelude.{ℕ, ◌<◌, ◌≤◌, List, ◌≡◌}
 use Rattle.model.specs.Buffers.{cell_at}
@@ -6,7 +6,7 @@ use Rattle.model.specs.Buffers.{cell_at}
 -- place k is that of the cell's first entry among the first m
 pub record FirstEntry (log : List ℕ) (m c k : ℕ) : Type 0 where
   pub among : k < m
-  pub has-cell : cell_at log k ≡ c
+  pub has_cell : cell_at log k ≡ c
   pub none_before : (j : ℕ) → j < k → cell_at log j ≡ c → ⊥
 
 -- none of the first m entries has the cell

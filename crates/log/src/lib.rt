@@ -1,12 +1,12 @@
 // One session's log: 128 words, 32 entries of four words (document 01, "What the caller lends", Logs).
 // Entries are looked at where they lie; contracts are the model's definitions.
 ghost use Rattle.std.specs.Prelude.{◌≡◌, ◌+◌, ◌*◌, ◌<◌, length, replicate};
-ghost use Rattle.model.specs.Buffers.{logIn, cell_at, entry_at, publishes, appended, updated, marked};
+ghost use Rattle.model.specs.Buffers.{log_in, cell_at, entry_at, publishes, appended, updated, marked};
 
 // The log of a session: its 128 words of the logs.
 pub fn of_session<'a>(logs: &'a [u32], session: u8) -> &'a [u32]
     requires { (session < 16) × (length logs.now ≡ 2048) }
-    ensures { result.now ≡ logIn logs.now session }
+    ensures { result.now ≡ log_in logs.now session }
 {
     let a = 128 * (session as usize);
     let e = a + 128;

@@ -2,7 +2,7 @@
 ghost use Rattle.std.specs.Prelude.{◌≡◌, true, ◌+◌, ◌*◌, ◌≤◌, length};
 ghost use Rattle.std.proofs.Math.Option.{none};
 ghost use Rattle.model.specs.Search.{below};
-ghost use Rattle.model.specs.Buffers.{cell_at, slotIn};
+ghost use Rattle.model.specs.Buffers.{cell_at, slot_in};
 ghost use Rattle.log.specs.Slots.{found, Locates};
 
 // Where a cell stands in a log: whether one of the entries has it, and the place of the first that does; the count where none has.
@@ -35,7 +35,7 @@ fn locate_one_by_one(log: &[u32], count: usize, cell: u32) -> Location
 
 // A cell among the first i + 4 entries, where none before i has it.
 fn locate_in_four(log: &[u32], i: usize, cell: u32) -> Location
-    requires { (4 * i + 16 ≤ length log.now) × (slotIn log.now i cell ≡ none) }
+    requires { (4 * i + 16 ≤ length log.now) × (slot_in log.now i cell ≡ none) }
     ensures { Locates log.now (i + 4) cell result.known result.slot }
 {
     if log::cell_at(log, i) == cell {
@@ -95,7 +95,7 @@ pub fn locate(log: &[u32], count: usize, cell: u32) -> Location
 // The place of the first entry of a cell among the first count, or count where there is none; one by one, so that it is inlined where a call searches often.
 pub fn find(log: &[u32], count: usize, cell: u32) -> usize
     requires { 4 * count ≤ length log.now }
-    ensures { found count result ≡ slotIn log.now count cell }
+    ensures { found count result ≡ slot_in log.now count cell }
 {
     let p = locate_one_by_one(log, count, cell);
     p.slot

@@ -1,7 +1,7 @@
 // Many reads in one call (document 02, Paper 1), on number slices that the caller lends. The tests of 7, 1, 9 and 2, which each of the single reads would make,
 // are made once: they pass again after every read answered 101.
 ghost use Rattle.std.specs.Prelude.{◌≡◌, ◌≤◌, length};
-ghost use Rattle.model.specs.Buffers.{logIn};
+ghost use Rattle.model.specs.Buffers.{log_in};
 ghost use Rattle.cell_reads.specs.Cells.{Fits};
 ghost use Rattle.many_reads.specs.Lent.{ReadsMany};
 ghost use Rattle.many_reads.specs.InLogs.{ReadsIn};
@@ -22,7 +22,7 @@ fn read_in(
     cells: &[u32],
     target: &mut [u32],
 ) -> CellsReply
-    requires { (length logs.old ≡ 2048) × Fits session (length values.now) (length readers.old) (length claimants.now) (logIn logs.old session) count × (length cells.now ≤ 32) × (length cells.now ≤ length target.old) }
+    requires { (length logs.old ≡ 2048) × Fits session (length values.now) (length readers.old) (length claimants.now) (log_in logs.old session) count × (length cells.now ≤ 32) × (length cells.now ≤ length target.old) }
     ensures { ReadsIn values readers claimants logs count session cells target result }
 {
     let a = 128 * (session as usize);

@@ -8,36 +8,36 @@ use mathlib.Core.List.{List, [], ◌∷◌}
 use lib.Dec.{eqb}
 use lib.ListN.{length}
 use borrow.Author.Tests.{ltb-true}
-use Rattle.model.specs.History.{Item, Name, cellsWritten, snapshot, movesIn, moveNumber, commit, committed}
+use Rattle.model.specs.History.{Item, Name, cells_written, snapshot, moves_in, move_number, commit, committed}
 use Rattle.model.specs.Isolation.{All, Any, at, Commits, snapshotOf, commitOf, ToldAt}
 use Rattle.model.specs.Told.{seals, moves}
 use Rattle.model.proofs.Matching.{Stands}
 use Rattle.model.proofs.Tools.{test, both_l}
 
-snapshot-any : (x : Name) (t : List Item) → All (Stands x) t → 0 < snapshot t
+snapshot_any : (x : Name) (t : List Item) → All (Stands x) t → 0 < snapshot t
     → Any (λ (i : Item). (i.place ≡ snapshot t) × (seals i.told ≡ true)) t × (x.place < snapshot t)
 unfolding snapshot
-snapshot-any x [] a h = absurd (omega arith)
-snapshot-any x (i ∷ t) a h =
+snapshot_any x [] a h = absurd (omega arith)
+snapshot_any x (i ∷ t) a h =
     test (seals i.told) (λ y. rw y (inl (refl, refl), a.0 y))
-    (λ y. rw y (let w = snapshot-any x t a.1 (rw y at h) in (inr w.0, w.1)))
+    (λ y. rw y (let w = snapshot_any x t a.1 (rw y at h) in (inr w.0, w.1)))
 
-move-any : (m : ℕ) (t : List Item) → 0 < moveNumber m t → Any (λ (i : Item). (i.place ≡ moveNumber m t) × (moves i.told ≡ true)) t
-unfolding moveNumber
-move-any m [] h = absurd (omega arith)
-move-any m (i ∷ t) h =
-    test (moves i.told && eqb (suc (movesIn t)) m) (λ y. rw y (inl (refl, both_l (moves i.told) (eqb (suc (movesIn t)) m) y)))
-    (λ y. rw y (inr (move-any m t (rw y at h))))
+move_any : (m : ℕ) (t : List Item) → 0 < move_number m t → Any (λ (i : Item). (i.place ≡ move_number m t) × (moves i.told ≡ true)) t
+unfolding move_number
+move_any m [] h = absurd (omega arith)
+move_any m (i ∷ t) h =
+    test (moves i.told && eqb (suc (moves_in t)) m) (λ y. rw y (inl (refl, both_l (moves i.told) (eqb (suc (moves_in t)) m) y)))
+    (λ y. rw y (inr (move_any m t (rw y at h))))
 
 module _ (start : List ℕ) (h : List Item) (x : Name) (stands : All (Stands x) (at start h x)) where
-  pub snapshot-own : 0 < snapshotOf start h x → ToldAt start h x (snapshotOf start h x) seals × (x.place < snapshotOf start h x)
-  snapshot-own l = snapshot-any x (at start h x) stands l
+  pub snapshot_own : 0 < snapshotOf start h x → ToldAt start h x (snapshotOf start h x) seals × (x.place < snapshotOf start h x)
+  snapshot_own l = snapshot_any x (at start h x) stands l
 
-  pub commit-own : Commits start h x → ToldAt start h x (commitOf start h x) (λ w. cond (eqb (cellsWritten (length start) (at start h x)) 0) (seals w) (moves w))
+  pub commit_own : Commits start h x → ToldAt start h x (commitOf start h x) (λ w. cond (eqb (cells_written (length start) (at start h x)) 0) (seals w) (moves w))
   unfolding committed commit
-  commit-own d =
+  commit_own d =
       let t = at start h x in
       let l = ltb-true 0 (commit (length start) t) d in
-      test (eqb (cellsWritten (length start) t) 0)
-      (λ y. rw y (snapshot-any x t stands (rw y at l)).0)
-      (λ y. rw y (move-any (cellsWritten (length start) t) t (rw y at l)))
+      test (eqb (cells_written (length start) t) 0)
+      (λ y. rw y (snapshot_any x t stands (rw y at l)).0)
+      (λ y. rw y (move_any (cells_written (length start) t) t (rw y at l)))

@@ -9,14 +9,14 @@ use lib.Dec.{ltb}
 use lib.ListN.{length}
 use borrow.Author.Tests.{ltb-true, lt-ltb}
 use Rattle.model.specs.History.{Item, Name, wrote}
-use Rattle.model.specs.Isolation.{All, at, Commits, snapshotOf, commitOf, CommitsTo, Last, lastCommit, noCommit, Isolated}
+use Rattle.model.specs.Isolation.{All, at, Commits, snapshotOf, commitOf, CommitsTo, Last, last_commit, no_commit, Isolated}
 use Rattle.model.specs.Told.{ReadOf}
-use Rattle.model.proofs.Agreement.{snapshot-own, commit-own}
-use Rattle.model.proofs.Invariant.{before-later, all_map}
-use Rattle.model.proofs.Ledger.{Commit, valueBefore, Fair, Lawful}
+use Rattle.model.proofs.Agreement.{snapshot_own, commit_own}
+use Rattle.model.proofs.Invariant.{before_later, all_map}
+use Rattle.model.proofs.Ledger.{Commit, value_before, Fair, Lawful}
 use Rattle.model.proofs.Matching.{name_of, Recorded, In, Stands}
 use Rattle.model.proofs.Tools.{split, clash, both_l, both_r}
-use Rattle.model.proofs.Words.{observed, observed-both}
+use Rattle.model.proofs.Words.{observed, observed_both}
 
 pub pick : {P Q : Commit → Type 0} (x : Name) (ks : List Commit) → In x ks → All P ks → All Q ks → (k : Commit) × (name_of k ≡ x) × P k × Q k
 pick p [] i a b = absurd i
@@ -28,17 +28,17 @@ all_both f [] a b = tt
 all_both f (x ∷ xs) a b = (f x a.0 b.0, all_both f xs a.1 b.1)
 
 module _ (start : List ℕ) where
-  lawful-order : (ks : List Commit) → Lawful start ks → All (λ (k : Commit). (0 < k.snap) × (k.snap ≤ k.place)) ks
-  lawful-order [] l = tt
-  lawful-order (k ∷ ks) l = (l.0.sealed, lawful-order ks l.1)
+  lawful_order : (ks : List Commit) → Lawful start ks → All (λ (k : Commit). (0 < k.snap) × (k.snap ≤ k.place)) ks
+  lawful_order [] l = tt
+  lawful_order (k ∷ ks) l = (l.0.sealed, lawful_order ks l.1)
 
   -- the values read, against all commits
-  lawful-reads : (ks : List Commit) → Lawful start ks → All (λ (k : Commit). All (λ (r : ReadOf). r.value ≡ valueBefore k.snap start ks r.cell) k.reads) ks
-  lawful-reads [] l = tt
-  lawful-reads (k ∷ ks) l = (
-    all_map (λ r e. e ∙ sym (before-later start k.snap r.cell k ks l.0.sealed.1)) k.reads l.0.reads,
-    all_both (λ j a b. all_map (λ r e. e ∙ sym (before-later start j.snap r.cell k ks (a))) j.reads b) ks
-        (all_both (λ j a b. let x : j.snap ≤ k.place = omega (arith, a.1) in x) ks (lawful-order ks l.1) l.0.newest) (lawful-reads ks l.1),
+  lawful_reads : (ks : List Commit) → Lawful start ks → All (λ (k : Commit). All (λ (r : ReadOf). r.value ≡ value_before k.snap start ks r.cell) k.reads) ks
+  lawful_reads [] l = tt
+  lawful_reads (k ∷ ks) l = (
+    all_map (λ r e. e ∙ sym (before_later start k.snap r.cell k ks l.0.sealed.1)) k.reads l.0.reads,
+    all_both (λ j a b. all_map (λ r e. e ∙ sym (before_later start j.snap r.cell k ks (a))) j.reads b) ks
+        (all_both (λ j a b. let x : j.snap ≤ k.place = omega (arith, a.1) in x) ks (lawful_order ks l.1) l.0.newest) (lawful_reads ks l.1),
   )
 
   module _ (h : List Item) where
@@ -46,13 +46,13 @@ module _ (start : List ℕ) where
     n = length start
 
     -- the last commit before a place, in the list as among the commits
-    pub last-value : (c q : ℕ) (ks : List Commit) → Lawful start ks → All (Recorded (length start) h) ks → ((r : Name) → CommitsTo start h c q r → In r ks) → Last start h c q (valueBefore q start ks c)
-    unfolding valueBefore
-    last-value c q [] l t a = noCommit a refl
-    last-value c q (k ∷ ks) l t a =
+    pub last_value : (c q : ℕ) (ks : List Commit) → Lawful start ks → All (Recorded (length start) h) ks → ((r : Name) → CommitsTo start h c q r → In r ks) → Last start h c q (value_before q start ks c)
+    unfolding value_before
+    last_value c q [] l t a = no_commit a refl
+    last_value c q (k ∷ ks) l t a =
         split (Last start h c q) (ltb k.place q && k.wrote c)
         (λ y.
-        lastCommit (name_of k)
+        last_commit (name_of k)
         (record {
           commits = t.0.committed;
           wrote = ap (λ (f : ℕ → Bool). f c) t.0.wrote ∙ both_r (ltb k.place q) (k.wrote c) y;
@@ -60,7 +60,7 @@ module _ (start : List ℕ) where
         })
         (λ r x. newest r (a r x))
         (ap (λ (f : ℕ → ℕ). f c) t.0.value))
-        (λ y. last-value c q ks l.1 t.1 (λ r x. older r x (a r x) y))
+        (λ y. last_value c q ks l.1 t.1 (λ r x. older r x (a r x) y))
       where
         newest : (r : Name) → In r (k ∷ ks) → commitOf start h r ≤ commitOf start h (name_of k)
         newest r (inl e) = rw e (omega arith)
@@ -97,20 +97,20 @@ module _ (start : List ℕ) where
     isolated ks l t every stands =
         record {
           snapshots = λ p d.
-              let x = pick p ks (every p d) t (lawful-order ks l) in
+              let x = pick p ks (every p d) t (lawful_order ks l) in
               let o : (0 < snapshotOf start h p) × (snapshotOf start h p ≤ commitOf start h p) =
               subst (λ (p : Name). (0 < snapshotOf start h p) × (snapshotOf start h p ≤ commitOf start h p)) x.1 (rw (x.2.snapshot, x.2.commit) x.3) in
-              let w = snapshot-own start h p (stands p) o.0 in
+              let w = snapshot_own start h p (stands p) o.0 in
               (w.1, o.1, w.0);
-          commits = λ p d. commit-own start h p (stands p) d;
-          reads = λ p d. (observed-both (λ r. Last start h r.cell (snapshotOf start h p) r.value) (at start h p) (observes p d)).0;
-          finds = λ p d. (observed-both (λ r. Last start h r.cell (snapshotOf start h p) r.value) (at start h p) (observes p d)).1;
+          commits = λ p d. commit_own start h p (stands p) d;
+          reads = λ p d. (observed_both (λ r. Last start h r.cell (snapshotOf start h p) r.value) (at start h p) (observes p d)).0;
+          finds = λ p d. (observed_both (λ r. Last start h r.cell (snapshotOf start h p) r.value) (at start h p) (observes p d)).1;
           apart = λ p q c n dp dq a b. pairs p q c n ks l t (every p dp) (every q dq) a b;
         }
       where
         observes : (p : Name) → Commits start h p → All (λ (r : ReadOf). Last start h r.cell (snapshotOf start h p) r.value) (observed (at start h p))
         observes p d =
-            let x = pick p ks (every p d) t (lawful-reads ks l) in
+            let x = pick p ks (every p d) t (lawful_reads ks l) in
             subst (λ (p : Name). All (λ (r : ReadOf). Last start h r.cell (snapshotOf start h p) r.value) (observed (at start h p))) x.1
             (rw (x.2.snapshot, x.2.reads)
-            (all_map (λ r e. rw e (last-value r.cell x.0.snap ks l t (λ r y. every r y.commits))) x.0.reads x.3))
+            (all_map (λ r e. rw e (last_value r.cell x.0.snap ks l t (λ r y. every r y.commits))) x.0.reads x.3))

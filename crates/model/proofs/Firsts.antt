@@ -2,14 +2,14 @@
 use mathlib.Core.Path.{◌≡◌, refl, ap}
 use mathlib.Core.List.{List, [], ◌∷◌, ◌++◌}
 use Rattle.model.specs.Buffers.{Store}
-use Rattle.model.specs.History.{Action, leaves, eventOf, run, events}
+use Rattle.model.specs.History.{Action, leaves, event_of, run, events}
 
-pub run-first : (σ : Store) (k : Action) (ks : List Action) → run σ (ks ++ k ∷ []) ≡ run (leaves k σ) ks
+pub run_first : (σ : Store) (k : Action) (ks : List Action) → run σ (ks ++ k ∷ []) ≡ run (leaves k σ) ks
 unfolding run
-run-first σ k [] = refl
-run-first σ k (j ∷ ks) = ap (leaves j) (run-first σ k ks)
+run_first σ k [] = refl
+run_first σ k (j ∷ ks) = ap (leaves j) (run_first σ k ks)
 
-pub events-first : (σ : Store) (k : Action) (ks : List Action) → events σ (ks ++ k ∷ []) ≡ events (leaves k σ) ks ++ eventOf k σ ∷ []
+pub events_first : (σ : Store) (k : Action) (ks : List Action) → events σ (ks ++ k ∷ []) ≡ events (leaves k σ) ks ++ event_of k σ ∷ []
 unfolding run events
-events-first σ k [] = refl
-events-first σ k (j ∷ ks) = rw (run-first σ k ks, events-first σ k ks)
+events_first σ k [] = refl
+events_first σ k (j ∷ ks) = rw (run_first σ k ks, events_first σ k ks)

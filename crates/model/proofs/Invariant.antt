@@ -9,34 +9,34 @@ use lib.Dec.{leb}
 use lib.ListN.{length, get_or}
 use borrow.Author.Tests.{lt-ltb, le-ltb}
 use Rattle.records.specs.declared.Session.{Session}
-use Rattle.model.specs.Buffers.{Store, Entry, isDirty, publishes, isPublished, currentOf, lockAt}
-use Rattle.model.specs.Load.{withCaps}
+use Rattle.model.specs.Buffers.{Store, Entry, is_dirty, publishes, is_published, current_of, lock_at}
+use Rattle.model.specs.Load.{with_caps}
 use Rattle.model.specs.Isolation.{All, Holds}
 use Rattle.model.specs.Search.{tally}
-use Rattle.model.specs.Effects.{recordOf}
+use Rattle.model.specs.Effects.{record_of}
 use Rattle.model.specs.Told.{ReadOf}
 use Rattle.model.proofs.Laws.{Long}
-use Rattle.model.proofs.Ledger.{Txn, Commit, Ledger, tick, calm, valueBefore, Fair, Lawful}
+use Rattle.model.proofs.Ledger.{Txn, Commit, Ledger, tick, calm, value_before, Fair, Lawful}
 use Rattle.model.proofs.Roles.{Role, out, reading, wanting, owning, pending, published, Locked, Valued}
 use Rattle.model.proofs.Tools.{same, clash, upd, upd_same, upd_other}
 use Rattle.model.proofs.View.{is_held, look}
 
 -- ---- what session s is to a cell
 
-unfoldable pub roleIn : ℕ → Bool → Bool → ℕ → ℕ → Role
-roleIn zero w b f v = out
-roleIn (suc zero) w b f v = reading f
-roleIn (suc (suc zero)) w b f v = cond w (cond b wanting (owning v)) out
-roleIn (suc (suc (suc zero))) w b f v = cond w (cond b (pending v) published) out
-roleIn (suc (suc (suc (suc zero)))) w b f v = cond w (cond b published out) out
-roleIn (suc (suc (suc (suc (suc k))))) w b f v = out
+unfoldable pub role_in : ℕ → Bool → Bool → ℕ → ℕ → Role
+role_in zero w b f v = out
+role_in (suc zero) w b f v = reading f
+role_in (suc (suc zero)) w b f v = cond w (cond b wanting (owning v)) out
+role_in (suc (suc (suc zero))) w b f v = cond w (cond b (pending v) published) out
+role_in (suc (suc (suc (suc zero)))) w b f v = cond w (cond b published out) out
+role_in (suc (suc (suc (suc (suc k))))) w b f v = out
 
-unfoldable pub roleOf : Session → ℕ → Option Entry → Role
-roleOf x c none = out
-roleOf x c (some e) = roleIn x.phase (publishes e) (leb x.next c) e.snapshot e.current
+unfoldable pub role_of : Session → ℕ → Option Entry → Role
+role_of x c none = out
+role_of x c (some e) = role_in x.phase (publishes e) (leb x.next c) e.snapshot e.current
 
 unfoldable pub role : Store → ℕ → ℕ → Role
-role σ c s = roleOf (recordOf σ s) c (look σ s c)
+role σ c s = role_of (record_of σ s) c (look σ s c)
 
 -- ---- the last committed value
 
@@ -44,14 +44,14 @@ unfoldable pub latest : List ℕ → List Commit → ℕ → ℕ
 latest start [] c = get_or start c 0
 latest start (k ∷ ks) c = cond (k.wrote c) (k.value c) (latest start ks c)
 
-pub before-latest : (start : List ℕ) (p c : ℕ) (ks : List Commit) → All (λ (k : Commit). k.place < p) ks → valueBefore p start ks c ≡ latest start ks c
-unfolding valueBefore latest
-before-latest start p c [] h = refl
-before-latest start p c (k ∷ ks) h = rw (lt-ltb k.place p h.0, before-latest start p c ks h.1)
+pub before_latest : (start : List ℕ) (p c : ℕ) (ks : List Commit) → All (λ (k : Commit). k.place < p) ks → value_before p start ks c ≡ latest start ks c
+unfolding value_before latest
+before_latest start p c [] h = refl
+before_latest start p c (k ∷ ks) h = rw (lt-ltb k.place p h.0, before_latest start p c ks h.1)
 
-pub before-later : (start : List ℕ) (p c : ℕ) (k : Commit) (ks : List Commit) → p ≤ k.place → valueBefore p start (k ∷ ks) c ≡ valueBefore p start ks c
-unfolding valueBefore
-before-later start p c k ks h = rw (le-ltb k.place p h)
+pub before_later : (start : List ℕ) (p c : ℕ) (k : Commit) (ks : List Commit) → p ≤ k.place → value_before p start (k ∷ ks) c ≡ value_before p start ks c
+unfolding value_before
+before_later start p c k ks h = rw (le-ltb k.place p h)
 
 pub all_map {ℓ} : {A : Type ℓ} {P Q : A → Type 0} (f : (a : A) → P a → Q a) (l : List A) → All P l → All Q l
 all_map f [] h = tt
@@ -68,10 +68,10 @@ pub record Running (look : ℕ → Option Entry) (t : Txn) : Type 0 where
   pub open' : t.done ≡ false
   pub moved : t.moved ≡ 0
   pub unsealed : t.snap ≡ 0
-  pub dirtied : (c : ℕ) → t.dirtied c ≡ isDirty (look c)
+  pub dirtied : (c : ℕ) → t.dirtied c ≡ is_dirty (look c)
   pub held : (c : ℕ) → t.held c ≡ is_held (look c)
-  pub wrote : (c : ℕ) → t.wrote c ≡ isPublished (look c)
-  pub value : (c : ℕ) → (isDirty (look c) || is_held (look c)) ≡ true → t.value c ≡ currentOf (look c)
+  pub wrote : (c : ℕ) → t.wrote c ≡ is_published (look c)
+  pub value : (c : ℕ) → (is_dirty (look c) || is_held (look c)) ≡ true → t.value c ≡ current_of (look c)
   pub reads : All (λ (r : ReadOf). (e : Entry) × (look r.cell ≡ some e) × (e.snapshot ≡ r.value)) t.reads
   pub clean : (c : ℕ) (e : Entry) → look c ≡ some e → e.dirty ≡ false → e.current ≡ e.snapshot
 
@@ -79,10 +79,10 @@ pub record Promoting (start : List ℕ) (ks : List Commit) (place next : ℕ) (l
   pub live : t.live ≡ true
   pub open' : t.done ≡ false
   pub moved : t.moved ≡ tally t.wrote next
-  pub wrote : (c : ℕ) → t.wrote c ≡ isPublished (look c)
-  pub value : (c : ℕ) → isPublished (look c) ≡ true → t.value c ≡ currentOf (look c)
+  pub wrote : (c : ℕ) → t.wrote c ≡ is_published (look c)
+  pub value : (c : ℕ) → is_published (look c) ≡ true → t.value c ≡ current_of (look c)
   pub sealed : (0 < t.snap) × (t.snap < place)
-  pub reads : All (λ (r : ReadOf). r.value ≡ valueBefore t.snap start ks r.cell) t.reads
+  pub reads : All (λ (r : ReadOf). r.value ≡ value_before t.snap start ks r.cell) t.reads
   pub apart : All (λ (j : Commit). (c : ℕ) → j.wrote c ≡ true → t.wrote c ≡ true → j.place < t.snap) ks
   pub left : (c : ℕ) × (t.wrote c ≡ true) × (next ≤ c) × (c < length start)
 
@@ -99,14 +99,14 @@ Link start ks place next look t (suc (suc (suc (suc zero)))) = Finishing t
 Link start ks place next look t (suc (suc (suc (suc (suc k))))) = ⊥
 
 -- more commits and a later place concern only those that promote
-pub link-grow : {start : List ℕ} {ks ls : List Commit} {p q next : ℕ} {f : ℕ → Option Entry} {t : Txn} (ph : ℕ)
+pub link_grow : {start : List ℕ} {ks ls : List Commit} {p q next : ℕ} {f : ℕ → Option Entry} {t : Txn} (ph : ℕ)
     → (ph ≡ 2 → Promoting start ks p next f t → Promoting start ls q next f t) → Link start ks p next f t ph → Link start ls q next f t ph
-link-grow zero h l = l
-link-grow (suc zero) h l = l
-link-grow (suc (suc zero)) h l = h refl l
-link-grow (suc (suc (suc zero))) h l = l
-link-grow (suc (suc (suc (suc zero)))) h l = l
-link-grow (suc (suc (suc (suc (suc k))))) h l = l
+link_grow zero h l = l
+link_grow (suc zero) h l = l
+link_grow (suc (suc zero)) h l = h refl l
+link_grow (suc (suc (suc zero))) h l = l
+link_grow (suc (suc (suc (suc zero)))) h l = l
+link_grow (suc (suc (suc (suc (suc k))))) h l = l
 
 -- ---- the whole
 
@@ -115,26 +115,26 @@ pub record Shape (n : ℕ) (σ : Store) : Type 0 where
   pub records : length σ.sessions.records ≡ 16
   pub long : Long n σ.lent.locks
   pub logs : length σ.lent.logs ≡ 2048
-  pub counts : (s : ℕ) → (recordOf σ s).count ≤ 32
+  pub counts : (s : ℕ) → (record_of σ s).count ≤ 32
 
 -- if the newest commit was made by the last call, its session holds all the cells that it wrote
 abbrev pub Just : Store → Bool → List Commit → Type 0
 Just σ new [] = Unit
 Just σ new (k ∷ ks) = new ≡ true → (c : ℕ) → k.wrote c ≡ true → Holds σ k.who c
 
-pub just-off : (σ : Store) (b : Bool) (ks : List Commit) → b ≡ false → Just σ b ks
-just-off σ b [] h = tt
-just-off σ b (k ∷ ks) h = λ e. absurd (clash b e h)
+pub just_off : (σ : Store) (b : Bool) (ks : List Commit) → b ≡ false → Just σ b ks
+just_off σ b [] h = tt
+just_off σ b (k ∷ ks) h = λ e. absurd (clash b e h)
 
-pub just-map : (σ τ : Store) (b : Bool) (ks : List Commit) → ((s c : ℕ) → Holds σ s c → Holds τ s c) → Just σ b ks → Just τ b ks
-just-map σ τ b [] f h = tt
-just-map σ τ b (k ∷ ks) f h = λ e c w. f k.who c (h e c w)
+pub just_map : (σ τ : Store) (b : Bool) (ks : List Commit) → ((s c : ℕ) → Holds σ s c → Holds τ s c) → Just σ b ks → Just τ b ks
+just_map σ τ b [] f h = tt
+just_map σ τ b (k ∷ ks) f h = λ e c w. f k.who c (h e c w)
 
 pub record Inv (start : List ℕ) (σ : Store) (T : Ledger) : Type 0 where
   pub shape : Shape (length start) σ
-  pub locked : (c : ℕ) → c < length start → Locked (role σ c) (lockAt σ.lent.locks c)
+  pub locked : (c : ℕ) → c < length start → Locked (role σ c) (lock_at σ.lent.locks c)
   pub valued : (c : ℕ) → c < length start → Valued (role σ c) (get_or σ.lent.values c 0) (latest start T.commits c)
-  pub link : (s : ℕ) → Link start T.commits T.place (recordOf σ s).next (look σ s) (T.mine s) (recordOf σ s).phase
+  pub link : (s : ℕ) → Link start T.commits T.place (record_of σ s).next (look σ s) (T.mine s) (record_of σ s).phase
   pub lawful : Lawful start T.commits
   pub begun : 0 < T.place
   pub old : All (λ (k : Commit). k.place < T.place) T.commits
@@ -142,27 +142,27 @@ pub record Inv (start : List ℕ) (σ : Store) (T : Ledger) : Type 0 where
 
 -- session s acts: the other sessions' records and logs stay
 pub record Frame (s : ℕ) (σ τ : Store) : Type 0 where
-  pub ses : (t : ℕ) → (t ≡ s → ⊥) → recordOf τ t ≡ recordOf σ t
+  pub ses : (t : ℕ) → (t ≡ s → ⊥) → record_of τ t ≡ record_of σ t
   pub notes : (t : ℕ) → (t ≡ s → ⊥) → look τ t ≡ look σ t
 
-pub role-other : {s : ℕ} {σ τ : Store} → Frame s σ τ → (c t : ℕ) → (t ≡ s → ⊥) → role τ c t ≡ role σ c t
+pub role_other : {s : ℕ} {σ τ : Store} → Frame s σ τ → (c t : ℕ) → (t ≡ s → ⊥) → role τ c t ≡ role σ c t
 unfolding role
-role-other f c t n = rw (f.ses t n, f.notes t n)
+role_other f c t n = rw (f.ses t n, f.notes t n)
 
 module _ {start : List ℕ} {σ : Store} {T : Ledger} (s : ℕ) (I : Inv start σ T) where
   pub assemble : {τ : Store} → Frame s σ τ → Shape (length start) τ → (U : Ledger) → ((t : ℕ) → (t ≡ s → ⊥) → U.mine t ≡ T.mine t)
-      → ((t : ℕ) → (t ≡ s → ⊥) → (recordOf σ t).phase ≡ 2 → Promoting start T.commits T.place (recordOf σ t).next (look σ t) (T.mine t)
-      → Promoting start U.commits U.place (recordOf σ t).next (look σ t) (T.mine t))
-      → ((c : ℕ) → c < length start → Locked (role τ c) (lockAt τ.lent.locks c))
+      → ((t : ℕ) → (t ≡ s → ⊥) → (record_of σ t).phase ≡ 2 → Promoting start T.commits T.place (record_of σ t).next (look σ t) (T.mine t)
+      → Promoting start U.commits U.place (record_of σ t).next (look σ t) (T.mine t))
+      → ((c : ℕ) → c < length start → Locked (role τ c) (lock_at τ.lent.locks c))
       → ((c : ℕ) → c < length start → Valued (role τ c) (get_or τ.lent.values c 0) (latest start U.commits c))
-      → Link start U.commits U.place (recordOf τ s).next (look τ s) (U.mine s) (recordOf τ s).phase
+      → Link start U.commits U.place (record_of τ s).next (look τ s) (U.mine s) (record_of τ s).phase
       → Lawful start U.commits → T.place ≤ U.place → All (λ (k : Commit). k.place < U.place) U.commits → Just τ U.new U.commits → Inv start τ U
   assemble {τ} f sh U mn gr lo va li la pl ol ju =
       record {
         shape = sh;
         locked = lo;
         valued = va;
-        link = λ t. same t s (λ e. rw e li) (λ n. rw (f.ses t n, f.notes t n, mn t n) (link-grow (recordOf σ t).phase (gr t n) (I.link t)));
+        link = λ t. same t s (λ e. rw e li) (λ n. rw (f.ses t n, f.notes t n, mn t n) (link_grow (record_of σ t).phase (gr t n) (I.link t)));
         lawful = la;
         begun = omega (arith, I.begun);
         old = ol;
@@ -186,22 +186,22 @@ module _ {start : List ℕ} {σ : Store} {T : Ledger} (s : ℕ) (I : Inv start �
       }
 
   pub quiet : {τ : Store} → Frame s σ τ → Shape (length start) τ → (u : Txn) (q : ℕ) → T.place ≤ q
-      → ((c : ℕ) → c < length start → Locked (role τ c) (lockAt τ.lent.locks c))
+      → ((c : ℕ) → c < length start → Locked (role τ c) (lock_at τ.lent.locks c))
       → ((c : ℕ) → c < length start → Valued (role τ c) (get_or τ.lent.values c 0) (latest start T.commits c))
-      → Link start T.commits q (recordOf τ s).next (look τ s) u (recordOf τ s).phase
+      → Link start T.commits q (record_of τ s).next (look τ s) u (record_of τ s).phase
       → Inv start τ (record { place = q; mine = upd T.mine s u; commits = T.commits; new = false })
   quiet {τ} f sh u q le lo va li =
       assemble f sh (record { place = q; mine = upd T.mine s u; commits = T.commits; new = false })
       (λ t n. upd_other T.mine s u t n) (λ t n e p. later le p) lo va (rw (upd_same T.mine s u) li) I.lawful le
-      (all_map (λ k h. omega arith) T.commits I.old) (just-off τ false T.commits refl)
+      (all_map (λ k h. omega arith) T.commits I.old) (just_off τ false T.commits refl)
 
   -- a new commit, of session s at this place
   pub committing : {τ : Store} → Frame s σ τ → Shape (length start) τ → (u : Txn) (k : Commit) → k.place ≡ T.place
-      → ((t c : ℕ) → (t ≡ s → ⊥) → (recordOf σ t).phase ≡ 2 → k.wrote c ≡ true → isPublished (look σ t c) ≡ true → ⊥)
+      → ((t c : ℕ) → (t ≡ s → ⊥) → (record_of σ t).phase ≡ 2 → k.wrote c ≡ true → is_published (look σ t c) ≡ true → ⊥)
       → Fair start k T.commits
-      → ((c : ℕ) → c < length start → Locked (role τ c) (lockAt τ.lent.locks c))
+      → ((c : ℕ) → c < length start → Locked (role τ c) (lock_at τ.lent.locks c))
       → ((c : ℕ) → c < length start → Valued (role τ c) (get_or τ.lent.values c 0) (latest start (k ∷ T.commits) c))
-      → Link start (k ∷ T.commits) (suc T.place) (recordOf τ s).next (look τ s) u (recordOf τ s).phase
+      → Link start (k ∷ T.commits) (suc T.place) (record_of τ s).next (look τ s) u (record_of τ s).phase
       → ((c : ℕ) → k.wrote c ≡ true → Holds τ k.who c)
       → Inv start τ (record { place = suc T.place; mine = upd T.mine s u; commits = k ∷ T.commits; new = true })
   committing f sh u k e non fa lo va li ho =
@@ -215,7 +215,7 @@ module _ {start : List ℕ} {σ : Store} {T : Ledger} (s : ℕ) (I : Inv start �
         wrote = p.wrote;
         value = p.value;
         sealed = (p.sealed.0, omega (arith, p.sealed.1));
-        reads = all_map (λ r h. h ∙ sym (before-later start (T.mine t).snap r.cell k T.commits (omega (arith, p.sealed.1)))) (T.mine t).reads p.reads;
+        reads = all_map (λ r h. h ∙ sym (before_later start (T.mine t).snap r.cell k T.commits (omega (arith, p.sealed.1)))) (T.mine t).reads p.reads;
         apart = (λ c a b. absurd (non t c n ph a (sym (p.wrote c) ∙ b)), p.apart);
         left = p.left;
       })
@@ -233,11 +233,11 @@ calms {σ} {T} I =
       lawful = I.lawful;
       begun = I.begun;
       old = I.old;
-      just = just-off σ false T.commits refl;
+      just = just_off σ false T.commits refl;
     }
 
 -- another table of caps in force
-pub recaps : {start : List ℕ} {σ : Store} {T : Ledger} (caps : List ℕ) → Inv start σ T → Inv start (withCaps caps σ) T
+pub recaps : {start : List ℕ} {σ : Store} {T : Ledger} (caps : List ℕ) → Inv start σ T → Inv start (with_caps caps σ) T
 unfolding role look
 recaps {σ} {T} caps I =
     record {
@@ -248,7 +248,7 @@ recaps {σ} {T} caps I =
       lawful = I.lawful;
       begun = I.begun;
       old = I.old;
-      just = just-map σ (withCaps caps σ) T.new T.commits (λ s c h. h) I.just;
+      just = just_map σ (with_caps caps σ) T.new T.commits (λ s c h. h) I.just;
     }
 
 -- the next place
@@ -258,7 +258,7 @@ ticks {σ} {T} I =
       shape = I.shape;
       locked = I.locked;
       valued = I.valued;
-      link = λ t. link-grow (recordOf σ t).phase (λ e p. later 0 I (omega arith) p) (I.link t);
+      link = λ t. link_grow (record_of σ t).phase (λ e p. later 0 I (omega arith) p) (I.link t);
       lawful = I.lawful;
       begun = omega (arith, I.begun);
       old = all_map (λ k h. omega arith) T.commits I.old;

@@ -6,7 +6,7 @@ use mathlib.Core.List.{List, [], ◌∷◌}
 use lib.Dec.{ltb, eqb}
 use lib.ListN.{get_or}
 use Rattle.model.specs.Buffers.{Store}
-use Rattle.model.specs.History.{Action, actor, Event, tellsOf, eventOf, run}
+use Rattle.model.specs.History.{Action, actor, Event, tells_of, event_of, run}
 use Rattle.model.specs.Isolation.{All}
 use Rattle.model.specs.Search.{tally}
 use Rattle.model.specs.Told.{Told, began, got, put, held, sealed, moved, ended, begins, ReadOf}
@@ -63,8 +63,8 @@ saw c v t =
       commit = t.commit;
     }
 
-abbrev pub wroteTo : ℕ → ℕ → ℕ → Txn → Txn
-wroteTo c v f t =
+abbrev pub wrote_to : ℕ → ℕ → ℕ → Txn → Txn
+wrote_to c v f t =
     record {
       began = t.began;
       live = t.live;
@@ -80,8 +80,8 @@ wroteTo c v f t =
     }
 
 -- held, with the value found where no write came
-abbrev pub holdsTo : ℕ → ℕ → Txn → Txn
-holdsTo c f t =
+abbrev pub holds_to : ℕ → ℕ → Txn → Txn
+holds_to c f t =
     record {
       began = t.began;
       live = t.live;
@@ -97,8 +97,8 @@ holdsTo c f t =
     }
 
 -- sealed at place q; if it wrote none of the n cells it commits there
-abbrev pub sealedAt : ℕ → ℕ → Txn → Txn
-sealedAt n q t =
+abbrev pub sealed_at : ℕ → ℕ → Txn → Txn
+sealed_at n q t =
     record {
       began = t.began;
       live = t.live;
@@ -154,8 +154,8 @@ tick T = record { place = suc T.place; mine = T.mine; commits = T.commits; new =
 abbrev pub calm : Ledger → Ledger
 calm T = record { place = T.place; mine = T.mine; commits = T.commits; new = false }
 
-abbrev pub asCommit : ℕ → ℕ → Txn → Commit
-asCommit s p t = record { who = s; began = t.began; snap = t.snap; place = p; reads = t.reads; wrote = t.wrote; value = t.value }
+abbrev pub as_commit : ℕ → ℕ → Txn → Commit
+as_commit s p t = record { who = s; began = t.began; snap = t.snap; place = p; reads = t.reads; wrote = t.wrote; value = t.value }
 
 -- session s's transaction, if it is open, becomes f of it; a transaction that is committed now and was not is one more commit
 unfoldable pub amend : ℕ → (Txn → Txn) → Ledger → Ledger
@@ -165,7 +165,7 @@ amend s f T =
     (record {
       place = T.place;
       mine = upd T.mine s (f t);
-      commits = cond ((f t).done && not t.done) (asCommit s T.place (f t) ∷ T.commits) T.commits;
+      commits = cond ((f t).done && not t.done) (as_commit s T.place (f t) ∷ T.commits) T.commits;
       new = T.new || ((f t).done && not t.done);
     })
     T
@@ -177,9 +177,9 @@ starts s T = record { place = T.place; mine = upd T.mine s (opened T.place); com
 abbrev pub note : ℕ → ℕ → Told → Txn → Txn
 note n q began t = t
 note n q (got c v) t = saw c v t
-note n q (put c v f) t = wroteTo c v f t
-note n q (held c v f) t = saw c v (holdsTo c f t)
-note n q sealed t = sealedAt n q t
+note n q (put c v f) t = wrote_to c v f t
+note n q (held c v f) t = saw c v (holds_to c f t)
+note n q sealed t = sealed_at n q t
 note n q moved t = advanced n q t
 note n q ended t = closed t
 
@@ -193,7 +193,7 @@ hears n s (w ∷ ws) T = hear n s w (hears n s ws T)
 
 -- an event: all that it tells, at its place
 unfoldable pub observe : ℕ → Event → Ledger → Ledger
-observe n e T = tick (hears n (actor e.action) (tellsOf e) (calm T))
+observe n e T = tick (hears n (actor e.action) (tells_of e) (calm T))
 
 abbrev pub blank : Ledger
 blank = record { place = 1; mine = λ s. closed (opened 0); commits = []; new = false }
@@ -201,18 +201,18 @@ blank = record { place = 1; mine = λ s. closed (opened 0); commits = []; new = 
 -- the ledger of n cells after a list of actions, from one to go on with
 unfoldable pub ledger : ℕ → Ledger → Store → List Action → Ledger
 ledger n T σ [] = T
-ledger n T σ (k ∷ ks) = observe n (eventOf k (run σ ks)) (ledger n T σ ks)
+ledger n T σ (k ∷ ks) = observe n (event_of k (run σ ks)) (ledger n T σ ks)
 
 -- the value of the last commit to a cell before a place, or the starting value
-unfoldable pub valueBefore : ℕ → List ℕ → List Commit → ℕ → ℕ
-valueBefore p start [] c = get_or start c 0
-valueBefore p start (k ∷ ks) c = cond (ltb k.place p && k.wrote c) (k.value c) (valueBefore p start ks c)
+unfoldable pub value_before : ℕ → List ℕ → List Commit → ℕ → ℕ
+value_before p start [] c = get_or start c 0
+value_before p start (k ∷ ks) c = cond (ltb k.place p && k.wrote c) (k.value c) (value_before p start ks c)
 
 -- a commit against the older ones
 pub record Fair (start : List ℕ) (k : Commit) (ks : List Commit) : Type 0 where
   pub sealed : (0 < k.snap) × (k.snap ≤ k.place)
   pub newest : All (λ (j : Commit). j.place < k.place) ks
-  pub reads : All (λ (r : ReadOf). r.value ≡ valueBefore k.snap start ks r.cell) k.reads
+  pub reads : All (λ (r : ReadOf). r.value ≡ value_before k.snap start ks r.cell) k.reads
   pub apart : All (λ (j : Commit). (c : ℕ) → j.wrote c ≡ true → k.wrote c ≡ true → j.place < k.snap) ks
 
 abbrev pub Lawful : List ℕ → List Commit → Type 0

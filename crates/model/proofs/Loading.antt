@@ -5,27 +5,27 @@ use mathlib.Core.Bool.{true, ◌&&◌}
 use mathlib.Core.List.{List}
 use Rattle.records.specs.declared.Answer.{Answer}
 use Rattle.records.specs.declared.Answer.TheVariants.{Done, Refused}
-use Rattle.model.specs.Buffers.{Store, hasCaps, passes, all_fit, lengthsFit}
-use Rattle.model.specs.Load.{allIdle, allClassed, loadRefusal, withCaps, loadAnswer, load}
+use Rattle.model.specs.Buffers.{Store, has_caps, passes, all_fit, lengths_fit}
+use Rattle.model.specs.Load.{all_idle, all_classed, load_refusal, with_caps, load_answer, load}
 use Rattle.model.proofs.Tools.{test}
 
 -- what a load answered 100 has tested
 pub record Loaded (T : List ℕ) (σ : Store) : Type 0 where
-  pub lengths : (hasCaps σ.limits.caps && hasCaps T && lengthsFit σ.lent) ≡ true
-  pub idle : allIdle σ.sessions ≡ true
+  pub lengths : (has_caps σ.limits.caps && has_caps T && lengths_fit σ.lent) ≡ true
+  pub idle : all_idle σ.sessions ≡ true
   pub table : passes T ≡ true
-  pub classes : allClassed σ.lent.classes ≡ true
+  pub classes : all_classed σ.lent.classes ≡ true
   pub values : all_fit T σ.lent.values σ.lent.classes ≡ true
 
 -- what holds of the answer and the store, passed or refused
-pub load-cases {ℓ} : (P : Answer → Store → Type ℓ) (T : List ℕ) (σ : Store) → (Loaded T σ → P Done (withCaps T σ))
-    → P (Refused 7) σ → P (Refused 2) σ → P (Refused 16) σ → P (Refused 8) σ → P (Refused 17) σ → P (loadAnswer T σ) (load T σ)
-unfolding loadAnswer load loadRefusal
-load-cases P T σ f r7 r2 r16 r8 r17 =
-    test (hasCaps σ.limits.caps && hasCaps T && lengthsFit σ.lent)
-    (λ a. test (allIdle σ.sessions)
+pub load_cases {ℓ} : (P : Answer → Store → Type ℓ) (T : List ℕ) (σ : Store) → (Loaded T σ → P Done (with_caps T σ))
+    → P (Refused 7) σ → P (Refused 2) σ → P (Refused 16) σ → P (Refused 8) σ → P (Refused 17) σ → P (load_answer T σ) (load T σ)
+unfolding load_answer load load_refusal
+load_cases P T σ f r7 r2 r16 r8 r17 =
+    test (has_caps σ.limits.caps && has_caps T && lengths_fit σ.lent)
+    (λ a. test (all_idle σ.sessions)
     (λ b. test (passes T)
-    (λ c. test (allClassed σ.lent.classes)
+    (λ c. test (all_classed σ.lent.classes)
     (λ d. test (all_fit T σ.lent.values σ.lent.classes)
     (λ e. rw (a, b, c, d, e) (f (record { lengths = a; idle = b; table = c; classes = d; values = e })))
     (λ e. rw (a, b, c, d, e) r17))

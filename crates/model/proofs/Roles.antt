@@ -10,7 +10,7 @@ use Rattle.records.specs.declared.Lock.{Lock}
 use Rattle.model.specs.Buffers.{join, leave, vacate, withdraw, claim, acquire}
 use Rattle.model.specs.Isolation.{at}
 use Rattle.model.specs.Readers.{member, assign}
-use Rattle.model.proofs.Tools.{same, split, clash, member-assign-same, member-assign-other}
+use Rattle.model.proofs.Tools.{same, split, clash, member_assign_same, member_assign_other}
 
 -- nothing; entered while running, with the value found; to be published and not yet promoted; promoted, with the present value; committed
 -- and not yet published; published and not yet released
@@ -69,29 +69,29 @@ pub record Valued (p : ℕ → Role) (fig lat : ℕ) : Type 0 where
   pub due : (s v : ℕ) → p s ≡ pending v → v ≡ lat
   pub settled : ((s : ℕ) → pends (p s) ≡ false) → fig ≡ lat
 
-pub owns-holds : (x : Role) → owns x ≡ true → holds x ≡ true
-owns-holds out h = absurd (clash false h refl)
-owns-holds (reading f) h = refl
-owns-holds wanting h = refl
-owns-holds (owning v) h = refl
-owns-holds (pending v) h = refl
-owns-holds published h = refl
+pub owns_holds : (x : Role) → owns x ≡ true → holds x ≡ true
+owns_holds out h = absurd (clash false h refl)
+owns_holds (reading f) h = refl
+owns_holds wanting h = refl
+owns_holds (owning v) h = refl
+owns_holds (pending v) h = refl
+owns_holds published h = refl
 
-owns-claims : (x : Role) → owns x ≡ true → claims? x ≡ true
-owns-claims out h = h
-owns-claims (reading f) h = h
-owns-claims wanting h = refl
-owns-claims (owning v) h = refl
-owns-claims (pending v) h = refl
-owns-claims published h = refl
+owns_claims : (x : Role) → owns x ≡ true → claims? x ≡ true
+owns_claims out h = h
+owns_claims (reading f) h = h
+owns_claims wanting h = refl
+owns_claims (owning v) h = refl
+owns_claims (pending v) h = refl
+owns_claims published h = refl
 
-pends-owns : (x : Role) → owns x ≡ false → pends x ≡ false
-pends-owns out h = refl
-pends-owns (reading f) h = refl
-pends-owns wanting h = refl
-pends-owns (owning v) h = refl
-pends-owns (pending v) h = h
-pends-owns published h = refl
+pends_owns : (x : Role) → owns x ≡ false → pends x ≡ false
+pends_owns out h = refl
+pends_owns (reading f) h = refl
+pends_owns wanting h = refl
+pends_owns (owning v) h = refl
+pends_owns (pending v) h = h
+pends_owns published h = refl
 
 pub flip : (b : Bool) → (b ≡ true → ⊥) → b ≡ false
 flip true h = absurd (h refl)
@@ -108,8 +108,8 @@ module _ {p q : ℕ → Role} (s : ℕ) (o : (t : ℕ) → (t ≡ s → ⊥) →
 
   module _ {l : Lock} (g : Locked p l) where
     -- the claim of another stays good, and its own where it goes on to claim
-    claimer-on : (claims? (p s) ≡ true → claims? X ≡ true) → (l.claimant ≡ 16) ⊎ (claims? (q l.claimant) ≡ true)
-    claimer-on k = go g.claimer
+    claimer_on : (claims? (p s) ≡ true → claims? X ≡ true) → (l.claimant ≡ 16) ⊎ (claims? (q l.claimant) ≡ true)
+    claimer_on k = go g.claimer
       where
         go : (l.claimant ≡ 16) ⊎ (claims? (p l.claimant) ≡ true) → (l.claimant ≡ 16) ⊎ (claims? (q l.claimant) ≡ true)
         go (inl e) = inl e
@@ -124,7 +124,7 @@ module _ {p q : ℕ → Role} (s : ℕ) (o : (t : ℕ) → (t ≡ s → ⊥) →
           owner = every (λ t x. owns x ≡ true → (l.claimant ≡ t) × (l.exclusive ≡ 1) × (t < 16)) (λ e. g.owner s (sym w ∙ e)) (λ t n. g.owner t);
           alone = λ t u. every (λ t x. owns x ≡ true → holds (q u) ≡ true → u ≡ t) (λ e. rest s u (sym w ∙ e)) (λ t n. rest t u) t;
           early = every (λ t x. l.claimant ≡ t → l.exclusive ≡ 1 → owns x ≡ true) (λ c m. w ∙ g.early s c m) (λ t n. g.early t);
-          claimer = claimer-on k;
+          claimer = claimer_on k;
         }
       where
         rest : (t u : ℕ) → owns (p t) ≡ true → holds (q u) ≡ true → u ≡ t
@@ -135,8 +135,8 @@ module _ {p q : ℕ → Role} (s : ℕ) (o : (t : ℕ) → (t ≡ s → ⊥) →
     unfolding join
     joins h w c =
         record {
-          readers = every (λ t x. member (assign l.readers s true) t ≡ holds x) (member-assign-same l.readers s true ∙ sym h)
-              (λ t n. member-assign-other l.readers s t true n ∙ g.readers t);
+          readers = every (λ t x. member (assign l.readers s true) t ≡ holds x) (member_assign_same l.readers s true ∙ sym h)
+              (λ t n. member_assign_other l.readers s t true n ∙ g.readers t);
           owner = λ t e. absurd (clash (owns (q t)) e (idle t));
           alone = λ t u e. absurd (clash (owns (q t)) e (idle t));
           early = λ t e m. absurd (clash (owns (p 16)) (g.early 16 c m) (unowned g c 16));
@@ -151,28 +151,28 @@ module _ {p q : ℕ → Role} (s : ℕ) (o : (t : ℕ) → (t ≡ s → ⊥) →
     unfolding leave
     leaves h w =
         record {
-          readers = every (λ t x. member (assign l.readers s false) t ≡ holds x) (member-assign-same l.readers s false ∙ sym (ap holds h))
-              (λ t n. member-assign-other l.readers s t false n ∙ g.readers t);
+          readers = every (λ t x. member (assign l.readers s false) t ≡ holds x) (member_assign_same l.readers s false ∙ sym (ap holds h))
+              (λ t n. member_assign_other l.readers s t false n ∙ g.readers t);
           owner = every (λ t x. owns x ≡ true → (l.claimant ≡ t) × (l.exclusive ≡ 1) × (t < 16)) (λ e. absurd (clash (owns X) e (ap owns h))) (λ t n. g.owner t);
           alone = λ t u. every (λ t x. owns x ≡ true → holds (q u) ≡ true → u ≡ t) (λ e. absurd (clash (owns X) e (ap owns h))) (λ t n. rest t u) t;
           early = every (λ t x. l.claimant ≡ t → l.exclusive ≡ 1 → owns x ≡ true) (λ c m. absurd (w c)) (λ t n. g.early t);
-          claimer = stays-claimed g.claimer;
+          claimer = stays_claimed g.claimer;
         }
       where
         rest : (t u : ℕ) → owns (p t) ≡ true → holds (q u) ≡ true → u ≡ t
         rest t u a = every (λ u x. holds x ≡ true → u ≡ t) (λ e. absurd (clash (holds X) e (ap holds h))) (λ u n. g.alone t u a) u
 
-        stays-claimed : (l.claimant ≡ 16) ⊎ (claims? (p l.claimant) ≡ true) → (l.claimant ≡ 16) ⊎ (claims? (q l.claimant) ≡ true)
-        stays-claimed (inl e) = inl e
-        stays-claimed (inr k) = inr (ap claims? (o l.claimant w) ∙ k)
+        stays_claimed : (l.claimant ≡ 16) ⊎ (claims? (p l.claimant) ≡ true) → (l.claimant ≡ 16) ⊎ (claims? (q l.claimant) ≡ true)
+        stays_claimed (inl e) = inl e
+        stays_claimed (inr k) = inr (ap claims? (o l.claimant w) ∙ k)
 
     -- the claimant leaves
     pub vacates : X ≡ out → l.claimant ≡ s → Locked q (vacate s l)
     unfolding vacate
     vacates h c =
         record {
-          readers = every (λ t x. member (assign l.readers s false) t ≡ holds x) (member-assign-same l.readers s false ∙ sym (ap holds h))
-              (λ t n. member-assign-other l.readers s t false n ∙ g.readers t);
+          readers = every (λ t x. member (assign l.readers s false) t ≡ holds x) (member_assign_same l.readers s false ∙ sym (ap holds h))
+              (λ t n. member_assign_other l.readers s t false n ∙ g.readers t);
           owner = λ t e. absurd (clash (owns (q t)) e (idle t));
           alone = λ t u e. absurd (clash (owns (q t)) e (idle t));
           early = λ t e m. absurd (let z : ◌≡◌ {A = ℕ} 0 1 = m in omega arith);
@@ -194,10 +194,10 @@ module _ {p q : ℕ → Role} (s : ℕ) (o : (t : ℕ) → (t ≡ s → ⊥) →
     takes hp h w lt f =
         record {
           readers = every (λ t x. member l.readers t ≡ holds x) (g.readers s ∙ hp ∙ sym h) (λ t n. g.readers t);
-          owner = every (λ t x. owns x ≡ true → (s ≡ t) × (◌≡◌ {A = ℕ} 1 1) × (t < 16)) (λ e. (refl, refl, lt)) (λ t n e. absurd (none t n (owns-holds (p t) e)));
-          alone = λ t u. every (λ t x. owns x ≡ true → holds (q u) ≡ true → u ≡ t) (λ e. rest u) (λ t n e. absurd (none t n (owns-holds (p t) e))) t;
+          owner = every (λ t x. owns x ≡ true → (s ≡ t) × (◌≡◌ {A = ℕ} 1 1) × (t < 16)) (λ e. (refl, refl, lt)) (λ t n e. absurd (none t n (owns_holds (p t) e)));
+          alone = λ t u. every (λ t x. owns x ≡ true → holds (q u) ≡ true → u ≡ t) (λ e. rest u) (λ t n e. absurd (none t n (owns_holds (p t) e))) t;
           early = every (λ t x. s ≡ t → ◌≡◌ {A = ℕ} 1 1 → owns x ≡ true) (λ e m. w) (λ t n e m. absurd (n (sym e)));
-          claimer = inr (ap claims? b ∙ owns-claims X w);
+          claimer = inr (ap claims? b ∙ owns_claims X w);
         }
       where
         none : (t : ℕ) → (t ≡ s → ⊥) → holds (p t) ≡ true → ⊥
@@ -218,7 +218,7 @@ module _ {p q : ℕ → Role} (s : ℕ) (o : (t : ℕ) → (t ≡ s → ⊥) →
 
     pub sees : X ≡ reading fig → ((t : ℕ) → owns (p t) ≡ false) → Valued q fig lat
     sees h w =
-        let e = v.settled (λ t. pends-owns (p t) (w t)) in
+        let e = v.settled (λ t. pends_owns (p t) (w t)) in
         record {
           fresh = every (λ t x. (f : ℕ) → x ≡ reading f → f ≡ lat) (λ f k. cc) (λ t n. v.fresh t);
           due = every (λ t x. (f : ℕ) → x ≡ pending f → f ≡ lat) (λ f k. cc) (λ t n. v.due t);

@@ -14,10 +14,10 @@ use Rattle.model.specs.Effects.{number, value_of}
 use Rattle.model.specs.Told.{Told, began, got, put, held, sealed, moved, ended, ending, tells, WhereGot}
 use Rattle.model.proofs.Tools.{split, both_l, both_r}
 
-pub tells-any : (P : List Told → Type 0) (a : Answer) → P (ending a) → ((w : Told) → 100 ≤ number a → WhereGot (λ c v. v ≡ value_of a) w → P (w ∷ []))
+pub tells_any : (P : List Told → Type 0) (a : Answer) → P (ending a) → ((w : Told) → 100 ≤ number a → WhereGot (λ c v. v ≡ value_of a) w → P (w ∷ []))
     → (number a ≡ 105 → P (ended ∷ sealed ∷ [])) → (k : Call) (m : ℕ) → P (tells k a m)
 unfolding tells
-tells-any P a e f g k m = go k
+tells_any P a e f g k m = go k
   where
     big : (m : ℕ) → 100 ≤ m → eqb (number a) m ≡ true → 100 ≤ number a
     big m l h = let q = eqb-true (number a) m h in omega arith
@@ -37,11 +37,11 @@ module _ (r : ℕ) (small : (ltb r 100 && not (eqb r 6)) ≡ true) where
   pub off : (m : ℕ) → 100 ≤ m → eqb r m ≡ false
   off m l = let q = ltb-true r 100 (both_l (ltb r 100) (not (eqb r 6)) small) in ne_eqb r m (λ e. omega arith)
 
-  pub not-six : eqb r 6 ≡ false
-  not-six = not-true (eqb r 6) (both_r (ltb r 100) (not (eqb r 6)) small)
+  pub not_six : eqb r 6 ≡ false
+  not_six = not-true (eqb r 6) (both_r (ltb r 100) (not (eqb r 6)) small)
 
-  pub refused-tells : (k : Call) (m : ℕ) → tells k (Refused r) m ≡ []
+  pub refused_tells : (k : Call) (m : ℕ) → tells k (Refused r) m ≡ []
   unfolding ending
-  refused-tells k m =
+  refused_tells k m =
       let q = ltb-true r 100 (both_l (ltb r 100) (not (eqb r 6)) small) in
-      tells-any (λ ws. ws ≡ []) (Refused r) (rw (not-six, off 105 (omega arith))) (λ w l _. absurd (omega arith)) (λ e. absurd (omega arith)) k m
+      tells_any (λ ws. ws ≡ []) (Refused r) (rw (not_six, off 105 (omega arith))) (λ w l _. absurd (omega arith)) (λ e. absurd (omega arith)) k m

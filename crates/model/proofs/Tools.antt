@@ -9,7 +9,7 @@ use mathlib.Core.Option.{Option, none, some}
 use lib.Dec.{eqb}
 use lib.Count.{ones, ones_step}
 use borrow.Author.Tests.{eq-eqb, ne_eqb}
-use Rattle.model.specs.Readers.{odd, member, assign, otherReaders}
+use Rattle.model.specs.Readers.{odd, member, assign, other_readers}
 use Rattle.model.specs.Search.{or_else}
 
 -- a number is another or is not
@@ -48,10 +48,10 @@ pub and-false : (b : Bool) → (b && false) ≡ false
 and-false true = refl
 and-false false = refl
 
-pub orElse-none : (o : Option ℕ) → or_else o none ≡ o
+pub or_else-none : (o : Option ℕ) → or_else o none ≡ o
 unfolding or_else
-orElse-none none = refl
-orElse-none (some i) = refl
+or_else-none none = refl
+or_else-none (some i) = refl
 
 -- ---- a function changed at one place
 
@@ -66,29 +66,29 @@ pub upd_other {ℓ} : {A : Type ℓ} (f : ℕ → A) (s : ℕ) (a : A) (x : ℕ)
 unfolding upd
 upd_other f s a x h = rw (ne_eqb x s h)
 
-pub upd-twice {ℓ} : {A : Type ℓ} (f : ℕ → A) (s : ℕ) (a b : A) → upd (upd f s a) s b ≡ upd f s b
+pub upd_twice {ℓ} : {A : Type ℓ} (f : ℕ → A) (s : ℕ) (a b : A) → upd (upd f s a) s b ≡ upd f s b
 unfolding upd
-upd-twice f s a b = fun_ext (λ x. test (eqb x s) (λ y. rw y) (λ y. rw y))
+upd_twice f s a b = fun_ext (λ x. test (eqb x s) (λ y. rw y) (λ y. rw y))
 
 -- ---- bits
 
-pub half-assign : (y r : ℕ) → r < 2 → (y * 2 + r) / 2 ≡ y
-half-assign y r h = omega arith
+pub half_assign : (y r : ℕ) → r < 2 → (y * 2 + r) / 2 ≡ y
+half_assign y r h = omega arith
 
-pub member-assign-same : (x s : ℕ) (b : Bool) → member (assign x s b) s ≡ b
+pub member_assign_same : (x s : ℕ) (b : Bool) → member (assign x s b) s ≡ b
 unfolding member assign odd
-member-assign-same x zero true = eq-eqb ((x / 2 * 2 + 1) % 2) 1 (omega arith)
-member-assign-same x zero false = ne_eqb ((x / 2 * 2 + 0) % 2) 1 (omega arith)
-member-assign-same x (suc s) b = rw (half-assign (assign (x / 2) s b) (x % 2) (omega arith)) (member-assign-same (x / 2) s b)
+member_assign_same x zero true = eq-eqb ((x / 2 * 2 + 1) % 2) 1 (omega arith)
+member_assign_same x zero false = ne_eqb ((x / 2 * 2 + 0) % 2) 1 (omega arith)
+member_assign_same x (suc s) b = rw (half_assign (assign (x / 2) s b) (x % 2) (omega arith)) (member_assign_same (x / 2) s b)
 
-pub member-assign-other : (x s t : ℕ) (b : Bool) → (t ≡ s → ⊥) → member (assign x s b) t ≡ member x t
+pub member_assign_other : (x s t : ℕ) (b : Bool) → (t ≡ s → ⊥) → member (assign x s b) t ≡ member x t
 unfolding member assign odd
-member-assign-other x zero zero b h = absurd (h refl)
-member-assign-other x zero (suc t) true h = rw (half-assign (x / 2) 1 (omega arith))
-member-assign-other x zero (suc t) false h = rw (half-assign (x / 2) 0 (omega arith))
-member-assign-other x (suc s) zero b h =
+member_assign_other x zero zero b h = absurd (h refl)
+member_assign_other x zero (suc t) true h = rw (half_assign (x / 2) 1 (omega arith))
+member_assign_other x zero (suc t) false h = rw (half_assign (x / 2) 0 (omega arith))
+member_assign_other x (suc s) zero b h =
     ap (λ (k : ℕ). eqb k 1) (let e : (assign (x / 2) s b * 2 + x % 2) % 2 ≡ x % 2 = omega arith in e)
-member-assign-other x (suc s) (suc t) b h = rw (half-assign (assign (x / 2) s b) (x % 2) (omega arith)) (member-assign-other (x / 2) s t b (λ e. h (ap suc e)))
+member_assign_other x (suc s) (suc t) b h = rw (half_assign (assign (x / 2) s b) (x % 2) (omega arith)) (member_assign_other (x / 2) s t b (λ e. h (ap suc e)))
 
 no_ones : (x t : ℕ) → ones x ≡ 0 → member x t ≡ false
 unfolding member odd
@@ -96,6 +96,6 @@ no_ones x zero h = ne_eqb (x % 2) 1 (omega (arith, ones_step x))
 no_ones x (suc t) h = no_ones (x / 2) t (omega (arith, ones_step x))
 
 -- no other reader counted: no other member
-pub alone-member : (x s t : ℕ) → otherReaders s x ≡ 0 → (t ≡ s → ⊥) → member x t ≡ false
-unfolding otherReaders
-alone-member x s t h n = sym (member-assign-other x s t false n) ∙ no_ones (assign x s false) t h
+pub alone_member : (x s t : ℕ) → other_readers s x ≡ 0 → (t ≡ s → ⊥) → member x t ≡ false
+unfolding other_readers
+alone_member x s t h n = sym (member_assign_other x s t false n) ∙ no_ones (assign x s false) t h

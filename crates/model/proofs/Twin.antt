@@ -7,36 +7,36 @@ use Rattle.records.specs.declared.Call.TheVariants.{Peek}
 use Rattle.records.specs.declared.Answer.TheVariants.{Done}
 use Rattle.records.specs.declared.Plan.{Plan}
 use Rattle.records.specs.declared.Plan.TheVariants.{Refuse, ShowStore, ShowLog}
-use Rattle.model.specs.Buffers.{Store, entry_at, slotIn}
-use Rattle.model.specs.Plans.{peekSlot, plan}
-use Rattle.model.specs.Effects.{number, recordOf, answer, no_word, shown, logOf}
-use Rattle.model.specs.Step.{peekShows, plan_of, answer_of}
-use Rattle.model.proofs.Passing.{choose, running-cell}
+use Rattle.model.specs.Buffers.{Store, entry_at, slot_in}
+use Rattle.model.specs.Plans.{peek_slot, plan}
+use Rattle.model.specs.Effects.{number, record_of, answer, no_word, shown, log_of}
+use Rattle.model.specs.Step.{peek_shows, plan_of, answer_of}
+use Rattle.model.proofs.Passing.{choose, running_cell}
 use Rattle.model.proofs.Tools.{split}
 
 -- with no word a refusal, or with a word 100
 abbrev pub Tied : ℕ → Plan → Store → Type 0
 Tied s p σ = ((shown s p σ ≡ no_word) × (number (answer s p σ) ≡ 100 → ⊥)) ⊎ ((shown s p σ ≡ no_word → ⊥) × (answer s p σ ≡ Done))
 
-tied-refusal : (s k : ℕ) (σ : Store) → (k ≡ 100 → ⊥) → Tied s (Refuse k) σ
+tied_refusal : (s k : ℕ) (σ : Store) → (k ≡ 100 → ⊥) → Tied s (Refuse k) σ
 unfolding shown answer
-tied-refusal s k σ h = inl (refl, h)
+tied_refusal s k σ h = inl (refl, h)
 
-tied-store : (s c : ℕ) (σ : Store) → Tied s (ShowStore c) σ
+tied_store : (s c : ℕ) (σ : Store) → Tied s (ShowStore c) σ
 unfolding shown answer
-tied-store s c σ = inr (λ e. let z : ◌≡◌ {A = ℕ} 0 1 = cc in omega arith, refl)
+tied_store s c σ = inr (λ e. let z : ◌≡◌ {A = ℕ} 0 1 = cc in omega arith, refl)
 
-tied-log : (s k : ℕ) (σ : Store) → Tied s (ShowLog k) σ
+tied_log : (s k : ℕ) (σ : Store) → Tied s (ShowLog k) σ
 unfolding shown answer
-tied-log s k σ = inr (λ e. let z : ◌≡◌ {A = ℕ} 0 1 = cc in omega arith, refl)
+tied_log s k σ = inr (λ e. let z : ◌≡◌ {A = ℕ} 0 1 = cc in omega arith, refl)
 
-pub peek-and-twin : (σ : Store) (s c : ℕ)
-    → ((peekShows s c σ ≡ no_word) × (number (answer_of (Peek s c) σ) ≡ 100 → ⊥)) ⊎ ((peekShows s c σ ≡ no_word → ⊥) × (answer_of (Peek s c) σ ≡ Done))
-unfolding answer_of plan_of plan peekSlot
-peek-and-twin σ s c =
+pub peek_and_twin : (σ : Store) (s c : ℕ)
+    → ((peek_shows s c σ ≡ no_word) × (number (answer_of (Peek s c) σ) ≡ 100 → ⊥)) ⊎ ((peek_shows s c σ ≡ no_word → ⊥) × (answer_of (Peek s c) σ ≡ Done))
+unfolding answer_of plan_of plan peek_slot
+peek_and_twin σ s c =
     let P : Plan → Type 0 = λ p. Tied s p σ in
-    running-cell P σ.lent s (recordOf σ s) c (peekSlot (logOf σ s) c (slotIn (logOf σ s) (recordOf σ s).count c))
-    (tied-refusal s 7 σ (λ e. omega arith)) (tied-refusal s 1 σ (λ e. omega arith)) (tied-refusal s 9 σ (λ e. omega arith))
-    (tied-refusal s 2 σ (λ e. omega arith)) (tied-refusal s 3 σ (λ e. omega arith))
-    (λ _ _ _. choose P (peekSlot (logOf σ s) c) (slotIn (logOf σ s) (recordOf σ s).count c) (λ _. tied-refusal s 14 σ (λ e. omega arith))
-    (λ k _. split P (entry_at (logOf σ s) k).dirty (λ _. tied-log s k σ) (λ _. tied-store s c σ)))
+    running_cell P σ.lent s (record_of σ s) c (peek_slot (log_of σ s) c (slot_in (log_of σ s) (record_of σ s).count c))
+    (tied_refusal s 7 σ (λ e. omega arith)) (tied_refusal s 1 σ (λ e. omega arith)) (tied_refusal s 9 σ (λ e. omega arith))
+    (tied_refusal s 2 σ (λ e. omega arith)) (tied_refusal s 3 σ (λ e. omega arith))
+    (λ _ _ _. choose P (peek_slot (log_of σ s) c) (slot_in (log_of σ s) (record_of σ s).count c) (λ _. tied_refusal s 14 σ (λ e. omega arith))
+    (λ k _. split P (entry_at (log_of σ s) k).dirty (λ _. tied_log s k σ) (λ _. tied_store s c σ)))

@@ -4,11 +4,11 @@ use Rattle.std.specs.Prelude.{ℕ, zero, suc, ◌+◌, ◌*◌, ◌/◌, ◌%◌
 use Rattle.std.proofs.Math.Option.{Option, none, some}
 use Rattle.std.proofs.lemmas.List.Edits.{sets}
 use Rattle.model.specs.Search.{find, lowest}
-use Rattle.model.specs.Readers.{odd, withReader, withoutReader}
+use Rattle.model.specs.Readers.{odd, with_reader, without_reader}
 use Rattle.records.specs.declared.Session.{Session}
 use Rattle.records.specs.declared.Sessions.{Sessions}
 use Rattle.records.specs.declared.Lock.{Lock}
-pub use Rattle.records.specs.Records.{idle, running, withEntry, withEntries, moveTo}
+pub use Rattle.records.specs.Records.{idle, running, with_entry, with_entries, move_to}
 
 -- the locks: for each cell a reader set, a claimant and a writer mark, each kind in a list of its own (crate lock_records: as one run of records)
 pub record Locks : Type 0 where
@@ -39,21 +39,21 @@ size B = length B.values
 
 -- ---- session records
 
-unfoldable pub sessionAt : Sessions → ℕ → Session
-sessionAt ss s = get_or ss.records s idle
+unfoldable pub session_at : Sessions → ℕ → Session
+session_at ss s = get_or ss.records s idle
 
-unfoldable pub withSession : Sessions → ℕ → Session → Sessions
-withSession ss s x = record { records = set ss.records s x }
+unfoldable pub with_session : Sessions → ℕ → Session → Sessions
+with_session ss s x = record { records = set ss.records s x }
 
 -- ---- logs
 
 -- session s has the 128 words from 128 × s: its log
-unfoldable pub logIn : List ℕ → ℕ → List ℕ
-logIn logs s = take 128 (drop (128 * s) logs)
+unfoldable pub log_in : List ℕ → ℕ → List ℕ
+log_in logs s = take 128 (drop (128 * s) logs)
 
 -- the logs with that log changed
-unfoldable pub onLog : ℕ → (List ℕ → List ℕ) → List ℕ → List ℕ
-onLog s f logs = take (128 * s) logs ++ (f (logIn logs s) ++ drop 128 (drop (128 * s) logs))
+unfoldable pub on_log : ℕ → (List ℕ → List ℕ) → List ℕ → List ℕ
+on_log s f logs = take (128 * s) logs ++ (f (log_in logs s) ++ drop 128 (drop (128 * s) logs))
 
 -- entry k of a log is the four words from 4 × k
 unfoldable pub word : List ℕ → ℕ → ℕ → ℕ
@@ -68,11 +68,11 @@ pub record Entry : Type 0 where
   pub held : Bool
 
 -- the fourth word with one of the two marks set: the other stays, and what stands above is gone
-unfoldable pub withDirty : ℕ → ℕ
-withDirty w = w / 2 % 2 * 2 + 1
+unfoldable pub with_dirty : ℕ → ℕ
+with_dirty w = w / 2 % 2 * 2 + 1
 
-unfoldable pub withHeld : ℕ → ℕ
-withHeld w = 2 + w % 2
+unfoldable pub with_held : ℕ → ℕ
+with_held w = 2 + w % 2
 
 unfoldable pub cell_at : List ℕ → ℕ → ℕ
 cell_at log k = word log k 0
@@ -81,46 +81,46 @@ unfoldable pub entry_at : List ℕ → ℕ → Entry
 entry_at log k = record { snapshot = word log k 1; current = word log k 2; dirty = odd (word log k 3); held = odd (word log k 3 / 2) }
 
 -- which of the m entries is the cell's, and the entry
-unfoldable pub slotIn : List ℕ → ℕ → ℕ → Option ℕ
-slotIn log m c = find (cell_at log) m c
+unfoldable pub slot_in : List ℕ → ℕ → ℕ → Option ℕ
+slot_in log m c = find (cell_at log) m c
 
 unfoldable pub entry_of : List ℕ → Option ℕ → Option Entry
 entry_of log none = none
 entry_of log (some k) = some (entry_at log k)
 
-unfoldable pub lookIn : List ℕ → ℕ → ℕ → Option Entry
-lookIn log m c = entry_of log (slotIn log m c)
+unfoldable pub look_in : List ℕ → ℕ → ℕ → Option Entry
+look_in log m c = entry_of log (slot_in log m c)
 
 -- written, by its bit
-abbrev pub isDirty : Option Entry → Bool
-isDirty none = false
-isDirty (some e) = e.dirty
+abbrev pub is_dirty : Option Entry → Bool
+is_dirty none = false
+is_dirty (some e) = e.dirty
 
 -- an entry publishes, that is counts as written from the seal on, where it is held (document 02, Paper 4), or written with a present value that is not the one
 -- found (Paper 2)
 unfoldable pub publishes : Entry → Bool
 publishes e = e.held || (e.dirty && not (eqb e.current e.snapshot))
 
-abbrev pub isPublished : Option Entry → Bool
-isPublished none = false
-isPublished (some e) = publishes e
+abbrev pub is_published : Option Entry → Bool
+is_published none = false
+is_published (some e) = publishes e
 
 -- a cell publishes where its first entry does
-unfoldable pub publishesIn : List ℕ → ℕ → ℕ → Bool
-publishesIn log m c = isPublished (lookIn log m c)
+unfoldable pub publishes_in : List ℕ → ℕ → ℕ → Bool
+publishes_in log m c = is_published (look_in log m c)
 
 -- the lowest cell that publishes, not below a cell
-unfoldable pub targetIn : List ℕ → ℕ → ℕ → Option ℕ
-targetIn log m from = lowest (λ c. leb from c && publishesIn log m c) (cell_at log) m
+unfoldable pub target_in : List ℕ → ℕ → ℕ → Option ℕ
+target_in log m from = lowest (λ c. leb from c && publishes_in log m c) (cell_at log) m
 
 -- the value found, and the present value; 0 where the cell is not in the log
-abbrev pub foundOf : Option Entry → ℕ
-foundOf none = 0
-foundOf (some e) = e.snapshot
+abbrev pub found_of : Option Entry → ℕ
+found_of none = 0
+found_of (some e) = e.snapshot
 
-abbrev pub currentOf : Option Entry → ℕ
-currentOf none = 0
-currentOf (some e) = e.current
+abbrev pub current_of : Option Entry → ℕ
+current_of none = 0
+current_of (some e) = e.current
 
 -- entry k new: found and present are the value v, not written and not held
 unfoldable pub appended : List ℕ → ℕ → ℕ → ℕ → List ℕ
@@ -128,11 +128,11 @@ appended log k c v = sets log (4 * k) (c ∷ v ∷ v ∷ 0 ∷ [])
 
 -- the present value v in entry k, which is then written, also where v is the value found
 unfoldable pub updated : List ℕ → ℕ → ℕ → List ℕ
-updated log k v = sets log (4 * k + 2) (v ∷ withDirty (word log k 3) ∷ [])
+updated log k v = sets log (4 * k + 2) (v ∷ with_dirty (word log k 3) ∷ [])
 
 -- entry k held
 unfoldable pub marked : List ℕ → ℕ → List ℕ
-marked log k = set log (4 * k + 3) (withHeld (word log k 3))
+marked log k = set log (4 * k + 3) (with_held (word log k 3))
 
 -- ---- locks
 
@@ -140,11 +140,11 @@ marked log k = set log (4 * k + 3) (withHeld (word log k 3))
 abbrev pub free : Lock
 free = record { readers = 0; claimant = 16; exclusive = 0 }
 
-unfoldable pub lockAt : Locks → ℕ → Lock
-lockAt L c = record { readers = get_or L.readers c 0; claimant = get_or L.claimants c 16; exclusive = get_or L.exclusives c 0 }
+unfoldable pub lock_at : Locks → ℕ → Lock
+lock_at L c = record { readers = get_or L.readers c 0; claimant = get_or L.claimants c 16; exclusive = get_or L.exclusives c 0 }
 
-unfoldable pub setLock : ℕ → Lock → Locks → Locks
-setLock c l L =
+unfoldable pub set_lock : ℕ → Lock → Locks → Locks
+set_lock c l L =
     record {
       readers = set L.readers c l.readers;
       claimants = set L.claimants c l.claimant;
@@ -152,25 +152,25 @@ setLock c l L =
     }
 
 -- the locks with that of one cell changed
-unfoldable pub onLock : ℕ → (Lock → Lock) → Locks → Locks
-onLock c f L = setLock c (f (lockAt L c)) L
+unfoldable pub on_lock : ℕ → (Lock → Lock) → Locks → Locks
+on_lock c f L = set_lock c (f (lock_at L c)) L
 
 -- the locks with those of the cells of k entries changed, where a cell passes a test
 unfoldable pub sweep : (ℕ → Bool) → (Lock → Lock) → (ℕ → ℕ) → ℕ → Locks → Locks
 sweep at f cell zero L = L
-sweep at f cell (suc k) L = let r = sweep at f cell k L in cond (at (cell k)) (onLock (cell k) f r) r
+sweep at f cell (suc k) L = let r = sweep at f cell k L in cond (at (cell k)) (on_lock (cell k) f r) r
 
 -- a session joins the readers
 unfoldable pub join : ℕ → Lock → Lock
-join s l = record { readers = withReader s l.readers; claimant = l.claimant; exclusive = l.exclusive }
+join s l = record { readers = with_reader s l.readers; claimant = l.claimant; exclusive = l.exclusive }
 
 -- it leaves them
 unfoldable pub leave : ℕ → Lock → Lock
-leave s l = record { readers = withoutReader s l.readers; claimant = l.claimant; exclusive = l.exclusive }
+leave s l = record { readers = without_reader s l.readers; claimant = l.claimant; exclusive = l.exclusive }
 
 -- releasing: it leaves them, nobody is claimant, and the mark is 0
 unfoldable pub vacate : ℕ → Lock → Lock
-vacate s l = record { readers = withoutReader s l.readers; claimant = 16; exclusive = 0 }
+vacate s l = record { readers = without_reader s l.readers; claimant = 16; exclusive = 0 }
 
 -- rolling back: it leaves them, and claim and mark go where the claim is its own
 unfoldable pub withdraw : ℕ → Lock → Lock
@@ -187,27 +187,27 @@ acquire s l = record { readers = l.readers; claimant = s; exclusive = 1 }
 -- ---- caps and set-up
 
 -- our caps by class 0 to 15: a call that is handed no table goes by these
-unfoldable pub ourCaps : List ℕ
-ourCaps = 1 ∷ 6 ∷ 8 ∷ 10 ∷ 12 ∷ 15 ∷ 18 ∷ 21 ∷ 24 ∷ 27 ∷ 30 ∷ 36 ∷ 42 ∷ 48 ∷ 60 ∷ 4294967295 ∷ []
+unfoldable pub our_caps : List ℕ
+our_caps = 1 ∷ 6 ∷ 8 ∷ 10 ∷ 12 ∷ 15 ∷ 18 ∷ 21 ∷ 24 ∷ 27 ∷ 30 ∷ 36 ∷ 42 ∷ 48 ∷ 60 ∷ 4294967295 ∷ []
 
 abbrev pub ours : Limits
-ours = record { caps = ourCaps }
+ours = record { caps = our_caps }
 
 -- the cap of a class, in a table T
 unfoldable pub cap : List ℕ → ℕ → ℕ
 cap T k = get_or T k 0
 
 -- a table has 16 caps
-unfoldable pub hasCaps : List ℕ → Bool
-hasCaps T = eqb (length T) 16
+unfoldable pub has_caps : List ℕ → Bool
+has_caps T = eqb (length T) 16
 
 -- it passes where the first cap is 1 or more and each is above the one before it (document 02, Paper 5)
-unfoldable pub riseFrom : ℕ → List ℕ → Bool
-riseFrom m [] = true
-riseFrom m (c ∷ cs) = ltb m c && riseFrom c cs
+unfoldable pub rise_from : ℕ → List ℕ → Bool
+rise_from m [] = true
+rise_from m (c ∷ cs) = ltb m c && rise_from c cs
 
 unfoldable pub passes : List ℕ → Bool
-passes T = riseFrom 0 T
+passes T = rise_from 0 T
 
 -- a class byte above 15 and a value above its cap do not fit
 unfoldable pub fits : List ℕ → ℕ → ℕ → Bool
@@ -219,14 +219,14 @@ all_fit T (v ∷ vs) [] = false
 all_fit T (v ∷ vs) (k ∷ ks) = fits T k v && all_fit T vs ks
 
 -- n from 1 to 1,024 values; classes, reader sets, claimants and marks n long; 2,048 words of logs
-unfoldable pub lengthsMatch : ℕ → ℕ → ℕ → ℕ → ℕ → ℕ → Bool
-lengthsMatch n classes readers claimants exclusives logs =
+unfoldable pub lengths_match : ℕ → ℕ → ℕ → ℕ → ℕ → ℕ → Bool
+lengths_match n classes readers claimants exclusives logs =
     leb 1 n && leb n 1024 && eqb classes n && eqb readers n && eqb claimants n && eqb exclusives n && eqb logs 2048
 
-unfoldable pub lengthsFit : Buffers → Bool
-unfolding lengthsMatch
-lengthsFit B =
-    lengthsMatch (size B) (length B.classes) (length B.locks.readers) (length B.locks.claimants) (length B.locks.exclusives) (length B.logs)
+unfoldable pub lengths_fit : Buffers → Bool
+unfolding lengths_match
+lengths_fit B =
+    lengths_match (size B) (length B.classes) (length B.locks.readers) (length B.locks.claimants) (length B.locks.exclusives) (length B.logs)
 
 -- all sessions idle, all locks empty, all log words 0; values, classes and limits are not changed
 unfoldable pub fresh : Limits → Buffers → Store

@@ -7,8 +7,8 @@ use Rattle.records.specs.declared.Call.{Call}
 use Rattle.records.specs.declared.Call.TheVariants.{Begin, Read, Write, Seal, Advance, Abandon, Peek, Hold}
 use Rattle.records.specs.declared.Answer.{Answer}
 use Rattle.model.specs.Buffers.{Store, ours}
-use Rattle.model.specs.Effects.{number, value_of, Part, storeWord, logWord, no_word, shown}
-use Rattle.model.specs.Step.{sessionOf, plan_of, step, answer_of}
+use Rattle.model.specs.Effects.{number, value_of, Part, store_word, log_word, no_word, shown}
+use Rattle.model.specs.Step.{session_of, plan_of, step, answer_of}
 
 -- ---- what a row is given and leaves
 
@@ -28,8 +28,8 @@ abbrev pub state : Session → List ℕ → List ℕ → List ℕ → List ℕ �
 state x w v r c e = record { mine = x; words = w; values = v; readers = r; claimants = c; exclusives = e }
 
 -- the whole store: cells of class 2 and 16, other records and other log words of their own
-unfoldable pub storeWith : ℕ → State → Store
-storeWith s x =
+unfoldable pub store_with : ℕ → State → Store
+store_with s x =
     record {
       lent = record {
         values = x.values;
@@ -70,10 +70,10 @@ abbrev refused : State → Call → ℕ → Case
 refused x k n = unchanged x k n 0
 
 unfoldable pub actual : Case → Result
-actual r = let σ = storeWith (sessionOf r.call) r.given in result (answer_of r.call σ) (step r.call σ)
+actual r = let σ = store_with (session_of r.call) r.given in result (answer_of r.call σ) (step r.call σ)
 
 unfoldable pub expected : Case → Result
-expected r = record { number = r.number; value = r.value; store = storeWith (sessionOf r.call) r.left }
+expected r = record { number = r.number; value = r.value; store = store_with (session_of r.call) r.left }
 
 -- one number for each of the two cells
 abbrev cells : ℕ → ℕ → List ℕ
@@ -292,7 +292,7 @@ abbrev phased : (ℕ → State) → Call → List ℕ → Phased
 phased x k ns = record { given = x; call = k; numbers = ns }
 
 unfoldable pub answered : Phased → List ℕ
-answered r = map (λ (p : ℕ). number (answer_of r.call (storeWith 1 (r.given p)))) (0 ∷ 1 ∷ 2 ∷ 3 ∷ 4 ∷ 5 ∷ [])
+answered r = map (λ (p : ℕ). number (answer_of r.call (store_with 1 (r.given p)))) (0 ∷ 1 ∷ 2 ∷ 3 ∷ 4 ∷ 5 ∷ [])
 
 unfoldable pub phases : List Phased
 phases =
@@ -349,18 +349,18 @@ abbrev peeked : State → Call → Part → Peeked
 peeked x k w = record { given = x; call = k; part = w }
 
 unfoldable pub handed : Peeked → Part
-handed r = let σ = storeWith (sessionOf r.call) r.given in shown (sessionOf r.call) (plan_of r.call σ) σ
+handed r = let σ = store_with (session_of r.call) r.given in shown (session_of r.call) (plan_of r.call σ) σ
 
 unfoldable pub parts : List Peeked
 parts =
     -- the store's own word of an entry not written, held or not, the log's present word of a written one, in the session's own log; refused, no word
-    peeked (logged 2 0 (entry 0 8 4 6 ++ entry 1 5 6 1) 1) (Peek 1 0) (storeWord 0)
-    ∷ peeked (logged 2 0 (entry 0 8 4 6 ++ entry 1 5 6 1) 1) (Peek 1 1) (logWord 134)
-    ∷ peeked (logged 2 0 (entry 0 8 8 2 ++ entry 1 5 6 3) 1) (Peek 1 0) (storeWord 0) ∷ peeked (logged 2 0 (entry 0 8 8 2 ++ entry 1 5 6 3) 1) (Peek 1 1) (logWord 134)
-    ∷ peeked (logged 2 0 (entry 0 8 4 9 ++ entry 1 5 6 6) 1) (Peek 15 0) (logWord 1922)
-    ∷ peeked (logged 2 0 (entry 0 8 4 9 ++ entry 1 5 6 6) 1) (Peek 15 1) (storeWord 1)
+    peeked (logged 2 0 (entry 0 8 4 6 ++ entry 1 5 6 1) 1) (Peek 1 0) (store_word 0)
+    ∷ peeked (logged 2 0 (entry 0 8 4 6 ++ entry 1 5 6 1) 1) (Peek 1 1) (log_word 134)
+    ∷ peeked (logged 2 0 (entry 0 8 8 2 ++ entry 1 5 6 3) 1) (Peek 1 0) (store_word 0) ∷ peeked (logged 2 0 (entry 0 8 8 2 ++ entry 1 5 6 3) 1) (Peek 1 1) (log_word 134)
+    ∷ peeked (logged 2 0 (entry 0 8 4 9 ++ entry 1 5 6 6) 1) (Peek 15 0) (log_word 1922)
+    ∷ peeked (logged 2 0 (entry 0 8 4 9 ++ entry 1 5 6 6) 1) (Peek 15 1) (store_word 1)
     -- a written one's also where it has the value found, the store's or another
-    ∷ peeked (logged 1 0 (entry 0 3 3 1) 1) (Peek 2 0) (logWord 258) ∷ peeked (logged 1 0 (entry 0 8 8 1) 1) (Peek 1 0) (logWord 130)
+    ∷ peeked (logged 1 0 (entry 0 3 3 1) 1) (Peek 2 0) (log_word 258) ∷ peeked (logged 1 0 (entry 0 8 8 1) 1) (Peek 1 0) (log_word 130)
     ∷ peeked (logged 1 0 (entry 0 8 4 6 ++ entry 1 5 6 1) 1) (Peek 1 1) no_word
     ∷ peeked (logged 2 0 (entry 0 8 4 6 ++ entry 1 5 6 1) 2) (Peek 1 1) no_word
     ∷ peeked (logged 2 0 (entry 0 8 4 6 ++ entry 1 5 6 1) 1) (Peek 1 2) no_word

@@ -3,12 +3,12 @@
 use Rattle.std.specs.Prelude.{ℕ, suc, ◌≤◌, ◌<◌, ◌≡◌, ◌⊎◌, Bool, true, false, cond, List, [], ◌∷◌, reverse, leb, eqb, length}
 use Rattle.records.specs.declared.Call.{Call}
 use Rattle.records.specs.declared.Answer.{Answer}
-use Rattle.model.specs.Buffers.{Store, lockAt}
-use Rattle.model.specs.History.{Action, oneCall, manyReads, loadCaps, Event, event, withFound, readsEvent, loadEvent, run, events, Item, told, history, Name, transaction, isOpen, wrote, valueWritten, cellsWritten, readsBeforeWriting, valuesFound, snapshot, commit, committed, startingValue}
-use Rattle.model.specs.Load.{loadEffect}
-use Rattle.model.specs.ManyReads.{Reads, readMany}
+use Rattle.model.specs.Buffers.{Store, lock_at}
+use Rattle.model.specs.History.{Action, one_call, many_reads, load_caps, Event, event, with_found, reads_event, load_event, run, events, Item, told, history, Name, transaction, is_open, wrote, value_written, cells_written, reads_before_writing, values_found, snapshot, commit, committed, starting_value}
+use Rattle.model.specs.Load.{load_effect}
+use Rattle.model.specs.ManyReads.{Reads, read_many}
 use Rattle.model.specs.Step.{outcome, effect}
-use Rattle.model.specs.Told.{Told, foundBy, seals, moves, ReadOf}
+use Rattle.model.specs.Told.{Told, found_by, seals, moves, ReadOf}
 
 abbrev pub All {ℓ} : {A : Type ℓ} → (A → Type 0) → List A → Type 0
 All P [] = Unit
@@ -45,18 +45,18 @@ module _ (first : List ℕ) (h : List Item) where
 
   -- v is the value of the last commit to cell c before place q, or the starting value where there is none
   pub data Last (c q v : ℕ) : Type 0 where
-    lastCommit : (x : Name) → CommitsTo c q x → ((y : Name) → CommitsTo c q y → commitOf y ≤ commitOf x) → valueWritten (at x) c ≡ v → Last c q v
-    noCommit : ((y : Name) → CommitsTo c q y → ⊥) → startingValue first c ≡ v → Last c q v
+    last_commit : (x : Name) → CommitsTo c q x → ((y : Name) → CommitsTo c q y → commitOf y ≤ commitOf x) → value_written (at x) c ≡ v → Last c q v
+    no_commit : ((y : Name) → CommitsTo c q y → ⊥) → starting_value first c ≡ v → Last c q v
 
   pub record Isolated : Type 0 where
     -- the snapshot is the place of its own seal, after its begin and not after its commit
     pub snapshots : (x : Name) → Commits x → (x.place < snapshotOf x) × (snapshotOf x ≤ commitOf x) × ToldAt x (snapshotOf x) seals
     -- the commit is the place of its own advance, or of that seal where it wrote no cell
-    pub commits : (x : Name) → Commits x → ToldAt x (commitOf x) (λ w. cond (eqb (cellsWritten (length first) (at x)) 0) (seals w) (moves w))
+    pub commits : (x : Name) → Commits x → ToldAt x (commitOf x) (λ w. cond (eqb (cells_written (length first) (at x)) 0) (seals w) (moves w))
     -- each read before writing is the last commit's before the snapshot
-    pub reads : (x : Name) → Commits x → All (λ (r : ReadOf). Last r.cell (snapshotOf x) r.value) (readsBeforeWriting (at x))
+    pub reads : (x : Name) → Commits x → All (λ (r : ReadOf). Last r.cell (snapshotOf x) r.value) (reads_before_writing (at x))
     -- and so is each value found at a write or a hold: what is written back, or held and not written, is what the last commit left
-    pub finds : (x : Name) → Commits x → All (λ (r : ReadOf). Last r.cell (snapshotOf x) r.value) (valuesFound (at x))
+    pub finds : (x : Name) → Commits x → All (λ (r : ReadOf). Last r.cell (snapshotOf x) r.value) (values_found (at x))
     -- two writers of one cell have spans, from snapshot to commit, that do not meet
     pub apart : (x y : Name) (c : ℕ) → (x ≡ y → ⊥) → Commits x → Commits y → wrote (at x) c ≡ true → wrote (at y) c ≡ true
         → (commitOf x < snapshotOf y) ⊎ (commitOf y < snapshotOf x)
@@ -65,7 +65,7 @@ module _ (first : List ℕ) (h : List Item) where
 
 -- session s is claimant of cell c, with mark 1: it holds the writer lock, which the call hold by itself does not give
 abbrev pub Holds : Store → ℕ → ℕ → Type 0
-Holds σ s c = ((lockAt σ.lent.locks c).claimant ≡ s) × ((lockAt σ.lent.locks c).exclusive ≡ 1)
+Holds σ s c = ((lock_at σ.lent.locks c).claimant ≡ s) × ((lock_at σ.lent.locks c).exclusive ≡ 1)
 
 -- the first m actions of a list, which has the newest first
 unfoldable pub firsts : ℕ → List Action → List Action
@@ -87,12 +87,12 @@ module _ (start : List Item) (σ : Store) (ks : List Action) where
 
   pub record HoldsAtCommit : Type 0 where
     -- with its commit call a committed transaction holds all its writer locks
-    pub withThis : (x : Name) → Commits values items x → HoldsAll (run σ (firsts (commitOf values items x) ks)) x
+    pub with_this : (x : Name) → Commits values items x → HoldsAll (run σ (firsts (commitOf values items x) ks)) x
     -- and not before: one that wrote a cell does not hold them all after any earlier action from its begin on (an earlier transaction of its session may have)
-    pub notBefore : (x : Name) (m : ℕ) → Commits values items x → x.place ≤ m → m < commitOf values items x
+    pub not_before : (x : Name) (m : ℕ) → Commits values items x → x.place ≤ m → m < commitOf values items x
         → (c : ℕ) → wrote (at values items x) c ≡ true → HoldsAll (run σ (firsts m ks)) x → ⊥
     -- one that is open, wrote a cell and is not committed does not hold them all in the store that the list leaves
-    pub notUncommitted : (x : Name) → isOpen (at values items x) ≡ true → committed (length values) (at values items x) ≡ false
+    pub not_uncommitted : (x : Name) → is_open (at values items x) ≡ true → committed (length values) (at values items x) ≡ false
         → (c : ℕ) → wrote (at values items x) c ≡ true → HoldsAll (run σ ks) x → ⊥
 
 -- ---- demand 3
@@ -104,18 +104,18 @@ pub record Demand3 (start : List Item) (σ : Store) (actions : List Action) : Ty
 
 -- ---- demand 3 of code
 
--- actions taken one after the other by code that keeps its contract, the newest first: each was answered, and left, what `effect`, `readMany` of many reads, or
--- `loadEffect` of a load, says of what the one before left
+-- actions taken one after the other by code that keeps its contract, the newest first: each was answered, and left, what `effect`, `read_many` of many reads, or
+-- `load_effect` of a load, says of what the one before left
 pub data Ran (σ : Store) : List Action → List Event → Store → Type 0 where
   none : Ran σ [] [] σ
   then : {ks : List Action} {h : List Event} {x : Store} → Ran σ ks h x → (k : Call) (a : Answer) (y : Store) → outcome a y ≡ effect k x
-      → Ran σ (oneCall k ∷ ks) (withFound (foundBy k y) (event k a) ∷ h) y
-  thenMany : {ks : List Action} {h : List Event} {x : Store} → Ran σ ks h x → (s : ℕ) (cs : List ℕ) (words : ℕ) (r : Reads) → r ≡ readMany s cs words x
-      → Ran σ (manyReads s cs words ∷ ks) (readsEvent s cs words r.values r.last ∷ h) r.store
-  thenLoad : {ks : List Action} {h : List Event} {x : Store} → Ran σ ks h x → (T : List ℕ) (a : Answer) (y : Store) → outcome a y ≡ loadEffect T x
-      → Ran σ (loadCaps T ∷ ks) (loadEvent T a ∷ h) y
+      → Ran σ (one_call k ∷ ks) (with_found (found_by k y) (event k a) ∷ h) y
+  then_many : {ks : List Action} {h : List Event} {x : Store} → Ran σ ks h x → (s : ℕ) (cs : List ℕ) (words : ℕ) (r : Reads) → r ≡ read_many s cs words x
+      → Ran σ (many_reads s cs words ∷ ks) (reads_event s cs words r.values r.last ∷ h) r.store
+  then_load : {ks : List Action} {h : List Event} {x : Store} → Ran σ ks h x → (T : List ℕ) (a : Answer) (y : Store) → outcome a y ≡ load_effect T x
+      → Ran σ (load_caps T ∷ ks) (load_event T a ∷ h) y
 
--- what code answered, and the store that it left, of a list of actions in their order: those of the model, and demand 3 holds of them; `demand3-of-code` proves
+-- what code answered, and the store that it left, of a list of actions in their order: those of the model, and demand 3 holds of them; `demand3_of_code` proves
 -- it of what a set-up answered 100 left
 pub record Demand3OfCode (σ : Store) (actions : List Action) (h : List Event) (τ : Store) : Type 0 where
   pub events : h ≡ events σ (reverse actions)

@@ -1,6 +1,6 @@
 -- Many reads in one call (document 02, Paper 1): the session reads the cells of a list one by one, in order, and ends with the first read that gets no value.
 use Rattle.std.specs.Prelude.{ℕ, ◌%◌, ◌≡◌, cond, ◌&&◌, List, [], ◌∷◌, ◌++◌, ltb, leb, eqb, length, drop}
-use Rattle.model.specs.Buffers.{Buffers, Limits, Store, sessionAt, withSession}
+use Rattle.model.specs.Buffers.{Buffers, Limits, Store, session_at, with_session}
 use Rattle.records.specs.declared.Session.{Session}
 use Rattle.records.specs.declared.Sessions.{Sessions}
 use Rattle.records.specs.declared.Call.TheVariants.{Read}
@@ -34,14 +34,14 @@ reads s a (c ∷ cs) σ =
     cond (eqb (number b) 101) (obtained (value_of b) (reads s b cs τ)) (stopped b τ)
 
 -- refusals of the list: 15 where it has no cell or more than 32, then 13 where the target has fewer words than the list has cells; 0 where it is not refused
-unfoldable pub listRefusal : ℕ → ℕ → ℕ
-listRefusal cells words = require (ltb 0 cells && leb cells 32) 15 (require (leb cells words) 13 0)
+unfoldable pub list_refusal : ℕ → ℕ → ℕ
+list_refusal cells words = require (ltb 0 cells && leb cells 32) 15 (require (leb cells words) 13 0)
 
 -- the call, into a target of so many words: the list is judged before all else, and with a refused one nothing is obtained and all is as before. `Done` is never the
 -- last answer: there is a first read
-unfoldable pub readMany : ℕ → List ℕ → ℕ → Store → Reads
-readMany s cs words σ =
-    let n = listRefusal (length cs) words in
+unfoldable pub read_many : ℕ → List ℕ → ℕ → Store → Reads
+read_many s cs words σ =
+    let n = list_refusal (length cs) words in
     require (eqb n 0) (stopped (Refused n) σ) (reads s Done cs σ)
 
 -- what the call answers, the number of the last answer and how many values were obtained, and all that it leaves: the values stand at the front of the target, and its
@@ -52,15 +52,15 @@ pub record ReadsOutcome : Type 0 where
   pub target : List ℕ
   pub store : Store
 
-unfoldable pub readManyEffect : ℕ → List ℕ → List ℕ → Store → ReadsOutcome
-readManyEffect s cs target σ =
-    let r = readMany s cs (length target) σ in
+unfoldable pub read_many_effect : ℕ → List ℕ → List ℕ → Store → ReadsOutcome
+read_many_effect s cs target σ =
+    let r = read_many s cs (length target) σ in
     record { number = number r.last; count = length r.values; target = r.values ++ drop (length r.values) target; store = r.store }
 
 -- a call that is handed the lent buffers B, its session's record x, the cells cs and the target t, replies r, and leaves the buffers C and the target u: of every
 -- sixteen records of which x is the session's, and whatever the limits are, it answers and leaves what the model says, as `TakesRecord` says it of the other calls
 abbrev pub TakesReads : ℕ → List ℕ → Buffers → Session → List ℕ → ReadManyReply → Buffers → List ℕ → Type 0
 TakesReads s cs B x t r C u =
-    (G : Limits) (ss : Sessions) → sessionAt ss (s % 16) ≡ x
-    → record { number = r.number; count = r.count; target = u; store = record { lent = C; limits = G; sessions = withSession ss (s % 16) r.session } }
-    ≡ readManyEffect s cs t (record { lent = B; limits = G; sessions = ss })
+    (G : Limits) (ss : Sessions) → session_at ss (s % 16) ≡ x
+    → record { number = r.number; count = r.count; target = u; store = record { lent = C; limits = G; sessions = with_session ss (s % 16) r.session } }
+    ≡ read_many_effect s cs t (record { lent = B; limits = G; sessions = ss })

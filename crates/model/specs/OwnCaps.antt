@@ -6,10 +6,10 @@ use Rattle.records.specs.declared.Call.{Call}
 use Rattle.records.specs.declared.Call.TheVariants.{Begin, Read, Write, Seal, Advance, Abandon, Peek, Hold}
 use Rattle.model.specs.Buffers.{Store, ours}
 use Rattle.model.specs.Cases.{session, Result, result}
-use Rattle.model.specs.Effects.{number, value_of, logOf}
-use Rattle.model.specs.History.{Action, oneCall, manyReads, loadCaps, Event, run, events}
-use Rattle.model.specs.Load.{loadAnswer, load}
-use Rattle.model.specs.Step.{step, answer_of, setUpAnswer, setUp}
+use Rattle.model.specs.Effects.{number, value_of, log_of}
+use Rattle.model.specs.History.{Action, one_call, many_reads, load_caps, Event, run, events}
+use Rattle.model.specs.Load.{load_answer, load}
+use Rattle.model.specs.Step.{step, answer_of, set_up_answer, set_up}
 
 -- ---- tables
 
@@ -24,17 +24,17 @@ high = 2 ∷ 5 ∷ 9 ∷ 10 ∷ 12 ∷ 15 ∷ 18 ∷ 21 ∷ 24 ∷ 27 ∷ 30 ∷
 abbrev pub level : List ℕ
 level = 2 ∷ 2 ∷ 7 ∷ 9 ∷ 11 ∷ 14 ∷ 16 ∷ 20 ∷ 22 ∷ 25 ∷ 28 ∷ 33 ∷ 40 ∷ 45 ∷ 55 ∷ 90 ∷ []
 
-abbrev levelLast : List ℕ
-levelLast = 2 ∷ 4 ∷ 7 ∷ 9 ∷ 11 ∷ 14 ∷ 16 ∷ 20 ∷ 22 ∷ 25 ∷ 28 ∷ 33 ∷ 40 ∷ 45 ∷ 55 ∷ 55 ∷ []
+abbrev level_last : List ℕ
+level_last = 2 ∷ 4 ∷ 7 ∷ 9 ∷ 11 ∷ 14 ∷ 16 ∷ 20 ∷ 22 ∷ 25 ∷ 28 ∷ 33 ∷ 40 ∷ 45 ∷ 55 ∷ 55 ∷ []
 
 abbrev pub falling : List ℕ
 falling = 2 ∷ 4 ∷ 9 ∷ 7 ∷ 11 ∷ 14 ∷ 16 ∷ 20 ∷ 22 ∷ 25 ∷ 28 ∷ 33 ∷ 40 ∷ 45 ∷ 55 ∷ 90 ∷ []
 
-abbrev fromZero : List ℕ
-fromZero = 0 ∷ 4 ∷ 7 ∷ 9 ∷ 11 ∷ 14 ∷ 16 ∷ 20 ∷ 22 ∷ 25 ∷ 28 ∷ 33 ∷ 40 ∷ 45 ∷ 55 ∷ 90 ∷ []
+abbrev from_zero : List ℕ
+from_zero = 0 ∷ 4 ∷ 7 ∷ 9 ∷ 11 ∷ 14 ∷ 16 ∷ 20 ∷ 22 ∷ 25 ∷ 28 ∷ 33 ∷ 40 ∷ 45 ∷ 55 ∷ 90 ∷ []
 
-abbrev fromOne : List ℕ
-fromOne = 1 ∷ 4 ∷ 7 ∷ 9 ∷ 11 ∷ 14 ∷ 16 ∷ 20 ∷ 22 ∷ 25 ∷ 28 ∷ 33 ∷ 40 ∷ 45 ∷ 55 ∷ 90 ∷ []
+abbrev from_one : List ℕ
+from_one = 1 ∷ 4 ∷ 7 ∷ 9 ∷ 11 ∷ 14 ∷ 16 ∷ 20 ∷ 22 ∷ 25 ∷ 28 ∷ 33 ∷ 40 ∷ 45 ∷ 55 ∷ 90 ∷ []
 
 -- and two that are not of 16 caps
 abbrev fifteen : List ℕ
@@ -45,7 +45,7 @@ seventeen = low ++ 91 ∷ []
 
 -- which of them pass
 unfoldable pub tables : List (List ℕ)
-tables = low ∷ high ∷ ours.caps ∷ fromOne ∷ level ∷ levelLast ∷ falling ∷ fromZero ∷ []
+tables = low ∷ high ∷ ours.caps ∷ from_one ∷ level ∷ level_last ∷ falling ∷ from_zero ∷ []
 
 unfoldable pub passing : List Bool
 passing = true ∷ true ∷ true ∷ true ∷ false ∷ false ∷ false ∷ false ∷ []
@@ -81,12 +81,12 @@ filled T v k words set claimant mark word xs =
 abbrev used : Lending → Store
 used r = filled r.caps r.values r.classes r.words 5 2 1 7 (replicate 16 (session 3 9 1))
 
-unfoldable pub startedBy : Lending → Result
-startedBy r = result (setUpAnswer (used r)) (setUp (used r))
+unfoldable pub started_by : Lending → Result
+started_by r = result (set_up_answer (used r)) (set_up (used r))
 
 -- 100: sessions idle, locks empty, log words 0, and the table as it was handed in; else all as before
-unfoldable pub startsBy : Lending → Result
-startsBy r =
+unfoldable pub starts_by : Lending → Result
+starts_by r =
     record {
       number = r.number;
       value = 0;
@@ -100,8 +100,8 @@ lendings =
     -- 8 by a class above 15
     ∷ lending low (0 ∷ 0 ∷ []) (2 ∷ 16 ∷ []) 2048 8
     -- 16, before 8
-    ∷ lending level (7 ∷ []) (2 ∷ []) 2048 16 ∷ lending levelLast (7 ∷ []) (2 ∷ []) 2048 16 ∷ lending falling (7 ∷ []) (2 ∷ []) 2048 16
-    ∷ lending fromZero (7 ∷ []) (2 ∷ []) 2048 16 ∷ lending level (7 ∷ []) (16 ∷ []) 2048 16 ∷ lending falling (99 ∷ []) (2 ∷ []) 2048 16
+    ∷ lending level (7 ∷ []) (2 ∷ []) 2048 16 ∷ lending level_last (7 ∷ []) (2 ∷ []) 2048 16 ∷ lending falling (7 ∷ []) (2 ∷ []) 2048 16
+    ∷ lending from_zero (7 ∷ []) (2 ∷ []) 2048 16 ∷ lending level (7 ∷ []) (16 ∷ []) 2048 16 ∷ lending falling (99 ∷ []) (2 ∷ []) 2048 16
     -- 7 by the table's length, and by the others', before 16
     ∷ lending fifteen (7 ∷ []) (2 ∷ []) 2048 7 ∷ lending seventeen (7 ∷ []) (2 ∷ []) 2048 7 ∷ lending [] (7 ∷ []) (2 ∷ []) 2048 7
     ∷ lending level (7 ∷ []) (2 ∷ []) 2047 7 ∷ lending low (7 ∷ []) (2 ∷ []) 2049 7 ∷ lending falling [] [] 2048 7
@@ -122,8 +122,8 @@ abbrev written : List ℕ → ℕ → ℕ → ℕ → ℕ → List ℕ → Writt
 written T k s v n w = record { caps = T; class = k; writer = s; value = v; number = n; words = w }
 
 -- one cell, of value 0; session 0 runs
-abbrev pub oneCell : List ℕ → ℕ → Store
-oneCell T k = filled T (0 ∷ []) (k ∷ []) 2048 0 16 0 0 (session 1 0 0 ∷ replicate 15 (session 0 0 0))
+abbrev pub one_cell : List ℕ → ℕ → Store
+one_cell T k = filled T (0 ∷ []) (k ∷ []) 2048 0 16 0 0 (session 1 0 0 ∷ replicate 15 (session 0 0 0))
 
 -- the number, the first words of session 0's log, and the table afterwards
 pub record Wrote : Type 0 where
@@ -131,14 +131,14 @@ pub record Wrote : Type 0 where
   pub words : List ℕ
   pub caps : List ℕ
 
-unfoldable pub wroteBy : Written → Wrote
-wroteBy r =
+unfoldable pub wrote_by : Written → Wrote
+wrote_by r =
     let k = Write r.writer 0 r.value in
-    let σ = oneCell r.caps r.class in
-    record { number = number (answer_of k σ); words = take 4 (logOf (step k σ) 0); caps = (step k σ).limits.caps }
+    let σ = one_cell r.caps r.class in
+    record { number = number (answer_of k σ); words = take 4 (log_of (step k σ) 0); caps = (step k σ).limits.caps }
 
-unfoldable pub writesBy : Written → Wrote
-writesBy r = record { number = r.number; words = r.words; caps = r.caps }
+unfoldable pub writes_by : Written → Wrote
+writes_by r = record { number = r.number; words = r.words; caps = r.caps }
 
 unfoldable pub writes : List Written
 writes =
@@ -146,7 +146,7 @@ writes =
     written low 2 0 7 100 (0 ∷ 0 ∷ 7 ∷ 1 ∷ []) ∷ written low 2 0 8 4 (0 ∷ 0 ∷ 0 ∷ 0 ∷ []) ∷ written high 2 0 9 100 (0 ∷ 0 ∷ 9 ∷ 1 ∷ [])
     ∷ written low 0 0 2 100 (0 ∷ 0 ∷ 2 ∷ 1 ∷ []) ∷ written low 0 0 3 4 (0 ∷ 0 ∷ 0 ∷ 0 ∷ []) ∷ written low 15 0 90 100 (0 ∷ 0 ∷ 90 ∷ 1 ∷ []) ∷ written low 15 0 91 4 (0 ∷ 0 ∷ 0 ∷ 0 ∷ [])
     -- by one that does not pass
-    ∷ written falling 3 0 7 100 (0 ∷ 0 ∷ 7 ∷ 1 ∷ []) ∷ written falling 3 0 8 4 (0 ∷ 0 ∷ 0 ∷ 0 ∷ []) ∷ written fromZero 0 0 0 100 (0 ∷ 0 ∷ 0 ∷ 1 ∷ []) ∷ written fromZero 0 0 1 4 (0 ∷ 0 ∷ 0 ∷ 0 ∷ [])
+    ∷ written falling 3 0 7 100 (0 ∷ 0 ∷ 7 ∷ 1 ∷ []) ∷ written falling 3 0 8 4 (0 ∷ 0 ∷ 0 ∷ 0 ∷ []) ∷ written from_zero 0 0 0 100 (0 ∷ 0 ∷ 0 ∷ 1 ∷ []) ∷ written from_zero 0 0 1 4 (0 ∷ 0 ∷ 0 ∷ 0 ∷ [])
     ∷ written falling 16 0 0 8 (0 ∷ 0 ∷ 0 ∷ 0 ∷ []) ∷ written low 16 0 99 8 (0 ∷ 0 ∷ 0 ∷ 0 ∷ [])
     -- 7, before 1, 2 and 8
     ∷ written fifteen 2 0 1 7 (0 ∷ 0 ∷ 0 ∷ 0 ∷ []) ∷ written seventeen 2 0 1 7 (0 ∷ 0 ∷ 0 ∷ 0 ∷ []) ∷ written [] 16 0 1 7 (0 ∷ 0 ∷ 0 ∷ 0 ∷ [])
@@ -157,8 +157,8 @@ writes =
 unfoldable pub others : List Call
 others = Begin 1 ∷ Read 0 0 ∷ Hold 0 0 ∷ Seal 0 ∷ Advance 0 ∷ Abandon 0 ∷ Peek 0 0 ∷ Write 0 0 0 ∷ []
 
-unfoldable pub answersWithout : List ℕ
-answersWithout = map (λ (k : Call). number (answer_of k (oneCell [] 2))) others
+unfoldable pub answers_without : List ℕ
+answers_without = map (λ (k : Call). number (answer_of k (one_cell [] 2))) others
 
 -- ---- a load
 
@@ -176,15 +176,15 @@ pub record Loading : Type 0 where
 abbrev loading : List ℕ → List ℕ → List ℕ → List ℕ → ℕ → ℕ → ℕ → ℕ → Loading
 loading C T v k w s p n = record { caps = C; table = T; values = v; classes = k; words = w; who = s; phase = p; number = n }
 
-abbrev loadedFrom : Loading → List ℕ → Store
-loadedFrom r T = filled T r.values r.classes r.words 5 2 1 7 (set (replicate 16 (session 0 9 1)) r.who (session r.phase 9 1))
+abbrev loaded_from : Loading → List ℕ → Store
+loaded_from r T = filled T r.values r.classes r.words 5 2 1 7 (set (replicate 16 (session 0 9 1)) r.who (session r.phase 9 1))
 
-unfoldable pub loadedBy : Loading → Result
-loadedBy r = let σ = loadedFrom r r.caps in result (loadAnswer r.table σ) (load r.table σ)
+unfoldable pub loaded_by : Loading → Result
+loaded_by r = let σ = loaded_from r r.caps in result (load_answer r.table σ) (load r.table σ)
 
 -- 100: the new table is in force; else the old one; and all else as before
-unfoldable pub loadsBy : Loading → Result
-loadsBy r = record { number = r.number; value = 0; store = loadedFrom r (cond (eqb r.number 100) r.table r.caps) }
+unfoldable pub loads_by : Loading → Result
+loads_by r = record { number = r.number; value = 0; store = loaded_from r (cond (eqb r.number 100) r.table r.caps) }
 
 unfoldable pub loads : List Loading
 loads =
@@ -195,8 +195,8 @@ loads =
     ∷ loading low high (7 ∷ []) (2 ∷ []) 2048 0 1 2 ∷ loading low high (7 ∷ []) (2 ∷ []) 2048 7 2 2 ∷ loading low high (7 ∷ []) (2 ∷ []) 2048 15 4 2
     ∷ loading low high (7 ∷ []) (2 ∷ []) 2048 0 5 2 ∷ loading low high (7 ∷ []) (2 ∷ []) 2048 15 255 2 ∷ loading low level (7 ∷ []) (16 ∷ []) 2048 3 1 2
     -- 16, before 8 and 17
-    ∷ loading low level (7 ∷ []) (2 ∷ []) 2048 0 0 16 ∷ loading low levelLast (7 ∷ []) (2 ∷ []) 2048 0 0 16 ∷ loading low falling (7 ∷ []) (2 ∷ []) 2048 0 0 16
-    ∷ loading low fromZero (7 ∷ []) (2 ∷ []) 2048 0 0 16 ∷ loading low level (7 ∷ []) (16 ∷ []) 2048 0 0 16 ∷ loading low level (99 ∷ []) (2 ∷ []) 2048 0 0 16
+    ∷ loading low level (7 ∷ []) (2 ∷ []) 2048 0 0 16 ∷ loading low level_last (7 ∷ []) (2 ∷ []) 2048 0 0 16 ∷ loading low falling (7 ∷ []) (2 ∷ []) 2048 0 0 16
+    ∷ loading low from_zero (7 ∷ []) (2 ∷ []) 2048 0 0 16 ∷ loading low level (7 ∷ []) (16 ∷ []) 2048 0 0 16 ∷ loading low level (99 ∷ []) (2 ∷ []) 2048 0 0 16
     -- 8, before 17, of any cell
     ∷ loading low high (7 ∷ []) (16 ∷ []) 2048 0 0 8 ∷ loading low high (99 ∷ 0 ∷ []) (2 ∷ 255 ∷ []) 2048 0 0 8
     -- 17: above its new cap, of any cell, within the old one or not; at it
@@ -224,7 +224,7 @@ course T ks n v e U = record { caps = T; actions = ks; numbers = n; answered = v
 
 -- what it comes to: set-up's number, and the same of the actions
 pub record Ends : Type 0 where
-  pub setUp : ℕ
+  pub set_up : ℕ
   pub numbers : List ℕ
   pub answered : List ℕ
   pub ends : List ℕ
@@ -233,37 +233,37 @@ pub record Ends : Type 0 where
 abbrev pub start_of : Course → Store
 start_of r = used (lending r.caps (3 ∷ []) (2 ∷ []) 2048 100)
 
-unfoldable pub endsOf : Course → Ends
-endsOf r =
-    let σ = setUp (start_of r) in
+unfoldable pub ends_of : Course → Ends
+ends_of r =
+    let σ = set_up (start_of r) in
     let h = reverse (events σ (reverse r.actions)) in
     let τ = run σ (reverse r.actions) in
     record {
-      setUp = number (setUpAnswer (start_of r));
+      set_up = number (set_up_answer (start_of r));
       numbers = map (λ (e : Event). number e.answer) h;
       answered = map (λ (e : Event). value_of e.answer) h;
       ends = τ.lent.values;
       table = τ.limits.caps;
     }
 
-unfoldable pub expectedOf : Course → Ends
-expectedOf r = record { setUp = 100; numbers = r.numbers; answered = r.answered; ends = r.ends; table = r.table }
+unfoldable pub expected_of : Course → Ends
+expected_of r = record { set_up = 100; numbers = r.numbers; answered = r.answered; ends = r.ends; table = r.table }
 
 -- session 0 writes v and commits
 abbrev commits : ℕ → List Action
-commits v = oneCall (Begin 0) ∷ oneCall (Write 0 0 v) ∷ oneCall (Seal 0) ∷ oneCall (Advance 0) ∷ oneCall (Advance 0) ∷ oneCall (Advance 0) ∷ []
+commits v = one_call (Begin 0) ∷ one_call (Write 0 0 v) ∷ one_call (Seal 0) ∷ one_call (Advance 0) ∷ one_call (Advance 0) ∷ one_call (Advance 0) ∷ []
 
 unfoldable pub courses : List Course
 courses =
     -- above the old cap and within the new one: 4, and after the load it passes
-    course low (oneCall (Begin 0) ∷ oneCall (Write 0 0 9) ∷ oneCall (Abandon 0) ∷ loadCaps high ∷ commits 9) (100 ∷ 4 ∷ 100 ∷ 100 ∷ 100 ∷ 100 ∷ 102 ∷ 103 ∷ 103 ∷ 105 ∷ []) (replicate 10 0) (9 ∷ []) high
+    course low (one_call (Begin 0) ∷ one_call (Write 0 0 9) ∷ one_call (Abandon 0) ∷ load_caps high ∷ commits 9) (100 ∷ 4 ∷ 100 ∷ 100 ∷ 100 ∷ 100 ∷ 102 ∷ 103 ∷ 103 ∷ 105 ∷ []) (replicate 10 0) (9 ∷ []) high
     -- 17 leaves the old table, and a write after it goes by that
-    ∷ course high (commits 9 ++ loadCaps low ∷ oneCall (Begin 0) ∷ oneCall (Write 0 0 8) ∷ oneCall (Write 0 0 10) ∷ [])
+    ∷ course high (commits 9 ++ load_caps low ∷ one_call (Begin 0) ∷ one_call (Write 0 0 8) ∷ one_call (Write 0 0 10) ∷ [])
     (100 ∷ 100 ∷ 102 ∷ 103 ∷ 103 ∷ 105 ∷ 17 ∷ 100 ∷ 100 ∷ 4 ∷ []) (replicate 10 0) (9 ∷ []) high
     -- 2 while a session runs, promotes, publishes or releases; 100 once it has ended
-    ∷ course low (oneCall (Begin 0) ∷ loadCaps high ∷ oneCall (Write 0 0 5) ∷ oneCall (Seal 0) ∷ loadCaps high ∷ oneCall (Advance 0) ∷ loadCaps high ∷ oneCall (Advance 0) ∷ loadCaps high ∷ oneCall (Advance 0) ∷ loadCaps high ∷ [])
+    ∷ course low (one_call (Begin 0) ∷ load_caps high ∷ one_call (Write 0 0 5) ∷ one_call (Seal 0) ∷ load_caps high ∷ one_call (Advance 0) ∷ load_caps high ∷ one_call (Advance 0) ∷ load_caps high ∷ one_call (Advance 0) ∷ load_caps high ∷ [])
     (100 ∷ 2 ∷ 100 ∷ 102 ∷ 2 ∷ 103 ∷ 2 ∷ 103 ∷ 2 ∷ 105 ∷ 100 ∷ []) (replicate 11 0) (5 ∷ []) high
     -- refused by 16 and 7, the old table stays; a lower cap holds after a load
-    ∷ course high (loadCaps level ∷ loadCaps fromZero ∷ loadCaps fifteen ∷ oneCall (Begin 0) ∷ oneCall (Write 0 0 9) ∷ oneCall (Abandon 0) ∷ loadCaps low ∷ oneCall (Begin 0) ∷ oneCall (Write 0 0 8) ∷ oneCall (Write 0 0 7) ∷ oneCall (Read 0 0) ∷ [])
+    ∷ course high (load_caps level ∷ load_caps from_zero ∷ load_caps fifteen ∷ one_call (Begin 0) ∷ one_call (Write 0 0 9) ∷ one_call (Abandon 0) ∷ load_caps low ∷ one_call (Begin 0) ∷ one_call (Write 0 0 8) ∷ one_call (Write 0 0 7) ∷ one_call (Read 0 0) ∷ [])
     (16 ∷ 16 ∷ 7 ∷ 100 ∷ 100 ∷ 100 ∷ 100 ∷ 100 ∷ 4 ∷ 100 ∷ 101 ∷ []) (replicate 10 0 ++ 7 ∷ []) (3 ∷ []) low
     ∷ []

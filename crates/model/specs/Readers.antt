@@ -17,12 +17,12 @@ assign x zero b = x / 2 * 2 + cond b 1 0
 assign x (suc s) b = assign (x / 2) s b * 2 + x % 2
 
 -- a session joins the readers, and leaves them
-abbrev pub withReader : ℕ → ℕ → ℕ
-withReader s x = assign x s true
+abbrev pub with_reader : ℕ → ℕ → ℕ
+with_reader s x = assign x s true
 
-abbrev pub withoutReader : ℕ → ℕ → ℕ
-withoutReader s x = assign x s false
+abbrev pub without_reader : ℕ → ℕ → ℕ
+without_reader s x = assign x s false
 
 -- the other readers: the ones in the set, the session's own bit left aside
-unfoldable pub otherReaders : ℕ → ℕ → ℕ
-otherReaders s x = ones (withoutReader s x)
+unfoldable pub other_readers : ℕ → ℕ → ℕ
+other_readers s x = ones (without_reader s x)

@@ -5,7 +5,7 @@ use Rattle.records.specs.declared.Session.{Session}
 use Rattle.records.specs.declared.Call.TheVariants.{Begin, Write}
 use Rattle.model.specs.Buffers.{Store, ours}
 use Rattle.model.specs.Effects.{number}
-use Rattle.model.specs.Step.{answer_of, setUpAnswer, setUp}
+use Rattle.model.specs.Step.{answer_of, set_up_answer, set_up}
 use Rattle.model.specs.Cases.{session, Result, result}
 
 -- ---- set-up
@@ -42,17 +42,17 @@ used r = filled r 5 2 1 7 (session 3 9 1)
 
 -- set-up's answer and all that it leaves, and what a begin of session 16 answers on the same buffers
 pub record Started : Type 0 where
-  pub setUp : Result
+  pub set_up : Result
   pub begin : ℕ
 
-unfoldable pub startedBy : Lending → Started
-startedBy r = record { setUp = result (setUpAnswer (used r)) (setUp (used r)); begin = number (answer_of (Begin 16) (used r)) }
+unfoldable pub started_by : Lending → Started
+started_by r = record { set_up = result (set_up_answer (used r)) (set_up (used r)); begin = number (answer_of (Begin 16) (used r)) }
 
 -- 100: sessions idle, locks empty, log words 0, values and classes as before; else all as before. The begin is 7 where lengths are wrong, else 1
-unfoldable pub startsBy : Lending → Started
-startsBy r =
+unfoldable pub starts_by : Lending → Started
+starts_by r =
     record {
-      setUp = record { number = r.number; value = 0; store = cond (eqb r.number 100) (filled r 0 16 0 0 (session 0 0 0)) (used r) };
+      set_up = record { number = r.number; value = 0; store = cond (eqb r.number 100) (filled r 0 16 0 0 (session 0 0 0)) (used r) };
       begin = cond (eqb r.number 7) 7 1;
     }
 
@@ -79,12 +79,12 @@ pub record Cap : Type 0 where
   pub most : ℕ
 
 -- one cell of a class with a value; its session 0 runs
-abbrev pub ofClass : ℕ → ℕ → Store
-ofClass k v = filled (lending (v ∷ []) (k ∷ []) 1 1 1 2048 0) 0 16 0 0 (session 1 0 0)
+abbrev pub of_class : ℕ → ℕ → Store
+of_class k v = filled (lending (v ∷ []) (k ∷ []) 1 1 1 2048 0) 0 16 0 0 (session 1 0 0)
 
 -- what set-up answers to a value, and a write to it
 unfoldable pub judged : ℕ → ℕ → List ℕ
-judged k v = number (setUpAnswer (ofClass k v)) ∷ number (answer_of (Write 0 0 v) (ofClass k 0)) ∷ []
+judged k v = number (set_up_answer (of_class k v)) ∷ number (answer_of (Write 0 0 v) (of_class k 0)) ∷ []
 
 abbrev cap : ℕ → ℕ → Cap
 cap k m = record { class = k; most = m }

@@ -4,7 +4,7 @@ use Rattle.std.specs.Prelude.{◌≡◌, ℕ, ◌+◌, ◌*◌, List, [], length
 use Rattle.std.specs.Borrow.{Bor}
 use denote.Triple.Both.{Both}
 use Rattle.model.specs.Buffers.{Limits}
-use Rattle.model.specs.Effects.{Part, storeWord, logWord, no_word}
+use Rattle.model.specs.Effects.{Part, store_word, log_word, no_word}
 
 abbrev pub Slice : Type 0
 Slice = Both (Bor (List ℕ)) (Bor (List ℕ))
@@ -13,11 +13,11 @@ abbrev pub Number : Type 0
 Number = Both (Bor ℕ) (Bor ℕ)
 
 -- a lent table of caps as the limits, before the call and after it
-abbrev pub capsBefore : Slice → Limits
-capsBefore caps = record { caps = caps.entry.now }
+abbrev pub caps_before : Slice → Limits
+caps_before caps = record { caps = caps.entry.now }
 
-abbrev pub capsAfter : Slice → Limits
-capsAfter caps = record { caps = caps.exit.now }
+abbrev pub caps_after : Slice → Limits
+caps_after caps = record { caps = caps.exit.now }
 
 -- r is the part of s that is n words of 4 bytes from place i: the words themselves, and not a copy; none of the n is missing
 pub record PartOf (s : Bor (List ℕ)) (i n : ℕ) (r : Bor (List ℕ)) : Type 0 where
@@ -28,6 +28,6 @@ pub record PartOf (s : Bor (List ℕ)) (i n : ℕ) (r : Bor (List ℕ)) : Type 0
 
 -- what is handed back for a part: exactly one word of the values, exactly one word of the logs, or no word
 abbrev pub IsPart : Bor (List ℕ) → Bor (List ℕ) → Part → Bor (List ℕ) → Type 0
-IsPart values logs (storeWord i) r = PartOf values i 1 r
-IsPart values logs (logWord i) r = PartOf logs i 1 r
+IsPart values logs (store_word i) r = PartOf values i 1 r
+IsPart values logs (log_word i) r = PartOf logs i 1 r
 IsPart values logs no_word r = r.now ≡ []

@@ -4,8 +4,8 @@ use Rattle.std.specs.Prelude.{ℕ, Bool, true, false, cond, not, ◌||◌, List,
 use Rattle.records.specs.declared.Call.{Call}
 use Rattle.records.specs.declared.Call.TheVariants.{Begin, Read, Write, Seal, Advance, Abandon, Peek, Hold}
 use Rattle.records.specs.declared.Answer.{Answer}
-use Rattle.model.specs.Buffers.{Store, lookIn, foundOf}
-use Rattle.model.specs.Effects.{number, value_of, recordOf, logOf}
+use Rattle.model.specs.Buffers.{Store, look_in, found_of}
+use Rattle.model.specs.Effects.{number, value_of, record_of, log_of}
 
 -- began: a begin answered 100; got: a read of a cell answered 101, with the value; put: a write to a cell answered 100, with the value
 -- and with the value found in the cell; held: a hold of a cell answered 101, with the value and with the value found; sealed: a seal answered 102 or 105;
@@ -24,15 +24,15 @@ unfoldable pub ending : Answer → List Told
 ending a = cond (eqb (number a) 6 || eqb (number a) 105) (ended ∷ []) []
 
 -- the value found is no answer's: it is taken from the log that a write or a hold leaves (document 02, Papers 2 and 4)
-abbrev pub foundBy : Call → Store → ℕ
-foundBy (Begin s) τ = 0
-foundBy (Read s c) τ = 0
-foundBy (Write s c v) τ = foundOf (lookIn (logOf τ s) (recordOf τ s).count c)
-foundBy (Seal s) τ = 0
-foundBy (Advance s) τ = 0
-foundBy (Abandon s) τ = 0
-foundBy (Peek s c) τ = 0
-foundBy (Hold s c) τ = foundOf (lookIn (logOf τ s) (recordOf τ s).count c)
+abbrev pub found_by : Call → Store → ℕ
+found_by (Begin s) τ = 0
+found_by (Read s c) τ = 0
+found_by (Write s c v) τ = found_of (look_in (log_of τ s) (record_of τ s).count c)
+found_by (Seal s) τ = 0
+found_by (Advance s) τ = 0
+found_by (Abandon s) τ = 0
+found_by (Peek s c) τ = 0
+found_by (Hold s c) τ = found_of (look_in (log_of τ s) (record_of τ s).count c)
 
 -- what a call tells with its answer and with the value found, which a write and a hold tell; the newest first: a seal answered 105 tells the seal and then the end; a peek's word does not count as read
 unfoldable pub tells : Call → Answer → ℕ → List Told
@@ -46,11 +46,11 @@ tells (Peek s c) a f = ending a
 tells (Hold s c) a f = cond (eqb (number a) 101) (held c (value_of a) f ∷ []) (ending a)
 
 -- what many reads of cells tell by the values that they obtained and their last answer, the newest first: as much as these reads would tell one by one, and nothing
--- where the list was refused (`as-single-reads` and `refused-tell` in proofs/ManyReads.antt)
-unfoldable pub readsTell : List ℕ → List ℕ → Answer → List Told
-readsTell [] vs a = ending a
-readsTell (c ∷ cs) [] a = ending a
-readsTell (c ∷ cs) (v ∷ vs) a = readsTell cs vs a ++ got c v ∷ []
+-- where the list was refused (`as_single_reads` and `refused_tell` in proofs/ManyReads.antt)
+unfoldable pub reads_tell : List ℕ → List ℕ → Answer → List Told
+reads_tell [] vs a = ending a
+reads_tell (c ∷ cs) [] a = ending a
+reads_tell (c ∷ cs) (v ∷ vs) a = reads_tell cs vs a ++ got c v ∷ []
 
 -- ---- one test for each kind of thing told
 
@@ -123,14 +123,14 @@ ends ended = true
 -- ---- what is told with a cell
 
 -- the value written; of a hold, the value found
-abbrev pub valuePut : Told → ℕ
-valuePut began = 0
-valuePut (got c v) = 0
-valuePut (put c v f) = v
-valuePut (held c v f) = f
-valuePut sealed = 0
-valuePut moved = 0
-valuePut ended = 0
+abbrev pub value_put : Told → ℕ
+value_put began = 0
+value_put (got c v) = 0
+value_put (put c v f) = v
+value_put (held c v f) = f
+value_put sealed = 0
+value_put moved = 0
+value_put ended = 0
 
 -- a claim about the value got from a cell
 abbrev pub WhereGot : (ℕ → ℕ → Type 0) → Told → Type 0
@@ -148,21 +148,21 @@ pub record ReadOf : Type 0 where
   pub value : ℕ
 
 -- a value got is one read more, unless its cell passes a test
-abbrev pub readUnless : (ℕ → Bool) → Told → List ReadOf → List ReadOf
-readUnless w began rs = rs
-readUnless w (got c v) rs = cond (w c) rs (record { cell = c; value = v } ∷ rs)
-readUnless w (put c v f) rs = rs
-readUnless w (held c v f) rs = cond (w c) rs (record { cell = c; value = v } ∷ rs)
-readUnless w sealed rs = rs
-readUnless w moved rs = rs
-readUnless w ended rs = rs
+abbrev pub read_unless : (ℕ → Bool) → Told → List ReadOf → List ReadOf
+read_unless w began rs = rs
+read_unless w (got c v) rs = cond (w c) rs (record { cell = c; value = v } ∷ rs)
+read_unless w (put c v f) rs = rs
+read_unless w (held c v f) rs = cond (w c) rs (record { cell = c; value = v } ∷ rs)
+read_unless w sealed rs = rs
+read_unless w moved rs = rs
+read_unless w ended rs = rs
 
 -- a value found with a write or a hold is one more
-abbrev pub andFound : Told → List ReadOf → List ReadOf
-andFound began rs = rs
-andFound (got c v) rs = rs
-andFound (put c v f) rs = record { cell = c; value = f } ∷ rs
-andFound (held c v f) rs = record { cell = c; value = f } ∷ rs
-andFound sealed rs = rs
-andFound moved rs = rs
-andFound ended rs = rs
+abbrev pub and_found : Told → List ReadOf → List ReadOf
+and_found began rs = rs
+and_found (got c v) rs = rs
+and_found (put c v f) rs = record { cell = c; value = f } ∷ rs
+and_found (held c v f) rs = record { cell = c; value = f } ∷ rs
+and_found sealed rs = rs
+and_found moved rs = rs
+and_found ended rs = rs

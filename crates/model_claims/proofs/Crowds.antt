@@ -2,15 +2,15 @@
 use mathlib.Core.Path.{◌≡◌, refl}
 use mathlib.Core.List.{map}
 use Rattle.model.specs.Computing.{computing}
-use Rattle.model.specs.Orders.{result, expected, given, answersFrom, valuesAfter}
-use Rattle.model.specs.Waits.{fifteenOthers}
+use Rattle.model.specs.Orders.{result, expected, given, answers_from, values_after}
+use Rattle.model.specs.Waits.{fifteen_others}
 use Rattle.model.specs.Cases as row
-use Rattle.model.specs.Cases.{crowds, actual, storeWith}
+use Rattle.model.specs.Cases.{crowds, actual, store_with}
 
-pub fifteen-hold : result fifteenOthers ≡ expected fifteenOthers
-unfolding result expected fifteenOthers given answersFrom valuesAfter computing
-fifteen-hold = refl
+pub fifteen_hold : result fifteen_others ≡ expected fifteen_others
+unfolding result expected fifteen_others given answers_from values_after computing
+fifteen_hold = refl
 
-pub crowds-hold : map {B = row.Result} actual crowds ≡ map {B = row.Result} row.expected crowds
-unfolding crowds actual storeWith row.expected computing
-crowds-hold = refl
+pub crowds_hold : map {B = row.Result} actual crowds ≡ map {B = row.Result} row.expected crowds
+unfolding crowds actual store_with row.expected computing
+crowds_hold = refl

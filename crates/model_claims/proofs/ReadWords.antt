@@ -4,43 +4,43 @@ use mathlib.Core.List.{List, [], ◌∷◌, map}
 use Rattle.records.specs.declared.Call.TheVariants.{Begin, Seal}
 use Rattle.model.specs.Caps.{cap_of}
 use Rattle.model.specs.Computing.{computing, counting}
-use Rattle.model.specs.History.{Action, oneCall, manyReads, startingValue}
+use Rattle.model.specs.History.{Action, one_call, many_reads, starting_value}
 use Rattle.model.specs.Isolation.{firsts}
-use Rattle.model.specs.Serial.{Serial, serialStep, serial}
-use Rattle.model.specs.Told.{Told, ReadOf, tells, readsTell}
-use Rattle.model.specs.Words.{Telling, tellings, ReadsTelling, readsTellings, Word, Row, word_of, rows, FoundRow, foundOfRow, foundRows, SerialRow, serialOf, serialRows, midway}
+use Rattle.model.specs.Serial.{Serial, serial_step, serial}
+use Rattle.model.specs.Told.{Told, ReadOf, tells, reads_tell}
+use Rattle.model.specs.Words.{Telling, tellings, ReadsTelling, reads_tellings, Word, Row, word_of, rows, FoundRow, found_of_row, found_rows, SerialRow, serial_of, serial_rows, midway}
 
-pub tellings-hold : map {B = List Told} (λ (r : Telling). tells r.call r.answer r.found) tellings ≡ map {B = List Told} (λ (r : Telling). r.told) tellings
+pub tellings_hold : map {B = List Told} (λ (r : Telling). tells r.call r.answer r.found) tellings ≡ map {B = List Told} (λ (r : Telling). r.told) tellings
 unfolding tellings counting
-tellings-hold = refl
+tellings_hold = refl
 
-pub reads-tellings-hold : map {B = List Told} (λ (r : ReadsTelling). readsTell r.cells r.values r.answer) readsTellings ≡ map {B = List Told} (λ (r : ReadsTelling). r.told) readsTellings
-unfolding readsTellings counting
-reads-tellings-hold = refl
+pub reads_tellings_hold : map {B = List Told} (λ (r : ReadsTelling). reads_tell r.cells r.values r.answer) reads_tellings ≡ map {B = List Told} (λ (r : ReadsTelling). r.told) reads_tellings
+unfolding reads_tellings counting
+reads_tellings_hold = refl
 
-pub words-hold : map {B = Word} word_of rows ≡ map {B = Word} (λ (r : Row). r.word) rows
+pub words_hold : map {B = Word} word_of rows ≡ map {B = Word} (λ (r : Row). r.word) rows
 unfolding rows word_of counting
-words-hold = refl
+words_hold = refl
 
-pub found-hold : map {B = List ReadOf} foundOfRow foundRows ≡ map {B = List ReadOf} (λ (r : FoundRow). r.found) foundRows
-unfolding foundRows foundOfRow counting
-found-hold = refl
+pub found_hold : map {B = List ReadOf} found_of_row found_rows ≡ map {B = List ReadOf} (λ (r : FoundRow). r.found) found_rows
+unfolding found_rows found_of_row counting
+found_hold = refl
 
-pub serial-holds : map {B = Serial} serialOf serialRows ≡ map {B = Serial} (λ (r : SerialRow). r.serial) serialRows
-unfolding serialRows serialOf serialStep serial counting
-serial-holds = refl
+pub serial_holds : map {B = Serial} serial_of serial_rows ≡ map {B = Serial} (λ (r : SerialRow). r.serial) serial_rows
+unfolding serial_rows serial_of serial_step serial counting
+serial_holds = refl
 
-pub starting-values : (startingValue (3 ∷ 5 ∷ []) 0 ≡ 3) × (startingValue (3 ∷ 5 ∷ []) 1 ≡ 5)
-starting-values = (refl, refl)
+pub starting_values : (starting_value (3 ∷ 5 ∷ []) 0 ≡ 3) × (starting_value (3 ∷ 5 ∷ []) 1 ≡ 5)
+starting_values = (refl, refl)
 
-pub caps-of : (cap_of (midway 1 4 16 0) 0 ≡ 8) × (cap_of (midway 1 4 16 0) 1 ≡ 6)
+pub caps_of : (cap_of (midway 1 4 16 0) 0 ≡ 8) × (cap_of (midway 1 4 16 0) 1 ≡ 6)
 unfolding midway computing
-caps-of = (refl, refl)
+caps_of = (refl, refl)
 
 -- many reads are one of three actions
 abbrev three : List Action
-three = oneCall (Seal 0) ∷ manyReads 0 (0 ∷ 1 ∷ []) 2 ∷ oneCall (Begin 0) ∷ []
+three = one_call (Seal 0) ∷ many_reads 0 (0 ∷ 1 ∷ []) 2 ∷ one_call (Begin 0) ∷ []
 
-pub first-actions : (firsts 0 three ≡ []) × (firsts 1 three ≡ oneCall (Begin 0) ∷ []) × (firsts 2 three ≡ manyReads 0 (0 ∷ 1 ∷ []) 2 ∷ oneCall (Begin 0) ∷ []) × (firsts 3 three ≡ three)
+pub first_actions : (firsts 0 three ≡ []) × (firsts 1 three ≡ one_call (Begin 0) ∷ []) × (firsts 2 three ≡ many_reads 0 (0 ∷ 1 ∷ []) 2 ∷ one_call (Begin 0) ∷ []) × (firsts 3 three ≡ three)
 unfolding firsts
-first-actions = (refl, refl, refl, refl)
+first_actions = (refl, refl, refl, refl)

@@ -9,48 +9,48 @@ use Rattle.records.specs.declared.Answer.{Answer}
 use Rattle.records.specs.declared.Answer.TheVariants.{Done, Value, Sealed, Moved, Waiting, Committed, Refused}
 use Rattle.model.specs.Buffers.{ours, Store, idle}
 use Rattle.model.specs.Computing.{computing, counting}
-use Rattle.model.specs.History.{Action, oneCall, manyReads, asActions, Event, tellsOf, run, events, told}
+use Rattle.model.specs.History.{Action, one_call, many_reads, as_actions, Event, tells_of, run, events, told}
 use Rattle.model.specs.Isolation.{All}
-use Rattle.model.specs.Serial.{serialStep, serial, OneAtATime, SeriallyEqual}
+use Rattle.model.specs.Serial.{serial_step, serial, OneAtATime, SeriallyEqual}
 use Rattle.model.specs.Effects.{number}
-use Rattle.model.specs.Step.{setUpAnswer, setUp}
+use Rattle.model.specs.Step.{set_up_answer, set_up}
 use Rattle.model.specs.Told.{Told, begins}
-use Rattle.model.proofs.Names.{noneOpen, none_open, open_none}
-use Rattle.model_claims.proofs.Serial.{serially-equal}
+use Rattle.model.proofs.Names.{none_open, none_open_lem, open_none}
+use Rattle.model_claims.proofs.Serial.{serially_equal}
 use Rattle.model.proofs.Tools.{test, clash, both_l, both_r}
 
 -- ---- the test
 
 -- where something told is a begin, b
-beginsIf : Bool → List Told → Bool
-beginsIf b [] = true
-beginsIf b (w ∷ ws) = cond (begins w) b true && beginsIf b ws
+begins_if : Bool → List Told → Bool
+begins_if b [] = true
+begins_if b (w ∷ ws) = cond (begins w) b true && begins_if b ws
 
-begins-all : {A : Type 0} (b : Bool) → (b ≡ true → A) → (ws : List Told) → beginsIf b ws ≡ true → All (λ (w : Told). begins w ≡ true → A) ws
-unfolding beginsIf
-begins-all b f [] t = tt
-begins-all b f (w ∷ ws) t = (λ y. f (rw y at (both_l (cond (begins w) b true) (beginsIf b ws) t)), begins-all b f ws (both_r (cond (begins w) b true) (beginsIf b ws) t))
+begins_all : {A : Type 0} (b : Bool) → (b ≡ true → A) → (ws : List Told) → begins_if b ws ≡ true → All (λ (w : Told). begins w ≡ true → A) ws
+unfolding begins_if
+begins_all b f [] t = tt
+begins_all b f (w ∷ ws) t = (λ y. f (rw y at (both_l (cond (begins w) b true) (begins_if b ws) t)), begins_all b f ws (both_r (cond (begins w) b true) (begins_if b ws) t))
 
-all-begins : {A : Type 0} (b : Bool) → (A → b ≡ true) → (ws : List Told) → All (λ (w : Told). begins w ≡ true → A) ws → beginsIf b ws ≡ true
-unfolding beginsIf
-all-begins b f [] a = refl
-all-begins b f (w ∷ ws) a = rw (all-begins b f ws a.1) (test (begins w) (λ y. rw (y, f (a.0 y))) (λ y. rw y))
+all_begins : {A : Type 0} (b : Bool) → (A → b ≡ true) → (ws : List Told) → All (λ (w : Told). begins w ≡ true → A) ws → begins_if b ws ≡ true
+unfolding begins_if
+all_begins b f [] a = refl
+all_begins b f (w ∷ ws) a = rw (all_begins b f ws a.1) (test (begins w) (λ y. rw (y, f (a.0 y))) (λ y. rw y))
 
-unfoldable oneAtATime : List Event → Bool
-oneAtATime [] = true
-oneAtATime (e ∷ h) = oneAtATime h && beginsIf (noneOpen (told [] h)) (tellsOf e)
+unfoldable one_at_aTime : List Event → Bool
+one_at_aTime [] = true
+one_at_aTime (e ∷ h) = one_at_aTime h && begins_if (none_open (told [] h)) (tells_of e)
 
-passes : (h : List Event) → oneAtATime h ≡ true → OneAtATime h
-unfolding oneAtATime
+passes : (h : List Event) → one_at_aTime h ≡ true → OneAtATime h
+unfolding one_at_aTime
 passes [] t = tt
 passes (e ∷ h) t =
-    let b = noneOpen (told [] h) in
-    (passes h (both_l (oneAtATime h) (beginsIf b (tellsOf e)) t), begins-all b (none_open (told [] h)) (tellsOf e) (both_r (oneAtATime h) (beginsIf b (tellsOf e)) t))
+    let b = none_open (told [] h) in
+    (passes h (both_l (one_at_aTime h) (begins_if b (tells_of e)) t), begins_all b (none_open_lem (told [] h)) (tells_of e) (both_r (one_at_aTime h) (begins_if b (tells_of e)) t))
 
-passed : (h : List Event) → OneAtATime h → oneAtATime h ≡ true
-unfolding oneAtATime
+passed : (h : List Event) → OneAtATime h → one_at_aTime h ≡ true
+unfolding one_at_aTime
 passed [] o = refl
-passed (e ∷ h) o = rw (passed h o.0) (all-begins (noneOpen (told [] h)) (open_none (told [] h)) (tellsOf e) o.1)
+passed (e ∷ h) o = rw (passed h o.0) (all_begins (none_open (told [] h)) (open_none (told [] h)) (tells_of e) o.1)
 
 -- ---- the lists, from two cells of class 2 with values 3 and 5
 
@@ -68,44 +68,44 @@ given =
     }
 
 unfoldable pub made : List Action → List Event
-made actions = events (setUp given) (reverse actions)
+made actions = events (set_up given) (reverse actions)
 
 -- session 0 reads and writes cell 0; then session 1 reads both cells in one call
 unfoldable pub in_turn : List Action
-in_turn = asActions (Begin 0 ∷ Read 0 0 ∷ Write 0 0 4 ∷ Seal 0 ∷ Advance 0 ∷ Advance 0 ∷ Advance 0 ∷ Begin 1 ∷ []) ++ manyReads 1 (0 ∷ 1 ∷ []) 2 ∷ oneCall (Seal 1) ∷ []
+in_turn = as_actions (Begin 0 ∷ Read 0 0 ∷ Write 0 0 4 ∷ Seal 0 ∷ Advance 0 ∷ Advance 0 ∷ Advance 0 ∷ Begin 1 ∷ []) ++ many_reads 1 (0 ∷ 1 ∷ []) 2 ∷ one_call (Seal 1) ∷ []
 
 -- the listing of document 01
 unfoldable pub at_once : List Action
-at_once = asActions (Begin 0 ∷ Begin 1 ∷ Read 0 0 ∷ Read 1 0 ∷ Write 0 0 4 ∷ Write 1 0 2 ∷ Seal 0 ∷ Seal 1 ∷ Advance 0 ∷ Advance 1 ∷ Advance 0 ∷ Advance 0 ∷ Advance 0 ∷ [])
+at_once = as_actions (Begin 0 ∷ Begin 1 ∷ Read 0 0 ∷ Read 1 0 ∷ Write 0 0 4 ∷ Write 1 0 2 ∷ Seal 0 ∷ Seal 1 ∷ Advance 0 ∷ Advance 1 ∷ Advance 0 ∷ Advance 0 ∷ Advance 0 ∷ [])
 
 answers : List Action → List Answer
 answers actions = reverse (map (λ (e : Event). e.answer) (made actions))
 
 record Computed : Type 0 where
-  set-up : number (setUpAnswer given) ≡ 100
-  serial-list : oneAtATime (made in_turn) ≡ true
-  serial-answers : answers in_turn ≡ Done ∷ Value 3 ∷ Done ∷ Sealed ∷ Moved ∷ Moved ∷ Committed ∷ Done ∷ Value 5 ∷ Committed ∷ []
-  serial-values-read : map (λ (e : Event). e.values) (made in_turn) ≡ [] ∷ (4 ∷ 5 ∷ []) ∷ replicate 8 []
-  serial-open : noneOpen (told [] (made in_turn)) ≡ true
-  serial-values : (serial (setUp given).lent.values (made in_turn)).values ≡ 4 ∷ 5 ∷ []
-  other-list : oneAtATime (made at_once) ≡ false
-  other-answers : answers at_once ≡ Done ∷ Done ∷ Value 3 ∷ Value 3 ∷ Done ∷ Done ∷ Sealed ∷ Sealed ∷ Waiting 1 ∷ Refused 6 ∷ Moved ∷ Moved ∷ Committed ∷ []
+  set_up_lem : number (set_up_answer given) ≡ 100
+  serial_list : one_at_aTime (made in_turn) ≡ true
+  serial_answers : answers in_turn ≡ Done ∷ Value 3 ∷ Done ∷ Sealed ∷ Moved ∷ Moved ∷ Committed ∷ Done ∷ Value 5 ∷ Committed ∷ []
+  serial_values_read : map (λ (e : Event). e.values) (made in_turn) ≡ [] ∷ (4 ∷ 5 ∷ []) ∷ replicate 8 []
+  serial_open : none_open (told [] (made in_turn)) ≡ true
+  serial_values : (serial (set_up given).lent.values (made in_turn)).values ≡ 4 ∷ 5 ∷ []
+  other_list : one_at_aTime (made at_once) ≡ false
+  other_answers : answers at_once ≡ Done ∷ Done ∷ Value 3 ∷ Value 3 ∷ Done ∷ Done ∷ Sealed ∷ Sealed ∷ Waiting 1 ∷ Refused 6 ∷ Moved ∷ Moved ∷ Committed ∷ []
 
 computed : Computed
-unfolding given made in_turn at_once answers noneOpen beginsIf oneAtATime serialStep serial computing counting
+unfolding given made in_turn at_once answers none_open begins_if one_at_aTime serial_step serial computing counting
 computed =
-    record { set-up = refl; serial-list = refl; serial-answers = refl; serial-values-read = refl; serial-open = refl; serial-values = refl; other-list = refl; other-answers = refl }
+    record { set_up_lem = refl; serial_list = refl; serial_answers = refl; serial_values_read = refl; serial_open = refl; serial_values = refl; other_list = refl; other_answers = refl }
 
 -- the first list is one that the claim is about; none is open at its end, and the values left are the serial store's
-pub in-turn : SeriallyEqual (setUp given) (reverse in_turn)
+pub in_turn_lem : SeriallyEqual (set_up given) (reverse in_turn)
 unfolding made
-in-turn = serially-equal given computed.set-up in_turn (passes (made in_turn) computed.serial-list)
+in_turn_lem = serially_equal given computed.set_up_lem in_turn (passes (made in_turn) computed.serial_list)
 
-pub in-turn-left : (run (setUp given) (reverse in_turn)).lent.values ≡ 4 ∷ 5 ∷ []
+pub in_turn_left : (run (set_up given) (reverse in_turn)).lent.values ≡ 4 ∷ 5 ∷ []
 unfolding made
-in-turn-left = in-turn.left (none_open (told [] (made in_turn)) computed.serial-open) ∙ computed.serial-values
+in_turn_left = in_turn_lem.left (none_open_lem (told [] (made in_turn)) computed.serial_open) ∙ computed.serial_values
 
 -- the listing is none: session 1 begins while session 0's transaction is open
-pub at-once : OneAtATime (events (setUp given) (reverse at_once)) → ⊥
+pub at_once_lem : OneAtATime (events (set_up given) (reverse at_once)) → ⊥
 unfolding made
-at-once o = clash (oneAtATime (made at_once)) (passed (made at_once) o) computed.other-list
+at_once_lem o = clash (one_at_aTime (made at_once)) (passed (made at_once) o) computed.other_list

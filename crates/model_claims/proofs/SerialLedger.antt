@@ -11,13 +11,13 @@ use lib.Seq.{get_or-set_same, get_or-set_other}
 use borrow.Author.Tests.{eqb-true, not-true}
 use Rattle.model.specs.Serial.{Serial}
 use Rattle.model.proofs.Invariant.{latest}
-use Rattle.model.proofs.Ledger.{Txn, opened, closed, saw, wroteTo, holdsTo, Commit, Ledger, tick, calm, asCommit, amend, starts}
+use Rattle.model.proofs.Ledger.{Txn, opened, closed, saw, wrote_to, holds_to, Commit, Ledger, tick, calm, as_commit, amend, starts}
 use Rattle.model.proofs.Roles.{flip}
 use Rattle.model.proofs.Tools.{same, split, test, clash, both_l, both_r, upd, upd_same, upd_other}
 
-or-true : (a : Bool) → (a || true) ≡ true
-or-true true = refl
-or-true false = refl
+or_true : (a : Bool) → (a || true) ≡ true
+or_true true = refl
+or_true false = refl
 
 -- values under what a transaction wrote
 abbrev pub overlay : Txn → (ℕ → ℕ) → ℕ → ℕ
@@ -28,8 +28,8 @@ abbrev pub Shows : ℕ → List ℕ → (ℕ → ℕ) → Type 0
 Shows n vs f = (c : ℕ) → c < n → get_or vs c 0 ≡ f c
 
 -- the commits after session s's transaction t became u at place p: one more where u is committed and t was not
-abbrev pub commitsAfter : ℕ → ℕ → Txn → Txn → List Commit → List Commit
-commitsAfter s p t u ks = cond (u.done && not t.done) (asCommit s p u ∷ ks) ks
+abbrev pub commits_after : ℕ → ℕ → Txn → Txn → List Commit → List Commit
+commits_after s p t u ks = cond (u.done && not t.done) (as_commit s p u ∷ ks) ks
 
 -- the serial store and an open transaction
 pub record Works (start : List ℕ) (ks : List Commit) (t : Txn) (z : Serial) : Type 0 where
@@ -45,10 +45,10 @@ pub record Follows (start : List ℕ) (T : Ledger) (z : Serial) : Type 0 where
   pub lengths : (length z.values ≡ length start) × (length z.draft ≡ length start)
 
 -- news that leaves what was written as it is, and a committed transaction committed
-works-on : {start : List ℕ} {ks : List Commit} {t : Txn} {z : Serial} (s p : ℕ) (u : Txn) → Works start ks t z → u.wrote ≡ t.wrote → u.value ≡ t.value
-    → (t.done ≡ true → u.done ≡ true) → Works start (commitsAfter s p t u ks) u z
+works_on : {start : List ℕ} {ks : List Commit} {t : Txn} {z : Serial} (s p : ℕ) (u : Txn) → Works start ks t z → u.wrote ≡ t.wrote → u.value ≡ t.value
+    → (t.done ≡ true → u.done ≡ true) → Works start (commits_after s p t u ks) u z
 unfolding latest
-works-on {start} {ks} {t} {z} s p u w a b m =
+works_on {start} {ks} {t} {z} s p u w a b m =
     split (λ (ls : List Commit). Works start ls u z) (u.done && not t.done)
     (λ y.
     let e = both_l u.done (not t.done) y in
@@ -56,26 +56,26 @@ works-on {start} {ks} {t} {z} s p u w a b m =
     record { values = λ f. absurd (clash u.done e f); draft = λ f. absurd (clash u.done e f); committed = λ _. rw (a, b) (w.draft d) })
     (λ y.
     record {
-      values = λ e. w.values (open-before e);
-      draft = λ e. rw (a, b) (w.draft (open-before e));
+      values = λ e. w.values (open_before e);
+      draft = λ e. rw (a, b) (w.draft (open_before e));
       committed = λ e. test t.done (λ d. w.committed d) (λ d. absurd (clash (u.done && not t.done) (rw (e, d)) y));
     })
   where
-    open-before : u.done ≡ false → t.done ≡ false
-    open-before e = flip t.done (λ d. clash u.done (m d) e)
+    open_before : u.done ≡ false → t.done ≡ false
+    open_before e = flip t.done (λ d. clash u.done (m d) e)
 
 module _ {start : List ℕ} {T : Ledger} {z : Serial} (F : Follows start T z) where
   -- nothing is told
-  pub follows-tick : Follows start (tick T) z
-  follows-tick = record { alone = F.alone; closed = F.closed; works = F.works; lengths = F.lengths }
+  pub follows_tick : Follows start (tick T) z
+  follows_tick = record { alone = F.alone; closed = F.closed; works = F.works; lengths = F.lengths }
 
-  pub follows-calm : Follows start (calm T) z
-  follows-calm = record { alone = F.alone; closed = F.closed; works = F.works; lengths = F.lengths }
+  pub follows_calm : Follows start (calm T) z
+  follows_calm = record { alone = F.alone; closed = F.closed; works = F.works; lengths = F.lengths }
 
   -- a transaction begins where none is open
-  pub follows-start : (s : ℕ) → ((u : ℕ) → (T.mine u).live ≡ false) → Follows start (starts s T) (record { values = z.values; draft = z.values })
+  pub follows_start : (s : ℕ) → ((u : ℕ) → (T.mine u).live ≡ false) → Follows start (starts s T) (record { values = z.values; draft = z.values })
   unfolding starts
-  follows-start s dead =
+  follows_start s dead =
       record {
         alone = λ a b p q. only b q ∙ sym (only a p);
         closed = λ h. absurd (clash (upd T.mine s t s).live (ap (λ (u : Txn). u.live) (upd_same T.mine s t)) (h s));
@@ -92,7 +92,7 @@ module _ {start : List ℕ} {T : Ledger} {z : Serial} (F : Follows start T z) wh
 
   module _ (s : ℕ) (l : (T.mine s).live ≡ true) where
     -- session s's transaction becomes f of it
-    amended : (f : Txn → Txn) (y : Serial) → let t = T.mine s in let ks = commitsAfter s T.place t (f t) T.commits in
+    amended : (f : Txn → Txn) (y : Serial) → let t = T.mine s in let ks = commits_after s T.place t (f t) T.commits in
         (length y.values ≡ length start) × (length y.draft ≡ length start)
         → ((f t).live ≡ false → Shows (length start) y.values (latest start ks)) → ((f t).live ≡ true → Works start ks (f t) y) → Follows start (amend s f T) y
     unfolding amend
@@ -116,28 +116,28 @@ module _ {start : List ℕ} {T : Ledger} {z : Serial} (F : Follows start T z) wh
     pub follows_on : (f : Txn → Txn) → let t = T.mine s in
         (f t).live ≡ true → (f t).wrote ≡ t.wrote → (f t).value ≡ t.value → (t.done ≡ true → (f t).done ≡ true) → Follows start (amend s f T) z
     follows_on f h a b m =
-        amended f z F.lengths (λ d. absurd (clash (f (T.mine s)).live h d)) (λ _. works-on s T.place (f (T.mine s)) (F.works s l) a b m)
+        amended f z F.lengths (λ d. absurd (clash (f (T.mine s)).live h d)) (λ _. works_on s T.place (f (T.mine s)) (F.works s l) a b m)
 
     -- it ends committed: the values are the draft
-    pub follows-commit : (f : Txn → Txn) → let t = T.mine s in
+    pub follows_commit : (f : Txn → Txn) → let t = T.mine s in
         (f t).live ≡ false → (f t).wrote ≡ t.wrote → (f t).value ≡ t.value → (f t).done ≡ true → Follows start (amend s f T) (record { values = z.draft; draft = z.draft })
-    follows-commit f h a b m =
+    follows_commit f h a b m =
         amended f (record { values = z.draft; draft = z.draft }) (F.lengths.1, F.lengths.1)
-        (λ _. (works-on s T.place (f (T.mine s)) (F.works s l) a b (λ _. m)).committed m) (λ e. absurd (clash (f (T.mine s)).live e h))
+        (λ _. (works_on s T.place (f (T.mine s)) (F.works s l) a b (λ _. m)).committed m) (λ e. absurd (clash (f (T.mine s)).live e h))
 
     -- it ends not committed
-    pub follows-end : (T.mine s).done ≡ false → Follows start (amend s closed T) z
-    follows-end d =
-        amended closed z F.lengths (λ _. (works-on s T.place (closed (T.mine s)) (F.works s l) refl refl (λ e. e)).values d) (λ e. absurd (clash false e refl))
+    pub follows_end : (T.mine s).done ≡ false → Follows start (amend s closed T) z
+    follows_end d =
+        amended closed z F.lengths (λ _. (works_on s T.place (closed (T.mine s)) (F.works s l) refl refl (λ e. e)).values d) (λ e. absurd (clash false e refl))
 
     -- it writes; a value equal to the one found, which is the last committed, leaves the draft that value
-    pub follows-write : (c v f : ℕ) → c < length start → (T.mine s).done ≡ false → f ≡ latest start T.commits c
-        → Follows start (amend s (wroteTo c v f) T) (record { values = z.values; draft = set z.draft c v })
-    follows-write c v f lc d found =
-        amended (wroteTo c v f) (record { values = z.values; draft = set z.draft c v })
+    pub follows_write : (c v f : ℕ) → c < length start → (T.mine s).done ≡ false → f ≡ latest start T.commits c
+        → Follows start (amend s (wrote_to c v f) T) (record { values = z.values; draft = set z.draft c v })
+    follows_write c v f lc d found =
+        amended (wrote_to c v f) (record { values = z.values; draft = set z.draft c v })
         (F.lengths.0, length-set z.draft c v ∙ F.lengths.1) (λ e. absurd (clash (T.mine s).live l e))
         (λ _.
-        split (λ (ks : List Commit). Works start ks (wroteTo c v f (T.mine s)) (record { values = z.values; draft = set z.draft c v }))
+        split (λ (ks : List Commit). Works start ks (wrote_to c v f (T.mine s)) (record { values = z.values; draft = set z.draft c v }))
         ((T.mine s).done && not (T.mine s).done) (λ y. absurd (clash (T.mine s).done (both_l (T.mine s).done (not (T.mine s).done) y) d))
         (λ _.
         record {
@@ -156,16 +156,16 @@ module _ {start : List ℕ} {T : Ledger} {z : Serial} (F : Follows start T z) wh
         w = (T.mine s).held c || not (eqb v f)
 
         unwritten : w ≡ false → v ≡ latest start T.commits c
-        unwritten y = test (eqb v f) (λ q. eqb-true v f q ∙ found) (λ q. absurd (clash ((T.mine s).held c || not (eqb v f)) (rw q (or-true ((T.mine s).held c))) y))
+        unwritten y = test (eqb v f) (λ q. eqb-true v f q ∙ found) (λ q. absurd (clash ((T.mine s).held c || not (eqb v f)) (rw q (or_true ((T.mine s).held c))) y))
 
     -- it holds a cell: the draft stays, where what counts is what it has there
-    pub follows-hold : (c v f : ℕ) → (T.mine s).done ≡ false
+    pub follows_hold : (c v f : ℕ) → (T.mine s).done ≡ false
         → cond ((T.mine s).dirtied c) ((T.mine s).value c) f ≡ overlay (T.mine s) (latest start T.commits) c
-        → Follows start (amend s (λ t. saw c v (holdsTo c f t)) T) z
-    follows-hold c v f d has =
-        amended (λ t. saw c v (holdsTo c f t)) z F.lengths (λ e. absurd (clash (T.mine s).live l e))
+        → Follows start (amend s (λ t. saw c v (holds_to c f t)) T) z
+    follows_hold c v f d has =
+        amended (λ t. saw c v (holds_to c f t)) z F.lengths (λ e. absurd (clash (T.mine s).live l e))
         (λ _.
-        split (λ (ks : List Commit). Works start ks (saw c v (holdsTo c f (T.mine s))) z)
+        split (λ (ks : List Commit). Works start ks (saw c v (holds_to c f (T.mine s))) z)
         ((T.mine s).done && not (T.mine s).done) (λ y. absurd (clash (T.mine s).done (both_l (T.mine s).done (not (T.mine s).done) y) d))
         (λ _.
         record {
@@ -177,12 +177,12 @@ module _ {start : List ℕ} {T : Ledger} {z : Serial} (F : Follows start T z) wh
         }))
 
 -- it is sealed with nothing written and ends committed: the values are the draft
-pub follows-rest : {start : List ℕ} {T : Ledger} {z : Serial} → Follows start T z → (s : ℕ) → (T.mine s).live ≡ true → (f : Txn → Txn) → let t = T.mine s in
+pub follows_rest : {start : List ℕ} {T : Ledger} {z : Serial} → Follows start T z → (s : ℕ) → (T.mine s).live ≡ true → (f : Txn → Txn) → let t = T.mine s in
     (f t).live ≡ true → (f t).wrote ≡ t.wrote → (f t).value ≡ t.value → (f t).done ≡ true → Follows start (amend s closed (amend s f T)) (record { values = z.draft; draft = z.draft })
-follows-rest {start} {T} {z} F s l f h a b m =
+follows_rest {start} {T} {z} F s l f h a b m =
     let U = amend s f T in
     let e : U.mine s ≡ f (T.mine s) = now in
-    follows-commit (follows_on F s l f h a b (λ _. m)) s (ap (λ (t : Txn). t.live) e ∙ h) closed refl refl refl (ap (λ (t : Txn). t.done) e ∙ m)
+    follows_commit (follows_on F s l f h a b (λ _. m)) s (ap (λ (t : Txn). t.live) e ∙ h) closed refl refl refl (ap (λ (t : Txn). t.done) e ∙ m)
   where
     now : (amend s f T).mine s ≡ f (T.mine s)
     now = unfold amend in split (λ (U : Ledger). U.mine s ≡ f (T.mine s)) (T.mine s).live (λ _. upd_same T.mine s (f (T.mine s))) (λ d. absurd (clash (T.mine s).live l d))

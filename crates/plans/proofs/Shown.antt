@@ -4,8 +4,8 @@ use mathlib.Core.Option.{Option, none, some}
 use mathlib.Core.List.{List}
 use Prim.Native.Nat.{ℕ}
 use lib.Dec.{ltb, eqb}
-use Rattle.model.specs.Buffers.{entry_at, slotIn}
-use Rattle.model.specs.Plans.{recordFits, guard, known, peekSlot, peekPlan}
+use Rattle.model.specs.Buffers.{entry_at, slot_in}
+use Rattle.model.specs.Plans.{record_fits, guard, known, peek_slot, peek_plan}
 use Rattle.model.specs.Turns.{leaves, turn_of}
 use Rattle.records.specs.declared.Session.{Session}
 use Rattle.records.specs.declared.Answer.TheVariants.{Done, Refused}
@@ -23,22 +23,22 @@ module _ (vs log : List ℕ) (x : Session) where
   turned : (r : ℕ) → Shows (Refuse r)
   turned r h = absurd (passed 0 (Refuse r) (Refuse r) tt refl h)
 
-  by-slot : (c : ℕ) (o : Option ℕ) → Shows (peekSlot log c o)
-  unfolding peekSlot turn_of
-  by-slot c none = turned 14
-  by-slot c (some k) = split Shows (entry_at log k).dirty (λ d h. refl) (λ d h. refl)
+  by_slot : (c : ℕ) (o : Option ℕ) → Shows (peek_slot log c o)
+  unfolding peek_slot turn_of
+  by_slot c none = turned 14
+  by_slot c (some k) = split Shows (entry_at log k).dirty (λ d h. refl) (λ d h. refl)
 
-  shows : (n c : ℕ) → Shows (peekPlan n log x c)
-  unfolding peekPlan guard known
+  shows : (n c : ℕ) → Shows (peek_plan n log x c)
+  unfolding peek_plan guard known
   shows n c =
-      split Shows (recordFits n log x)
-      (λ t. split Shows (eqb x.phase 1) (λ u. split Shows (ltb c n) (λ i. by-slot c (slotIn log x.count c)) (λ i. turned 3)) (λ u. turned 2))
+      split Shows (record_fits n log x)
+      (λ t. split Shows (eqb x.phase 1) (λ u. split Shows (ltb c n) (λ i. by_slot c (slot_in log x.count c)) (λ i. turned 3)) (λ u. turned 2))
       (λ t. turned 9)
 
-  module _ (n c : ℕ) (p : Plan) (e : p ≡ peekPlan n log x c) where
-    pub peek-turned : (r : ℕ) → p ≡ Refuse r → leaves (Refused r) vs log x Keep ≡ turn_of (peekPlan n log x c) vs log x
+  module _ (n c : ℕ) (p : Plan) (e : p ≡ peek_plan n log x c) where
+    pub peek_turned : (r : ℕ) → p ≡ Refuse r → leaves (Refused r) vs log x Keep ≡ turn_of (peek_plan n log x c) vs log x
     unfolding turn_of
-    peek-turned r h = rw (← e, h)
+    peek_turned r h = rw (← e, h)
 
-    pub peek-shown : Passed 0 p → leaves Done vs log x Keep ≡ turn_of (peekPlan n log x c) vs log x
-    peek-shown h = shows n c (rw e at h)
+    pub peek_shown : Passed 0 p → leaves Done vs log x Keep ≡ turn_of (peek_plan n log x c) vs log x
+    peek_shown h = shows n c (rw e at h)

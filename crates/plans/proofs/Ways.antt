@@ -8,93 +8,93 @@ use native.Mathlib.Omega.{arith}
 use borrow.Author.Tests.{lt-ltb, le-ltb, lt-leb, le-leb}
 use lib.Dec.{eqb}
 use lib.ListN.{get_or}
-use Rattle.model.specs.Buffers.{entry_at, slotIn, cap}
-use Rattle.model.specs.Plans.{newCell, known, recordFits, guard, read_slot, readPlan, holdSlot, holdPlan, writeSlot, writeCapped, writePlan, peekSlot, peekPlan}
+use Rattle.model.specs.Buffers.{entry_at, slot_in, cap}
+use Rattle.model.specs.Plans.{new_cell, known, record_fits, guard, read_slot, read_plan, hold_slot, hold_plan, write_slot, write_capped, write_plan, peek_slot, peek_plan}
 use Rattle.records.specs.declared.Session.{Session}
 use Rattle.records.specs.declared.Lock.{Lock}
 use Rattle.records.specs.declared.Plan.{Plan}
 use Rattle.records.specs.declared.Plan.TheVariants.{Refuse, Tell, Enter, Update, EnterUpdate, Mark, EnterMark, ShowStore, ShowLog}
 use Rattle.log.specs.Slots.{found}
 use Rattle.refusals.specs.Pieces.{tested}
-use Rattle.refusals.proofs.Ways.{found_here, found_nowhere, whole, in-phase-1}
+use Rattle.refusals.proofs.Ways.{found_here, found_nowhere, whole, in_phase_1}
 
 -- ---- what is decided
 
 module _ (n : ℕ) (log : List ℕ) (x : Session) where
   -- a running session: t is whether the tests pass
-  module _ (t : Bool) (e : t ≡ eqb (tested (recordFits n log x) (eqb x.phase 1)) 0) (z : t ≡ true) where
+  module _ (t : Bool) (e : t ≡ eqb (tested (record_fits n log x) (eqb x.phase 1)) 0) (z : t ≡ true) where
     -- f decides by the place of the cell's entry; k is the place that the search for the cell answered
-    module _ (c : ℕ) (h : c < n) (k : ℕ) (s : found x.count k ≡ slotIn log x.count c) (f : Option ℕ → Plan) where
-      by-entry : k < x.count → f (some k) ≡ guard n log x (eqb x.phase 1) (known n c (f (slotIn log x.count c)))
+    module _ (c : ℕ) (h : c < n) (k : ℕ) (s : found x.count k ≡ slot_in log x.count c) (f : Option ℕ → Plan) where
+      by_entry : k < x.count → f (some k) ≡ guard n log x (eqb x.phase 1) (known n c (f (slot_in log x.count c)))
       unfolding guard known
-      by-entry i = simp (whole n log x t e z, in-phase-1 n log x t e z, lt-ltb c n h, found_here x.count k _ s i)
+      by_entry i = simp (whole n log x t e z, in_phase_1 n log x t e z, lt-ltb c n h, found_here x.count k _ s i)
 
-      by-none : x.count ≤ k → f none ≡ guard n log x (eqb x.phase 1) (known n c (f (slotIn log x.count c)))
+      by_none : x.count ≤ k → f none ≡ guard n log x (eqb x.phase 1) (known n c (f (slot_in log x.count c)))
       unfolding guard known
-      by-none i = simp (whole n log x t e z, in-phase-1 n log x t e z, lt-ltb c n h, found_nowhere x.count k _ s i)
+      by_none i = simp (whole n log x t e z, in_phase_1 n log x t e z, lt-ltb c n h, found_nowhere x.count k _ s i)
 
     module _ (l : Lock) (c : ℕ) where
       -- ---- read and hold
 
-      module _ (h : c < n) (k : ℕ) (s : found x.count k ≡ slotIn log x.count c) where
-        pub read_known : k < x.count → (v : ℕ) → v ≡ (entry_at log k).current → Tell v ≡ readPlan n log x l c
-        unfolding read_slot readPlan
-        read_known i v q = ap Tell q ∙ by-entry c h k s (read_slot log x l c) i
+      module _ (h : c < n) (k : ℕ) (s : found x.count k ≡ slot_in log x.count c) where
+        pub read_known : k < x.count → (v : ℕ) → v ≡ (entry_at log k).current → Tell v ≡ read_plan n log x l c
+        unfolding read_slot read_plan
+        read_known i v q = ap Tell q ∙ by_entry c h k s (read_slot log x l c) i
 
-        pub read-new : x.count ≤ k → (p : Plan) → p ≡ newCell x l (Enter c) → p ≡ readPlan n log x l c
-        unfolding read_slot readPlan
-        read-new i p q = q ∙ by-none c h k s (read_slot log x l c) i
+        pub read_new : x.count ≤ k → (p : Plan) → p ≡ new_cell x l (Enter c) → p ≡ read_plan n log x l c
+        unfolding read_slot read_plan
+        read_new i p q = q ∙ by_none c h k s (read_slot log x l c) i
 
-        pub hold-known : k < x.count → (v : ℕ) → v ≡ (entry_at log k).current → Mark k v ≡ holdPlan n log x l c
-        unfolding holdSlot holdPlan
-        hold-known i v q = ap (Mark k) q ∙ by-entry c h k s (holdSlot log x l c) i
+        pub hold_known : k < x.count → (v : ℕ) → v ≡ (entry_at log k).current → Mark k v ≡ hold_plan n log x l c
+        unfolding hold_slot hold_plan
+        hold_known i v q = ap (Mark k) q ∙ by_entry c h k s (hold_slot log x l c) i
 
-        pub hold-new : x.count ≤ k → (p : Plan) → p ≡ newCell x l (EnterMark c) → p ≡ holdPlan n log x l c
-        unfolding holdSlot holdPlan
-        hold-new i p q = q ∙ by-none c h k s (holdSlot log x l c) i
+        pub hold_new : x.count ≤ k → (p : Plan) → p ≡ new_cell x l (EnterMark c) → p ≡ hold_plan n log x l c
+        unfolding hold_slot hold_plan
+        hold_new i p q = q ∙ by_none c h k s (hold_slot log x l c) i
 
       -- ---- write
 
       module _ (T classes : List ℕ) (v : ℕ) where
-        pub write-odd : c < n → 15 < get_or classes c 0 → Refuse 8 ≡ writePlan T classes n log x l c v
-        unfolding guard known writePlan
-        write-odd h i = simp (whole n log x t e z, in-phase-1 n log x t e z, lt-ltb c n h, le-ltb (get_or classes c 0) 16 i)
+        pub write_odd : c < n → 15 < get_or classes c 0 → Refuse 8 ≡ write_plan T classes n log x l c v
+        unfolding guard known write_plan
+        write_odd h i = simp (whole n log x t e z, in_phase_1 n log x t e z, lt-ltb c n h, le-ltb (get_or classes c 0) 16 i)
 
-        pub write-class : c < n → get_or classes c 0 ≤ 15 → (m : ℕ) → m ≡ cap T (get_or classes c 0) → (p : Plan) → p ≡ writeCapped log x l c v m → p ≡ writePlan T classes n log x l c v
-        unfolding guard known writePlan
-        write-class h i m q p w = simp (whole n log x t e z, in-phase-1 n log x t e z, lt-ltb c n h, lt-ltb (get_or classes c 0) 16 (omega arith), ← q, w)
+        pub write_class : c < n → get_or classes c 0 ≤ 15 → (m : ℕ) → m ≡ cap T (get_or classes c 0) → (p : Plan) → p ≡ write_capped log x l c v m → p ≡ write_plan T classes n log x l c v
+        unfolding guard known write_plan
+        write_class h i m q p w = simp (whole n log x t e z, in_phase_1 n log x t e z, lt-ltb c n h, lt-ltb (get_or classes c 0) 16 (omega arith), ← q, w)
 
     -- ---- peek
 
     module _ (c : ℕ) where
-      module _ (h : c < n) (k : ℕ) (s : found x.count k ≡ slotIn log x.count c) where
-        pub peek-new : x.count ≤ k → Refuse 14 ≡ peekPlan n log x c
-        unfolding peekSlot peekPlan
-        peek-new i = by-none c h k s (peekSlot log c) i
+      module _ (h : c < n) (k : ℕ) (s : found x.count k ≡ slot_in log x.count c) where
+        pub peek_new : x.count ≤ k → Refuse 14 ≡ peek_plan n log x c
+        unfolding peek_slot peek_plan
+        peek_new i = by_none c h k s (peek_slot log c) i
 
         module _ (i : k < x.count) (b : Bool) (d : b ≡ (entry_at log k).dirty) where
-          shows : (q : Bool) → b ≡ q → cond q (ShowLog k) (ShowStore c) ≡ peekPlan n log x c
-          unfolding peekSlot peekPlan
-          shows q g = ap (λ (z : Bool). cond z (ShowLog k) (ShowStore c)) (sym g ∙ d) ∙ by-entry c h k s (peekSlot log c) i
+          shows : (q : Bool) → b ≡ q → cond q (ShowLog k) (ShowStore c) ≡ peek_plan n log x c
+          unfolding peek_slot peek_plan
+          shows q g = ap (λ (z : Bool). cond z (ShowLog k) (ShowStore c)) (sym g ∙ d) ∙ by_entry c h k s (peek_slot log c) i
 
-          pub peek-written : b ≡ true → ShowLog k ≡ peekPlan n log x c
-          peek-written g = shows true g
+          pub peek_written : b ≡ true → ShowLog k ≡ peek_plan n log x c
+          peek_written g = shows true g
 
-          pub peek-read : b ≡ false → ShowStore c ≡ peekPlan n log x c
-          peek-read g = shows false g
+          pub peek_read : b ≡ false → ShowStore c ≡ peek_plan n log x c
+          peek_read g = shows false g
 
 -- ---- write, once the cap is known
 
 module _ (log : List ℕ) (x : Session) (l : Lock) (c v m : ℕ) where
-  pub write-above : m < v → Refuse 4 ≡ writeCapped log x l c v m
-  unfolding writeCapped
-  write-above h = simp (lt-leb v m h)
+  pub write_above : m < v → Refuse 4 ≡ write_capped log x l c v m
+  unfolding write_capped
+  write_above h = simp (lt-leb v m h)
 
-  module _ (h : v ≤ m) (k : ℕ) (s : found x.count k ≡ slotIn log x.count c) where
-    pub write_known : k < x.count → Update k v ≡ writeCapped log x l c v m
-    unfolding writeCapped writeSlot
+  module _ (h : v ≤ m) (k : ℕ) (s : found x.count k ≡ slot_in log x.count c) where
+    pub write_known : k < x.count → Update k v ≡ write_capped log x l c v m
+    unfolding write_capped write_slot
     write_known i = simp (le-leb v m h, found_here x.count k _ s i)
 
-    pub write_new : x.count ≤ k → (p : Plan) → p ≡ newCell x l (EnterUpdate c v) → p ≡ writeCapped log x l c v m
-    unfolding writeCapped writeSlot
+    pub write_new : x.count ≤ k → (p : Plan) → p ≡ new_cell x l (EnterUpdate c v) → p ≡ write_capped log x l c v m
+    unfolding write_capped write_slot
     write_new i p q = simp (le-leb v m h, found_nowhere x.count k _ s i, q)

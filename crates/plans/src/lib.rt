@@ -1,14 +1,14 @@
 // What a read, a hold, a write and a peek decide from the session's log and record, before a lock is looked at, as if nobody were claimant: refusals 9, 2, 3, 8, 4,
 // then 14 or 5.
 ghost use Rattle.std.specs.Prelude.{◌≡◌, ◌≤◌, length};
-ghost use Rattle.model.specs.Buffers.{free, ourCaps};
-ghost use Rattle.model.specs.Plans.{newCell, readPlan, holdPlan, writeCapped, writePlan, peekPlan};
+ghost use Rattle.model.specs.Buffers.{free, our_caps};
+ghost use Rattle.model.specs.Plans.{new_cell, read_plan, hold_plan, write_capped, write_plan, peek_plan};
 
 use records::{Plan, Session};
 
 // A new cell with 32 entries in the log is 5.
 fn new_cell(x: Session, p: Plan) -> Plan
-    ensures { result ≡ newCell x free p }
+    ensures { result ≡ new_cell x free p }
 {
     let count = x.count;
     if 31 < count {
@@ -20,7 +20,7 @@ fn new_cell(x: Session, p: Plan) -> Plan
 // Read: a cell in the log gives its present value; otherwise it is to be entered.
 pub fn read_plan(log: &[u32], n: usize, x: Session, cell: u32) -> Plan
     requires { (length log.now ≡ 128) × (n ≤ 1024) }
-    ensures { result ≡ readPlan n log.now x free cell }
+    ensures { result ≡ read_plan n log.now x free cell }
 {
     let count = x.count as usize;
     if !refusals::runs(log, n, x) {
@@ -41,7 +41,7 @@ pub fn read_plan(log: &[u32], n: usize, x: Session, cell: u32) -> Plan
 // Hold: as read; a cell in the log is to be held, a new one entered and held.
 pub fn hold_plan(log: &[u32], n: usize, x: Session, cell: u32) -> Plan
     requires { (length log.now ≡ 128) × (n ≤ 1024) }
-    ensures { result ≡ holdPlan n log.now x free cell }
+    ensures { result ≡ hold_plan n log.now x free cell }
 {
     let count = x.count as usize;
     if !refusals::runs(log, n, x) {
@@ -62,7 +62,7 @@ pub fn hold_plan(log: &[u32], n: usize, x: Session, cell: u32) -> Plan
 // A value above the cap is 4; an entry is to be updated, a new cell entered as by read and then updated.
 fn write_capped(log: &[u32], x: Session, cell: u32, value: u32, most: u32) -> Plan
     requires { (length log.now ≡ 128) × (x.count ≤ 32) }
-    ensures { result ≡ writeCapped log.now x free cell value most }
+    ensures { result ≡ write_capped log.now x free cell value most }
 {
     let count = x.count as usize;
     if most < value {
@@ -80,7 +80,7 @@ fn write_capped(log: &[u32], x: Session, cell: u32, value: u32, most: u32) -> Pl
 // Write: the cap is that of the cell's class, of ours.
 pub fn write_plan(log: &[u32], classes: &[u8], x: Session, cell: u32, value: u32) -> Plan
     requires { (length log.now ≡ 128) × (length classes.now ≤ 1024) }
-    ensures { result ≡ writePlan ourCaps classes.now (length classes.now) log.now x free cell value }
+    ensures { result ≡ write_plan our_caps classes.now (length classes.now) log.now x free cell value }
 {
     let n = classes.len();
     if !refusals::runs(log, n, x) {
@@ -107,7 +107,7 @@ pub fn write_plan_by(
     value: u32,
 ) -> Plan
     requires { (length caps.now ≡ 16) × (length log.now ≡ 128) × (length classes.now ≤ 1024) }
-    ensures { result ≡ writePlan caps.now classes.now (length classes.now) log.now x free cell value }
+    ensures { result ≡ write_plan caps.now classes.now (length classes.now) log.now x free cell value }
 {
     let n = classes.len();
     if !refusals::runs(log, n, x) {
@@ -127,7 +127,7 @@ pub fn write_plan_by(
 // Peek: the store's own word where the entry is not written, the log's where it is; a cell not in the log is 14.
 pub fn peek_plan(log: &[u32], n: usize, x: Session, cell: u32) -> Plan
     requires { (length log.now ≡ 128) × (n ≤ 1024) }
-    ensures { result ≡ peekPlan n log.now x cell }
+    ensures { result ≡ peek_plan n log.now x cell }
 {
     let count = x.count as usize;
     if !refusals::runs(log, n, x) {

@@ -14,15 +14,15 @@ idle = record { phase = 0; count = 0; next = 0 }
 abbrev pub running : Session
 running = record { phase = 1; count = 0; next = 0 }
 
-abbrev pub withEntry : Session → Session
-withEntry x = record { phase = x.phase; count = suc x.count; next = x.next }
+abbrev pub with_entry : Session → Session
+with_entry x = record { phase = x.phase; count = suc x.count; next = x.next }
 
 -- with k entries in all
-abbrev pub withEntries : ℕ → Session → Session
-withEntries k x = record { phase = x.phase; count = k; next = x.next }
+abbrev pub with_entries : ℕ → Session → Session
+with_entries k x = record { phase = x.phase; count = k; next = x.next }
 
-abbrev pub moveTo : ℕ → ℕ → Session → Session
-moveTo phase next x = record { phase = phase; count = x.count; next = next }
+abbrev pub move_to : ℕ → ℕ → Session → Session
+move_to phase next x = record { phase = phase; count = x.count; next = next }
 
 -- ---- answers
 
@@ -48,12 +48,12 @@ value_of (Refused k) = 0
 
 -- ---- calls
 
-abbrev pub sessionOf : Call → ℕ
-sessionOf (Begin s) = s
-sessionOf (Read s c) = s
-sessionOf (Write s c v) = s
-sessionOf (Seal s) = s
-sessionOf (Advance s) = s
-sessionOf (Abandon s) = s
-sessionOf (Peek s c) = s
-sessionOf (Hold s c) = s
+abbrev pub session_of : Call → ℕ
+session_of (Begin s) = s
+session_of (Read s c) = s
+session_of (Write s c v) = s
+session_of (Seal s) = s
+session_of (Advance s) = s
+session_of (Abandon s) = s
+session_of (Peek s c) = s
+session_of (Hold s c) = s

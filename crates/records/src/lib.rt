@@ -3,7 +3,7 @@
 ghost use Rattle.std.specs.Prelude.{◌≡◌, suc, ◌<◌, replicate};
 ghost use Rattle.records.specs.declared.Answer.TheVariants.{Refused};
 ghost use Rattle.records.specs.declared.Change.TheVariants.{Keep, Join, Withdraw};
-ghost use Rattle.records.specs.Records.{idle, running, withEntry, withEntries, moveTo, number, value_of, sessionOf};
+ghost use Rattle.records.specs.Records.{idle, running, with_entry, with_entries, move_to, number, value_of, session_of};
 
 // A session's record: phase (0 idle, 1 running, 2 promoting, 3 publishing, 4 releasing), entry count, next cell.
 #[repr(C)]
@@ -45,7 +45,7 @@ pub enum Call {
 impl Call {
     // The calling session.
     pub fn session(self) -> u8
-        ensures { result ≡ sessionOf self }
+        ensures { result ≡ session_of self }
     {
         match self {
             Call::Begin(s) => s,
@@ -105,7 +105,7 @@ impl Answer {
     }
 }
 
-// What a call decides before it changes anything; `planEffect` in model/specs/Effects.antt says what each answers and leaves.
+// What a call decides before it changes anything; `plan_effect` in model/specs/Effects.antt says what each answers and leaves.
 #[derive(Drop)]
 pub enum Plan {
     // the number of a refusal
@@ -210,7 +210,7 @@ impl Session {
     // One entry more.
     pub fn with_entry(self) -> Session
         requires { self.count < 32 }
-        ensures { result ≡ withEntry self }
+        ensures { result ≡ with_entry self }
     {
         Session {
             phase: self.phase,
@@ -221,7 +221,7 @@ impl Session {
 
     // So many entries in all.
     pub fn with_entries(self, count: u8) -> Session
-        ensures { result ≡ withEntries count self }
+        ensures { result ≡ with_entries count self }
     {
         Session {
             phase: self.phase,
@@ -232,7 +232,7 @@ impl Session {
 
     // Sealed with a cell that publishes: promotion begins.
     pub fn sealed(self) -> Session
-        ensures { result ≡ moveTo 2 0 self }
+        ensures { result ≡ move_to 2 0 self }
     {
         Session {
             phase: 2,
@@ -243,7 +243,7 @@ impl Session {
 
     // A cell is handled and another is left: next is past the one handled.
     pub fn moved(self, next: u16) -> Session
-        ensures { result ≡ moveTo self.phase next self }
+        ensures { result ≡ move_to self.phase next self }
     {
         Session {
             phase: self.phase,
@@ -255,7 +255,7 @@ impl Session {
     // The last cell is handled: the phase rises.
     pub fn raised(self) -> Session
         requires { self.phase < 4 }
-        ensures { result ≡ moveTo (suc self.phase) 0 self }
+        ensures { result ≡ move_to (suc self.phase) 0 self }
     {
         Session {
             phase: self.phase + 1,
@@ -305,7 +305,7 @@ pub fn rolled_back(x: Session) -> Turn
 // An answer with one entry more, of a cell whose readers the session joins.
 pub fn enters(answer: Answer, x: Session, cell: u32) -> Turn
     requires { x.count < 32 }
-    ensures { result ≡ record { answer = answer; session = withEntry x; change = Join cell } }
+    ensures { result ≡ record { answer = answer; session = with_entry x; change = Join cell } }
 {
     let y = x.with_entry();
     Turn {

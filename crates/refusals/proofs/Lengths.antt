@@ -6,17 +6,17 @@ use native.Mathlib.Omega.{arith}
 use borrow.Author.Tests.{ltb-true, eqb-true, eqb-false, leb-true}
 use lib.ListN.{length}
 use lib.Dec.{leb, ltb, eqb}
-use Rattle.model.specs.Buffers.{Buffers, Limits, Store, size, lengthsFit, lengthsMatch}
+use Rattle.model.specs.Buffers.{Buffers, Limits, Store, size, lengths_fit, lengths_match}
 use Rattle.model.specs.Effects.{answer, after}
-use Rattle.model.specs.Step.{outcome, answer_of, step, effect, plan_of, sessionOf, TakesUnder, TakesRecord}
-use Rattle.model.specs.Plans.{tableFits}
+use Rattle.model.specs.Step.{outcome, answer_of, step, effect, plan_of, session_of, TakesUnder, TakesRecord}
+use Rattle.model.specs.Plans.{table_fits}
 use Rattle.records.specs.declared.Session.{Session}
 use Rattle.records.specs.declared.Call.{Call}
 use Rattle.records.specs.declared.Answer.TheVariants.{Refused}
 use Rattle.records.specs.declared.Plan.TheVariants.{Refuse}
 use Rattle.model.proofs.Tools.{test, clash, and-false}
-use Rattle.model.proofs.Carried.{same-record}
-use Rattle.model.proofs.Tables.{goes-fits}
+use Rattle.model.proofs.Carried.{same_record}
+use Rattle.model.proofs.Tables.{goes_fits}
 use Rattle.refusals.specs.Pieces.{admission}
 
 -- what fitting lengths say, one by one
@@ -33,29 +33,29 @@ pub record Lengths (B : Buffers) : Type 0 where
 must : (t : Bool) → t ≡ true → (b : Bool) → (b ≡ false → t ≡ false) → b ≡ true
 must t h b f = test b (λ p. p) (λ p. absurd (clash t h (f p)))
 
-pub lengths-of : (B : Buffers) → lengthsFit B ≡ true → Lengths B
-unfolding lengthsFit size
-lengths-of B h =
+pub lengths_of : (B : Buffers) → lengths_fit B ≡ true → Lengths B
+unfolding lengths_fit size
+lengths_of B h =
     let n = length B.values in
     record {
-      some = leb-true 1 n (must (lengthsFit B) h (leb 1 n) (λ p. rw p));
-      few = leb-true n 1024 (must (lengthsFit B) h (leb n 1024) (λ p. rw (p, and-false)));
-      classes = eqb-true _ n (must (lengthsFit B) h (eqb (length B.classes) n) (λ p. rw (p, and-false)));
-      readers = eqb-true _ n (must (lengthsFit B) h (eqb (length B.locks.readers) n) (λ p. rw (p, and-false)));
-      claimants = eqb-true _ n (must (lengthsFit B) h (eqb (length B.locks.claimants) n) (λ p. rw (p, and-false)));
-      exclusives = eqb-true _ n (must (lengthsFit B) h (eqb (length B.locks.exclusives) n) (λ p. rw (p, and-false)));
-      logs = eqb-true _ 2048 (must (lengthsFit B) h (eqb (length B.logs) 2048) (λ p. rw (p, and-false)));
+      some = leb-true 1 n (must (lengths_fit B) h (leb 1 n) (λ p. rw p));
+      few = leb-true n 1024 (must (lengths_fit B) h (leb n 1024) (λ p. rw (p, and-false)));
+      classes = eqb-true _ n (must (lengths_fit B) h (eqb (length B.classes) n) (λ p. rw (p, and-false)));
+      readers = eqb-true _ n (must (lengths_fit B) h (eqb (length B.locks.readers) n) (λ p. rw (p, and-false)));
+      claimants = eqb-true _ n (must (lengths_fit B) h (eqb (length B.locks.claimants) n) (λ p. rw (p, and-false)));
+      exclusives = eqb-true _ n (must (lengths_fit B) h (eqb (length B.locks.exclusives) n) (λ p. rw (p, and-false)));
+      logs = eqb-true _ 2048 (must (lengths_fit B) h (eqb (length B.logs) 2048) (λ p. rw (p, and-false)));
     }
 
 -- what the code tests is the model's test
 pub match_is : (B : Buffers)
-    → lengthsMatch (length B.values) (length B.classes) (length B.locks.readers) (length B.locks.claimants) (length B.locks.exclusives) (length B.logs) ≡ lengthsFit B
-unfolding lengthsMatch lengthsFit size
+    → lengths_match (length B.values) (length B.classes) (length B.locks.readers) (length B.locks.claimants) (length B.locks.exclusives) (length B.logs) ≡ lengths_fit B
+unfolding lengths_match lengths_fit size
 match_is B = refl
 
 -- admitted: the lengths fit, and the session is one of sixteen
 pub record Admitted (B : Buffers) (s : ℕ) : Type 0 where
-  pub fit : lengthsFit B ≡ true
+  pub fit : lengths_fit B ≡ true
   pub lengths : Lengths B
   pub low : s < 16
 
@@ -65,56 +65,56 @@ unfolding effect answer_of step answer after
 refuses k σ r e = rw (← e)
 
 -- a table that is not of 16 caps is 7
-pub table-refused : (G : Limits) (k : Call) (B : Buffers) (x : Session) → tableFits k G ≡ false → TakesUnder G k B x (Refused 7) B x
-table-refused G k B x t ss o =
-    rw (← o, same-record ss (sessionOf k % 16)) (refuses k (record { lent = B; limits = G; sessions = ss }) 7 (unfold plan_of in rw t))
+pub table_refused : (G : Limits) (k : Call) (B : Buffers) (x : Session) → table_fits k G ≡ false → TakesUnder G k B x (Refused 7) B x
+table_refused G k B x t ss o =
+    rw (← o, same_record ss (session_of k % 16)) (refuses k (record { lent = B; limits = G; sessions = ss }) 7 (unfold plan_of in rw t))
 
 -- r is the number that the code's test answered
 module _ (B : Buffers) (s r : ℕ)
-    (e : r ≡ admission (lengthsMatch (length B.values) (length B.classes) (length B.locks.readers) (length B.locks.claimants) (length B.locks.exclusives) (length B.logs)) s) where
-  passed-both : (fit low : Bool) → lengthsFit B ≡ fit → ltb s 16 ≡ low → r ≡ 0 → (fit ≡ true) × (low ≡ true)
+    (e : r ≡ admission (lengths_match (length B.values) (length B.classes) (length B.locks.readers) (length B.locks.claimants) (length B.locks.exclusives) (length B.logs)) s) where
+  passed_both : (fit low : Bool) → lengths_fit B ≡ fit → ltb s 16 ≡ low → r ≡ 0 → (fit ≡ true) × (low ≡ true)
   unfolding admission
-  passed-both true true f l z = (refl, refl)
-  passed-both true false f l z = absurd (let w : r ≡ 1 = rw (match_is B, f, l) at e in omega arith)
-  passed-both false low f l z = absurd (let w : r ≡ 7 = rw (match_is B, f) at e in omega arith)
+  passed_both true true f l z = (refl, refl)
+  passed_both true false f l z = absurd (let w : r ≡ 1 = rw (match_is B, f, l) at e in omega arith)
+  passed_both false low f l z = absurd (let w : r ≡ 7 = rw (match_is B, f) at e in omega arith)
 
   pub admitted : r ≡ 0 → Admitted B s
   admitted z =
-      let w = passed-both (lengthsFit B) (ltb s 16) refl refl z in
-      record { fit = w.0; lengths = lengths-of B w.0; low = ltb-true s 16 w.1 }
+      let w = passed_both (lengths_fit B) (ltb s 16) refl refl z in
+      record { fit = w.0; lengths = lengths_of B w.0; low = ltb-true s 16 w.1 }
 
   -- any other number is the plan's refusal, where the table fits
-  pub plan-refused : (k : Call) → s ≡ sessionOf k → (r ≡ 0 → ⊥) → (σ : Store) → tableFits k σ.limits ≡ true → σ.lent ≡ B → Refuse r ≡ plan_of k σ
+  pub plan_refused : (k : Call) → s ≡ session_of k → (r ≡ 0 → ⊥) → (σ : Store) → table_fits k σ.limits ≡ true → σ.lent ≡ B → Refuse r ≡ plan_of k σ
   unfolding plan_of admission
-  plan-refused k i n σ t b =
-      test (lengthsFit B)
+  plan_refused k i n σ t b =
+      test (lengths_fit B)
       (λ f.
       test (ltb s 16) (λ l. absurd (n (rw (match_is B, f, l) at e)))
       (λ l. let w : r ≡ 1 = rw (match_is B, f, l) at e in rw (t, b, f, ← i, l, w)))
       (λ f. let w : r ≡ 7 = rw (match_is B, f) at e in rw (t, b, f, w))
 
   -- and the call is refused by it, with all as it was
-  pub refused-under : (G : Limits) (k : Call) → tableFits k G ≡ true → s ≡ sessionOf k → (r ≡ 0 → ⊥) → (x : Session) → TakesUnder G k B x (Refused r) B x
-  refused-under G k t i n x ss o =
-      rw (← o, same-record ss (sessionOf k % 16))
-      (refuses k (record { lent = B; limits = G; sessions = ss }) r (plan-refused k i n (record { lent = B; limits = G; sessions = ss }) t refl))
+  pub refused_under : (G : Limits) (k : Call) → table_fits k G ≡ true → s ≡ session_of k → (r ≡ 0 → ⊥) → (x : Session) → TakesUnder G k B x (Refused r) B x
+  refused_under G k t i n x ss o =
+      rw (← o, same_record ss (session_of k % 16))
+      (refuses k (record { lent = B; limits = G; sessions = ss }) r (plan_refused k i n (record { lent = B; limits = G; sessions = ss }) t refl))
 
-  pub refused : (k : Call) → s ≡ sessionOf k → (r ≡ 0 → ⊥) → (x : Session) → TakesRecord k B x (Refused r) B x
-  refused k i n x G g = refused-under G k (goes-fits k G g) i n x
+  pub refused : (k : Call) → s ≡ session_of k → (r ≡ 0 → ⊥) → (x : Session) → TakesRecord k B x (Refused r) B x
+  refused k i n x G g = refused_under G k (goes_fits k G g) i n x
 
 -- the same where the code has the test's answer t first, and asks for the number only where it did not pass
 module _ (B : Buffers) (s : ℕ) (t : Bool)
-    (e : t ≡ eqb (admission (lengthsMatch (length B.values) (length B.classes) (length B.locks.readers) (length B.locks.claimants) (length B.locks.exclusives) (length B.logs)) s) 0) where
-  pub admitted-by : t ≡ true → Admitted B s
-  admitted-by z = admitted B s _ refl (eqb-true _ 0 (sym e ∙ z))
+    (e : t ≡ eqb (admission (lengths_match (length B.values) (length B.classes) (length B.locks.readers) (length B.locks.claimants) (length B.locks.exclusives) (length B.logs)) s) 0) where
+  pub admitted_by : t ≡ true → Admitted B s
+  admitted_by z = admitted B s _ refl (eqb-true _ 0 (sym e ∙ z))
 
   module _ (z : t ≡ false) (r : ℕ)
-      (o : r ≡ admission (lengthsMatch (length B.values) (length B.classes) (length B.locks.readers) (length B.locks.claimants) (length B.locks.exclusives) (length B.logs)) s) (k : Call) (i : s ≡ sessionOf k) where
-    pub plan-refused-by : (σ : Store) → tableFits k σ.limits ≡ true → σ.lent ≡ B → Refuse r ≡ plan_of k σ
-    plan-refused-by = plan-refused B s r o k i (λ w. eqb-false _ 0 (sym e ∙ z) (sym o ∙ w))
+      (o : r ≡ admission (lengths_match (length B.values) (length B.classes) (length B.locks.readers) (length B.locks.claimants) (length B.locks.exclusives) (length B.logs)) s) (k : Call) (i : s ≡ session_of k) where
+    pub plan_refused_by : (σ : Store) → table_fits k σ.limits ≡ true → σ.lent ≡ B → Refuse r ≡ plan_of k σ
+    plan_refused_by = plan_refused B s r o k i (λ w. eqb-false _ 0 (sym e ∙ z) (sym o ∙ w))
 
-    pub refused-under-by : (G : Limits) → tableFits k G ≡ true → (x : Session) → TakesUnder G k B x (Refused r) B x
-    refused-under-by G t = refused-under B s r o G k t i (λ w. eqb-false _ 0 (sym e ∙ z) (sym o ∙ w))
+    pub refused_under_by : (G : Limits) → table_fits k G ≡ true → (x : Session) → TakesUnder G k B x (Refused r) B x
+    refused_under_by G t = refused_under B s r o G k t i (λ w. eqb-false _ 0 (sym e ∙ z) (sym o ∙ w))
 
-    pub refused-by : (x : Session) → TakesRecord k B x (Refused r) B x
-    refused-by = refused B s r o k i (λ w. eqb-false _ 0 (sym e ∙ z) (sym o ∙ w))
+    pub refused_by : (x : Session) → TakesRecord k B x (Refused r) B x
+    refused_by = refused B s r o k i (λ w. eqb-false _ 0 (sym e ∙ z) (sym o ∙ w))

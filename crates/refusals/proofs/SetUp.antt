@@ -4,29 +4,29 @@ use mathlib.Core.Bool.{Bool, true, false, ◌&&◌}
 use mathlib.Core.List.{List}
 use Prim.Native.Nat.{ℕ}
 use lib.ListN.{length, replicate}
-use Rattle.model.specs.Buffers.{Store, size, hasCaps, passes, all_fit, lengthsFit, fresh, idle}
-use Rattle.model.specs.Step.{outcome, setUpRefusal, setUpAnswer, setUp, setUpEffect}
+use Rattle.model.specs.Buffers.{Store, size, has_caps, passes, all_fit, lengths_fit, fresh, idle}
+use Rattle.model.specs.Step.{outcome, set_up_refusal, set_up_answer, set_up, set_up_effect}
 use Rattle.records.specs.declared.Sessions.{Sessions}
 use Rattle.records.specs.declared.Answer.TheVariants.{Done, Refused}
 use Rattle.model.proofs.Tools.{both_r}
-use Rattle.refusals.proofs.Lengths.{lengths-of}
+use Rattle.refusals.proofs.Lengths.{lengths_of}
 
 module _ (σ : Store) where
-  pub set-7 : (hasCaps σ.limits.caps && lengthsFit σ.lent) ≡ false → outcome (Refused 7) σ ≡ setUpEffect σ
-  unfolding setUpEffect setUpAnswer setUp setUpRefusal
-  set-7 h = rw h
+  pub set_7 : (has_caps σ.limits.caps && lengths_fit σ.lent) ≡ false → outcome (Refused 7) σ ≡ set_up_effect σ
+  unfolding set_up_effect set_up_answer set_up set_up_refusal
+  set_7 h = rw h
 
-  module _ (h : (hasCaps σ.limits.caps && lengthsFit σ.lent) ≡ true) where
-    pub set-16 : passes σ.limits.caps ≡ false → outcome (Refused 16) σ ≡ setUpEffect σ
-    unfolding setUpEffect setUpAnswer setUp setUpRefusal
-    set-16 p = rw (h, p)
+  module _ (h : (has_caps σ.limits.caps && lengths_fit σ.lent) ≡ true) where
+    pub set_16 : passes σ.limits.caps ≡ false → outcome (Refused 16) σ ≡ set_up_effect σ
+    unfolding set_up_effect set_up_answer set_up set_up_refusal
+    set_16 p = rw (h, p)
 
     module _ (p : passes σ.limits.caps ≡ true) (b : Bool) (e : b ≡ all_fit σ.limits.caps σ.lent.values σ.lent.classes) where
-      pub set-8 : b ≡ false → outcome (Refused 8) σ ≡ setUpEffect σ
-      unfolding setUpEffect setUpAnswer setUp setUpRefusal
-      set-8 f = rw (h, p, ← e, f)
+      pub set_8 : b ≡ false → outcome (Refused 8) σ ≡ set_up_effect σ
+      unfolding set_up_effect set_up_answer set_up set_up_refusal
+      set_8 f = rw (h, p, ← e, f)
 
-      pub set-done : b ≡ true → (R C E W : List ℕ) (ss : Sessions)
+      pub set_done : b ≡ true → (R C E W : List ℕ) (ss : Sessions)
           → R ≡ replicate (length σ.lent.locks.readers) 0
           → C ≡ replicate (length σ.lent.locks.claimants) 16
           → E ≡ replicate (length σ.lent.locks.exclusives) 0
@@ -38,8 +38,8 @@ module _ (σ : Store) where
             limits = σ.limits;
             sessions = ss;
           })
-          ≡ setUpEffect σ
-      unfolding setUpEffect setUpAnswer setUp setUpRefusal fresh size
-      set-done f R C E W ss r c x w s =
-          let l = lengths-of σ.lent (both_r (hasCaps σ.limits.caps) (lengthsFit σ.lent) h) in
+          ≡ set_up_effect σ
+      unfolding set_up_effect set_up_answer set_up set_up_refusal fresh size
+      set_done f R C E W ss r c x w s =
+          let l = lengths_of σ.lent (both_r (has_caps σ.limits.caps) (lengths_fit σ.lent) h) in
           rw (h, p, ← e, f, r, c, x, w, s, l.readers, l.claimants, l.exclusives, l.logs)

@@ -13,12 +13,12 @@ use Rattle.records.specs.declared.Turn.{Turn}
 
 -- p is the plan
 module _ (vs log : List ℕ) (x : Session) (p : Plan) (t : Turn) where
-  pub turn-refused : (r : ℕ) → p ≡ Refuse r → t ≡ record { answer = say.Refused r; session = x; change = to.Keep }
+  pub turn_refused : (r : ℕ) → p ≡ Refuse r → t ≡ record { answer = say.Refused r; session = x; change = to.Keep }
       → leaves t.answer vs log t.session t.change ≡ turn_of p vs log x
   unfolding turn_of
-  turn-refused r h f = rw (h, f)
+  turn_refused r h f = rw (h, f)
 
-  pub turn-rolled-back : p ≡ RollBack → t ≡ record { answer = say.Refused 6; session = idle; change = to.Withdraw }
+  pub turn_rolled_back : p ≡ RollBack → t ≡ record { answer = say.Refused 6; session = idle; change = to.Withdraw }
       → leaves t.answer vs log t.session t.change ≡ turn_of p vs log x
   unfolding turn_of
-  turn-rolled-back h f = rw (h, f)
+  turn_rolled_back h f = rw (h, f)

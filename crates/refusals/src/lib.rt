@@ -1,7 +1,7 @@
 // Refusals 7, 1, 9 and 2, which every call tests first, in this order.
 ghost use Rattle.std.specs.Prelude.{◌≡◌, false, ◌≤◌, eqb, length};
-ghost use Rattle.model.specs.Buffers.{lengthsMatch};
-ghost use Rattle.model.specs.Plans.{entriesFit, recordFits};
+ghost use Rattle.model.specs.Buffers.{lengths_match};
+ghost use Rattle.model.specs.Plans.{entries_fit, record_fits};
 ghost use Rattle.refusals.specs.Pieces.{admission, tested};
 
 use records::Session;
@@ -15,7 +15,7 @@ pub fn lengths_fit(
     exclusives: usize,
     logs: usize,
 ) -> bool
-    ensures { result ≡ lengthsMatch n classes readers claimants exclusives logs }
+    ensures { result ≡ lengths_match n classes readers claimants exclusives logs }
 {
     if n == 0 {
         return false;
@@ -48,7 +48,7 @@ pub fn admit(
     logs: usize,
     session: u8,
 ) -> u8
-    ensures { result ≡ admission (lengthsMatch n classes readers claimants exclusives logs) session }
+    ensures { result ≡ admission (lengths_match n classes readers claimants exclusives logs) session }
 {
     if !lengths_fit(n, classes, readers, claimants, exclusives, logs) {
         return 7;
@@ -69,7 +69,7 @@ pub fn admits(
     logs: usize,
     session: u8,
 ) -> bool
-    ensures { result ≡ eqb (admission (lengthsMatch n classes readers claimants exclusives logs) session) 0 }
+    ensures { result ≡ eqb (admission (lengths_match n classes readers claimants exclusives logs) session) 0 }
 {
     if !lengths_fit(n, classes, readers, claimants, exclusives, logs) {
         return false;
@@ -80,7 +80,7 @@ pub fn admits(
 // Phase at most 4; in phases 1 to 4 at most 32 entries, each of a cell below n.
 pub fn entries_fit(log: &[u32], n: usize, x: Session) -> bool
     requires { (length log.now ≡ 128) × (n ≤ 1024) }
-    ensures { result ≡ entriesFit n log.now x }
+    ensures { result ≡ entries_fit n log.now x }
 {
     let phase = x.phase;
     let count = x.count;
@@ -99,7 +99,7 @@ pub fn entries_fit(log: &[u32], n: usize, x: Session) -> bool
 // The same, and in phases 2 to 4 a cell that publishes, not below next.
 fn record_fits(log: &[u32], n: usize, x: Session) -> bool
     requires { (length log.now ≡ 128) × (n ≤ 1024) }
-    ensures { result ≡ recordFits n log.now x }
+    ensures { result ≡ record_fits n log.now x }
 {
     let phase = x.phase;
     let count = x.count as usize;
@@ -116,7 +116,7 @@ fn record_fits(log: &[u32], n: usize, x: Session) -> bool
 // 9, or 2 where the call does not fit the phase, or 0.
 pub fn tests(log: &[u32], n: usize, x: Session, fit: bool) -> u8
     requires { (length log.now ≡ 128) × (n ≤ 1024) }
-    ensures { result ≡ tested (recordFits n log.now x) fit }
+    ensures { result ≡ tested (record_fits n log.now x) fit }
 {
     if !record_fits(log, n, x) {
         return 9;
@@ -130,7 +130,7 @@ pub fn tests(log: &[u32], n: usize, x: Session, fit: bool) -> u8
 // Whether they pass for a call of a running session. The tests of other phases stand apart, so that a running session is tested by what it needs alone.
 pub fn runs(log: &[u32], n: usize, x: Session) -> bool
     requires { (length log.now ≡ 128) × (n ≤ 1024) }
-    ensures { result ≡ eqb (tested (recordFits n log.now x) (eqb x.phase 1)) 0 }
+    ensures { result ≡ eqb (tested (record_fits n log.now x) (eqb x.phase 1)) 0 }
 {
     let phase = x.phase;
     let count = x.count;
@@ -145,8 +145,8 @@ pub fn runs(log: &[u32], n: usize, x: Session) -> bool
 
 // The number where they do not pass for a call of a running session: 9 or 2.
 pub fn running_refusal(log: &[u32], n: usize, x: Session) -> u8
-    requires { (length log.now ≡ 128) × (n ≤ 1024) × (eqb (tested (recordFits n log.now x) (eqb x.phase 1)) 0 ≡ false) }
-    ensures { result ≡ tested (recordFits n log.now x) (eqb x.phase 1) }
+    requires { (length log.now ≡ 128) × (n ≤ 1024) × (eqb (tested (record_fits n log.now x) (eqb x.phase 1)) 0 ≡ false) }
+    ensures { result ≡ tested (record_fits n log.now x) (eqb x.phase 1) }
 {
     let phase = x.phase;
     if phase == 1 {

@@ -8,10 +8,10 @@ use Rattle.records.specs.declared.Answer.{Answer}
 use Rattle.records.specs.declared.Answer.TheVariants.{Done, Value, Sealed, Moved, Waiting, Committed, Refused}
 use Rattle.model.specs.Effects.{number}
 use Rattle.records.specs.contracts.Answer.{the_type}
-use Rattle.replay_text.specs.Lines.{word, space, newline, answerWords, answerLine}
+use Rattle.replay_text.specs.Lines.{word, space, newline, answer_words, answer_line}
 
-plain-words : (a : Answer) → OneOf (0 ∷ 2 ∷ 3 ∷ 5 ∷ 6 ∷ []) (tag_of the_type a) → answerWords a ≡ word (number a) newline
-unfolding answerWords
+plain-words : (a : Answer) → OneOf (0 ∷ 2 ∷ 3 ∷ 5 ∷ 6 ∷ []) (tag_of the_type a) → answer_words a ≡ word (number a) newline
+unfolding answer_words
 plain-words Done h = refl
 plain-words (Value v) h = absurd (miss (0 ∷ 2 ∷ 3 ∷ 5 ∷ 6 ∷ []) 1 tt h)
 plain-words Sealed h = refl
@@ -21,16 +21,16 @@ plain-words Committed h = refl
 plain-words (Refused k) h = refl
 
 -- of an answer without a value
-pub plain-line : (i n : ℕ) (a : Answer) → n ≡ number a → OneOf (0 ∷ 2 ∷ 3 ∷ 5 ∷ 6 ∷ []) (tag_of the_type a) → word i space ++ word n newline ≡ answerLine i a
-unfolding answerLine
+pub plain-line : (i n : ℕ) (a : Answer) → n ≡ number a → OneOf (0 ∷ 2 ∷ 3 ∷ 5 ∷ 6 ∷ []) (tag_of the_type a) → word i space ++ word n newline ≡ answer_line i a
+unfolding answer_line
 plain-line i n a e h = ap (λ (m : ℕ). word i space ++ word m newline) e ∙ ap (λ (t : List ℕ). word i space ++ t) (sym (plain-words a h))
 
 -- of a value, and of a wait
 module _ (i n v : ℕ) (a : Answer) (e : n ≡ number a) where
-  pub value_line : a ≡ Value v → word i space ++ (word n space ++ word v newline) ≡ answerLine i a
-  unfolding answerLine answerWords
+  pub value_line : a ≡ Value v → word i space ++ (word n space ++ word v newline) ≡ answer_line i a
+  unfolding answer_line answer_words
   value_line h = rw (e, h)
 
-  pub wait-line : a ≡ Waiting v → word i space ++ (word n space ++ word v newline) ≡ answerLine i a
-  unfolding answerLine answerWords
+  pub wait-line : a ≡ Waiting v → word i space ++ (word n space ++ word v newline) ≡ answer_line i a
+  unfolding answer_line answer_words
   wait-line h = rw (e, h)

@@ -8,19 +8,19 @@ use lib.ListN.{length, length-append}
 use Rattle.model.proofs.Tools.{test}
 use borrow.Author.Tests.{lt-ltb, le-ltb, ltb-true, ltb-false}
 use Rattle.replay_text.specs.Decimal.{digit, digits, decimal}
-use Rattle.replay_text.specs.Lines.{word, space, newline, cellLine}
+use Rattle.replay_text.specs.Lines.{word, space, newline, cell_line}
 
 -- one digit below 10, however many divisions are left
-one-digit : (k n : ℕ) → n < 10 → digits k n ≡ digit n ∷ []
+one_digit : (k n : ℕ) → n < 10 → digits k n ≡ digit n ∷ []
 unfolding digits
-one-digit zero n h = refl
-one-digit (suc k) n h = simp (lt-ltb n 10 h)
+one_digit zero n h = refl
+one_digit (suc k) n h = simp (lt-ltb n 10 h)
 
 -- two counts of divisions that are both at least n give the same digits
 enough : (j k n : ℕ) → n ≤ j → n ≤ k → digits j n ≡ digits k n
 unfolding digits
-enough zero k n a b = sym (one-digit k n (omega arith))
-enough (suc j) zero n a b = one-digit (suc j) n (omega arith)
+enough zero k n a b = sym (one_digit k n (omega arith))
+enough (suc j) zero n a b = one_digit (suc j) n (omega arith)
 enough (suc j) (suc k) n a b =
     test (ltb n 10)
     (λ h. simp h)
@@ -29,22 +29,22 @@ enough (suc j) (suc k) n a b =
 
 pub decimal_digit : (n : ℕ) → n < 10 → decimal n ≡ digit n ∷ []
 unfolding decimal
-decimal_digit n h = one-digit n n h
+decimal_digit n h = one_digit n n h
 
 more : (k n : ℕ) → 10 ≤ n → n ≤ suc k → digits (suc k) n ≡ decimal (n / 10) ++ digit (n % 10) ∷ []
 unfolding digits decimal
 more k n h b = simp (le-ltb _ _ h, enough k (n / 10) (n / 10) (omega arith) (omega arith))
 
-pub decimal-more : (n : ℕ) → 10 ≤ n → decimal n ≡ decimal (n / 10) ++ digit (n % 10) ∷ []
+pub decimal_more : (n : ℕ) → 10 ≤ n → decimal n ≡ decimal (n / 10) ++ digit (n % 10) ∷ []
 unfolding decimal
-decimal-more zero h = absurd (omega arith)
-decimal-more (suc k) h = more k (suc k) h (omega arith)
+decimal_more zero h = absurd (omega arith)
+decimal_more (suc k) h = more k (suc k) h (omega arith)
 
 pub length-digit : (n : ℕ) → n < 10 → length (decimal n) ≡ 1
 length-digit n h = ap length (decimal_digit n h)
 
 pub length_more : (n : ℕ) → 10 ≤ n → length (decimal n) ≡ length (decimal (n / 10)) + 1
-length_more n h = ap length (decimal-more n h) ∙ simp length-append
+length_more n h = ap length (decimal_more n h) ∙ simp length-append
 
 -- a number below 10 ^ (k + 1) has at most k + 1 digits
 pub length-decimal : (k n : ℕ) → n < 10 ^ suc k → length (decimal n) ≤ suc k
@@ -64,6 +64,6 @@ length-word k n end h = simp length-append (omega (arith, length-decimal k n h))
 pub length-pair : (j k n m end : ℕ) → n < 10 ^ suc j → m < 10 ^ suc k → length (word n space ++ word m end) ≤ j + k + 4
 length-pair j k n m end h i = simp length-append (omega (arith, length-word j n space h, length-word k m end i))
 
-pub length-cell : (i v : ℕ) → i < 10000 → v < 4294967296 → length (cellLine i v) ≤ 18
-unfolding cellLine
+pub length-cell : (i v : ℕ) → i < 10000 → v < 4294967296 → length (cell_line i v) ≤ 18
+unfolding cell_line
 length-cell i v h k = omega (arith, length-pair 3 9 i v newline (omega arith) (omega arith))

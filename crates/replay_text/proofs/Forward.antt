@@ -4,39 +4,39 @@ use mathlib.Core.Path.{◌≡◌, refl, ◌∙◌, ap}
 use mathlib.Core.List.{List, [], ◌∷◌, ◌++◌, append_assoc, reverse, reverse-cons, reverse-append}
 use Rattle.records.specs.declared.Call.{Call}
 use Rattle.model.specs.Buffers.{Store}
-use Rattle.model.specs.History.{Action, oneCall, eventOf, run, events}
+use Rattle.model.specs.History.{Action, one_call, event_of, run, events}
 use Rattle.model.specs.Step.{step, answer_of}
-use Rattle.model.proofs.Firsts.{run-first, events-first}
+use Rattle.model.proofs.Firsts.{run_first, events_first}
 use Rattle.items.specs.Items.{Item, cell, asked, refused, calls}
-use Rattle.replay_text.specs.Lines.{fieldLine, answerLine, answerLines, cellLines, endLine}
-use Rattle.replay_text.specs.Transcript.{callsText}
+use Rattle.replay_text.specs.Lines.{field_line, answer_line, answer_lines, cell_lines, end_line}
+use Rattle.replay_text.specs.Transcript.{calls_text}
 
 module _ (σ : Store) (k : Call) where
   -- a call, and those after it on what it leaves
-  run-asked : (ks : List Action) → run σ (reverse (oneCall k ∷ ks)) ≡ run (step k σ) (reverse ks)
-  run-asked ks = ap (run σ) (reverse-cons (oneCall k) ks) ∙ run-first σ (oneCall k) (reverse ks)
+  run_asked : (ks : List Action) → run σ (reverse (one_call k ∷ ks)) ≡ run (step k σ) (reverse ks)
+  run_asked ks = ap (run σ) (reverse-cons (one_call k) ks) ∙ run_first σ (one_call k) (reverse ks)
 
-  events-asked : (ks : List Action) → reverse (events σ (reverse (oneCall k ∷ ks))) ≡ eventOf (oneCall k) σ ∷ reverse (events (step k σ) (reverse ks))
-  events-asked ks =
-      ap (λ (js : List Action). reverse (events σ js)) (reverse-cons (oneCall k) ks) ∙ ap reverse (events-first σ (oneCall k) (reverse ks))
+  events_asked : (ks : List Action) → reverse (events σ (reverse (one_call k ∷ ks))) ≡ event_of (one_call k) σ ∷ reverse (events (step k σ) (reverse ks))
+  events_asked ks =
+      ap (λ (js : List Action). reverse (events σ js)) (reverse-cons (one_call k) ks) ∙ ap reverse (events_first σ (one_call k) (reverse ks))
       ∙ reverse-append (events (step k σ) (reverse ks)) _
 
   -- a call prints its line, and the rest follows from the store that it leaves
-  pub text-asked : (i : ℕ) (items : List Item) → callsText i σ (asked k ∷ items) ≡ answerLine i (answer_of k σ) ++ callsText (suc i) (step k σ) items
-  unfolding calls answerLines endLine callsText
-  text-asked i items =
-      rw (events-asked (calls items), run-asked (calls items)) (append_assoc (answerLine i (answer_of k σ)) (answerLines (suc i) (reverse (events (step k σ) (reverse (calls items))))) _)
+  pub text_asked : (i : ℕ) (items : List Item) → calls_text i σ (asked k ∷ items) ≡ answer_line i (answer_of k σ) ++ calls_text (suc i) (step k σ) items
+  unfolding calls answer_lines end_line calls_text
+  text_asked i items =
+      rw (events_asked (calls items), run_asked (calls items)) (append_assoc (answer_line i (answer_of k σ)) (answer_lines (suc i) (reverse (events (step k σ) (reverse (calls items))))) _)
 
 module _ (i : ℕ) (σ : Store) where
   -- where the calls end, the cells follow
-  pub text-end : callsText i σ [] ≡ cellLines 0 σ.lent.values
-  unfolding calls answerLines endLine callsText run events
-  text-end = refl
+  pub text_end : calls_text i σ [] ≡ cell_lines 0 σ.lent.values
+  unfolding calls answer_lines end_line calls_text run events
+  text_end = refl
 
-  pub text-refused : (place number : ℕ) (items : List Item) → callsText i σ (refused place number ∷ items) ≡ fieldLine place number ++ cellLines 0 σ.lent.values
-  unfolding calls answerLines endLine callsText run events
-  text-refused place number items = refl
+  pub text_refused : (place number : ℕ) (items : List Item) → calls_text i σ (refused place number ∷ items) ≡ field_line place number ++ cell_lines 0 σ.lent.values
+  unfolding calls answer_lines end_line calls_text run events
+  text_refused place number items = refl
 
-  pub text-late-cell : (place class value : ℕ) (items : List Item) → callsText i σ (cell place class value ∷ items) ≡ fieldLine place 11 ++ cellLines 0 σ.lent.values
-  unfolding calls answerLines endLine callsText run events
-  text-late-cell place class value items = refl
+  pub text_late_cell : (place class value : ℕ) (items : List Item) → calls_text i σ (cell place class value ∷ items) ≡ field_line place 11 ++ cell_lines 0 σ.lent.values
+  unfolding calls answer_lines end_line calls_text run events
+  text_late_cell place class value items = refl

@@ -19,47 +19,47 @@ abbrev pub newline : ℕ
 newline = 10
 
 -- size
-unfoldable pub sizeLine : List ℕ
-sizeLine = 115 ∷ 105 ∷ 122 ∷ 101 ∷ newline ∷ []
+unfoldable pub size_line : List ℕ
+size_line = 115 ∷ 105 ∷ 122 ∷ 101 ∷ newline ∷ []
 
 -- setup N
-unfoldable pub setUpLine : ℕ → List ℕ
-setUpLine n = (115 ∷ 101 ∷ 116 ∷ 117 ∷ 112 ∷ space ∷ []) ++ word n newline
+unfoldable pub set_up_line : ℕ → List ℕ
+set_up_line n = (115 ∷ 101 ∷ 116 ∷ 117 ∷ 112 ∷ space ∷ []) ++ word n newline
 
 -- field PLACE N
-unfoldable pub fieldLine : ℕ → ℕ → List ℕ
-fieldLine place n = (102 ∷ 105 ∷ 101 ∷ 108 ∷ 100 ∷ space ∷ []) ++ (word place space ++ word n newline)
+unfoldable pub field_line : ℕ → ℕ → List ℕ
+field_line place n = (102 ∷ 105 ∷ 101 ∷ 108 ∷ 100 ∷ space ∷ []) ++ (word place space ++ word n newline)
 
 -- c CELL VALUE
-unfoldable pub cellLine : ℕ → ℕ → List ℕ
-cellLine i v = (99 ∷ space ∷ []) ++ (word i space ++ word v newline)
+unfoldable pub cell_line : ℕ → ℕ → List ℕ
+cell_line i v = (99 ∷ space ∷ []) ++ (word i space ++ word v newline)
 
 -- ORDINAL N, and after 101 and 104 the value (document 02, Paper 6)
-unfoldable pub answerWords : Answer → List ℕ
-answerWords Done = word (number Done) newline
-answerWords (Value v) = word (number (Value v)) space ++ word v newline
-answerWords Sealed = word (number Sealed) newline
-answerWords Moved = word (number Moved) newline
-answerWords (Waiting k) = word (number (Waiting k)) space ++ word k newline
-answerWords Committed = word (number Committed) newline
-answerWords (Refused k) = word (number (Refused k)) newline
+unfoldable pub answer_words : Answer → List ℕ
+answer_words Done = word (number Done) newline
+answer_words (Value v) = word (number (Value v)) space ++ word v newline
+answer_words Sealed = word (number Sealed) newline
+answer_words Moved = word (number Moved) newline
+answer_words (Waiting k) = word (number (Waiting k)) space ++ word k newline
+answer_words Committed = word (number Committed) newline
+answer_words (Refused k) = word (number (Refused k)) newline
 
-unfoldable pub answerLine : ℕ → Answer → List ℕ
-answerLine ordinal a = word ordinal space ++ answerWords a
+unfoldable pub answer_line : ℕ → Answer → List ℕ
+answer_line ordinal a = word ordinal space ++ answer_words a
 
 -- a line for each call, with the ordinals from the given one on
-unfoldable pub answerLines : ℕ → List Event → List ℕ
-answerLines ordinal [] = []
-answerLines ordinal (e ∷ events) = answerLine ordinal e.answer ++ answerLines (suc ordinal) events
+unfoldable pub answer_lines : ℕ → List Event → List ℕ
+answer_lines ordinal [] = []
+answer_lines ordinal (e ∷ events) = answer_line ordinal e.answer ++ answer_lines (suc ordinal) events
 
 -- a line for each cell, from the given one on
-unfoldable pub cellLines : ℕ → List ℕ → List ℕ
-cellLines i [] = []
-cellLines i (v ∷ vs) = cellLine i v ++ cellLines (suc i) vs
+unfoldable pub cell_lines : ℕ → List ℕ → List ℕ
+cell_lines i [] = []
+cell_lines i (v ∷ vs) = cell_line i v ++ cell_lines (suc i) vs
 
 -- the line of what ends the calls: a refused field, or a late starting cell, which is no call: 11; none where the input ends
-unfoldable pub endLine : List Item → List ℕ
-endLine [] = []
-endLine (cell place class value ∷ items) = fieldLine place 11
-endLine (asked k ∷ items) = endLine items
-endLine (refused place number ∷ items) = fieldLine place number
+unfoldable pub end_line : List Item → List ℕ
+end_line [] = []
+end_line (cell place class value ∷ items) = field_line place 11
+end_line (asked k ∷ items) = end_line items
+end_line (refused place number ∷ items) = field_line place number

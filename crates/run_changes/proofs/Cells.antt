@@ -8,44 +8,44 @@ use native.Mathlib.Omega.{arith}
 use lib.Dec.{ltb}
 use lib.ListN.{length}
 use Rattle.model.proofs.Tools.{test}
-use Rattle.model.specs.Buffers.{logIn, cell_at, entry_at, publishes, slotIn, lookIn, entry_of, publishesIn}
+use Rattle.model.specs.Buffers.{log_in, cell_at, entry_at, publishes, slot_in, look_in, entry_of, publishes_in}
 use Rattle.log.specs.Slots.{found}
-use Rattle.log.proofs.Targets.{slot-some, slot-none}
-use Rattle.log.proofs.Logs.{log-long}
+use Rattle.log.proofs.Targets.{slot_some, slot_none}
+use Rattle.log.proofs.Logs.{log_long}
 use Rattle.run_changes.specs.declared.Change.{Change}
 use Rattle.run_changes.specs.declared.Change.TheVariants.{Withdraw, Leave}
-use Rattle.run_changes.specs.Run.{ChangeFits, countOf, cell_of}
+use Rattle.run_changes.specs.Run.{ChangeFits, count_of, cell_of}
 
 -- what a change through entries says of its i-th lock
-pub withdraw-fits : (W : List ℕ) (d : Change) (s m i : ℕ) → d ≡ Withdraw s m → ChangeFits W d → i < countOf d → (s < 16) × (i < 32) × (length W ≡ 2048)
-unfolding countOf
-withdraw-fits W d s m i e f l = let g = rw e at f in let h = rw e at l in let k = g.1 in (g.0, omega arith, g.2)
+pub withdraw_fits : (W : List ℕ) (d : Change) (s m i : ℕ) → d ≡ Withdraw s m → ChangeFits W d → i < count_of d → (s < 16) × (i < 32) × (length W ≡ 2048)
+unfolding count_of
+withdraw_fits W d s m i e f l = let g = rw e at f in let h = rw e at l in let k = g.1 in (g.0, omega arith, g.2)
 
-pub leave_fits : (W : List ℕ) (d : Change) (s m i : ℕ) → d ≡ Leave s m → ChangeFits W d → i < countOf d → (s < 16) × (m ≤ 32) × (i < m) × (length W ≡ 2048)
-unfolding countOf
+pub leave_fits : (W : List ℕ) (d : Change) (s m i : ℕ) → d ≡ Leave s m → ChangeFits W d → i < count_of d → (s < 16) × (m ≤ 32) × (i < m) × (length W ≡ 2048)
+unfolding count_of
 leave_fits W d s m i e f l = let g = rw e at f in let h = rw e at l in (g.0, g.1, h, g.2)
 
 -- entry i of session s, of m: its cell c as the code reads it, and the place k of the cell's first entry there
-module _ (W : List ℕ) (s m i : ℕ) (long : length W ≡ 2048) (low : s < 16) (few : m ≤ 32) (mine : i < m) (log : List ℕ) (w : log ≡ logIn W s) (c : ℕ) (cell : c ≡ cell_at log i) (k : ℕ) (first : found m k ≡ slotIn log m c) where
+module _ (W : List ℕ) (s m i : ℕ) (long : length W ≡ 2048) (low : s < 16) (few : m ≤ 32) (mine : i < m) (log : List ℕ) (w : log ≡ log_in W s) (c : ℕ) (cell : c ≡ cell_at log i) (k : ℕ) (first : found m k ≡ slot_in log m c) where
   -- the cell is found: its own entry is one of m
-  there : slotIn log m c ≡ some k
+  there : slot_in log m c ≡ some k
   unfolding found
-  there = test (ltb k m) (λ h. sym (rw h at first)) (λ h. absurd (slot-none log m c (sym (rw h at first)) i mine (sym cell)))
+  there = test (ltb k m) (λ h. sym (rw h at first)) (λ h. absurd (slot_none log m c (sym (rw h at first)) i mine (sym cell)))
 
-  pub first-there : 4 * k + 3 < length log
-  first-there = let g = log-long W s long low log w in let h = (slot-some log m c there).0 in omega arith
+  pub first_there : 4 * k + 3 < length log
+  first_there = let g = log_long W s long low log w in let h = (slot_some log m c there).0 in omega arith
 
   module _ (b : Bool) (said : b ≡ publishes (entry_at log k)) where
-    same : c ≡ cell_at (logIn W s) i
+    same : c ≡ cell_at (log_in W s) i
     same = cell ∙ ap (λ log. cell_at log i) (w)
 
-    written : publishesIn (logIn W s) m (cell_at (logIn W s) i) ≡ b
-    unfolding publishesIn lookIn entry_of
+    written : publishes_in (log_in W s) m (cell_at (log_in W s) i) ≡ b
+    unfolding publishes_in look_in entry_of
     written = rw (← same, ← w, there) (sym said)
 
-    pub written-cell : b ≡ true → 1024 ≡ cell_of W (Leave s m) i
+    pub written_cell : b ≡ true → 1024 ≡ cell_of W (Leave s m) i
     unfolding cell_of
-    written-cell h = rw (written, h)
+    written_cell h = rw (written, h)
 
     pub unpublished : b ≡ false → c ≡ cell_of W (Leave s m) i
     unfolding cell_of

@@ -1,6 +1,6 @@
 -- The locks as one run of records, the model's store with such locks, and what a call does to the run.
 use Rattle.std.specs.Prelude.{◌≡◌, ℕ, zero, suc, ◌≤◌, ◌<◌, cond, List, [], ◌∷◌, length, get_or, set}
-use Rattle.model.specs.Buffers.{Locks, Buffers, Limits, Store, free, logIn, cell_at, publishesIn, join, leave, vacate, withdraw, claim, acquire}
+use Rattle.model.specs.Buffers.{Locks, Buffers, Limits, Store, free, log_in, cell_at, publishes_in, join, leave, vacate, withdraw, claim, acquire}
 use Rattle.records.specs.declared.Lock.{Lock}
 use Rattle.records.specs.declared.Sessions.{Sessions}
 use Rattle.records.specs.declared.Change.{Change as LockChange}
@@ -21,38 +21,38 @@ unzipped ls =
     record { readers = each (λ l. l.readers) ls; claimants = each (λ l. l.claimant) ls; exclusives = each (λ l. l.exclusive) ls }
 
 -- the lent buffers whose locks are a run, and the store under the limits G
-abbrev pub lentOn : List ℕ → List ℕ → List Lock → List ℕ → Buffers
-lentOn values classes locks logs = record { values = values; classes = classes; locks = unzipped locks; logs = logs }
+abbrev pub lent_on : List ℕ → List ℕ → List Lock → List ℕ → Buffers
+lent_on values classes locks logs = record { values = values; classes = classes; locks = unzipped locks; logs = logs }
 
-abbrev pub storeOn : Limits → List ℕ → List ℕ → List Lock → List ℕ → Sessions → Store
-storeOn G values classes locks logs sessions = record { lent = lentOn values classes locks logs; limits = G; sessions = sessions }
+abbrev pub store_on : Limits → List ℕ → List ℕ → List Lock → List ℕ → Sessions → Store
+store_on G values classes locks logs sessions = record { lent = lent_on values classes locks logs; limits = G; sessions = sessions }
 
 -- ---- what a call does to the run
 
 -- the lock of a cell; past the last cell an empty one
-abbrev pub lockIn : List Lock → ℕ → Lock
-lockIn ls c = get_or ls c free
+abbrev pub lock_in : List Lock → ℕ → Lock
+lock_in ls c = get_or ls c free
 
 -- a turn's change as one of the run, by session s with m entries
-unfoldable pub onRun : LockChange → ℕ → ℕ → Change
-onRun to.Keep s m = Keep
-onRun (to.Join c) s m = Join s c
-onRun (to.Claim c) s m = Claim s c
-onRun (to.Acquire c) s m = Acquire s c
-onRun (to.Vacate c) s m = Vacate s c
-onRun to.Withdraw s m = Withdraw s m
-onRun to.DropReads s m = Leave s m
+unfoldable pub on_run : LockChange → ℕ → ℕ → Change
+on_run to.Keep s m = Keep
+on_run (to.Join c) s m = Join s c
+on_run (to.Claim c) s m = Claim s c
+on_run (to.Acquire c) s m = Acquire s c
+on_run (to.Vacate c) s m = Vacate s c
+on_run to.Withdraw s m = Withdraw s m
+on_run to.DropReads s m = Leave s m
 
 -- how many locks are changed, one after the other
-unfoldable pub countOf : Change → ℕ
-countOf Keep = 0
-countOf (Join s c) = 1
-countOf (Claim s c) = 1
-countOf (Acquire s c) = 1
-countOf (Vacate s c) = 1
-countOf (Withdraw s m) = m
-countOf (Leave s m) = m
-countOf (Clear n) = n
+unfoldable pub count_of : Change → ℕ
+count_of Keep = 0
+count_of (Join s c) = 1
+count_of (Claim s c) = 1
+count_of (Acquire s c) = 1
+count_of (Vacate s c) = 1
+count_of (Withdraw s m) = m
+count_of (Leave s m) = m
+count_of (Clear n) = n
 
 -- the cell whose lock is changed i-th, from 0; 1,024 is no cell
 unfoldable pub cell_of : List ℕ → Change → ℕ → ℕ
@@ -61,32 +61,32 @@ cell_of logs (Join s c) i = c
 cell_of logs (Claim s c) i = c
 cell_of logs (Acquire s c) i = c
 cell_of logs (Vacate s c) i = c
-cell_of logs (Withdraw s m) i = cell_at (logIn logs s) i
-cell_of logs (Leave s m) i = let c = cell_at (logIn logs s) i in cond (publishesIn (logIn logs s) m c) 1024 c
+cell_of logs (Withdraw s m) i = cell_at (log_in logs s) i
+cell_of logs (Leave s m) i = let c = cell_at (log_in logs s) i in cond (publishes_in (log_in logs s) m c) 1024 c
 cell_of logs (Clear n) i = i
 
 -- what becomes of a lock
-unfoldable pub changeOf : Change → Lock → Lock
-changeOf Keep l = l
-changeOf (Join s c) l = join s l
-changeOf (Claim s c) l = claim s l
-changeOf (Acquire s c) l = acquire s l
-changeOf (Vacate s c) l = vacate s l
-changeOf (Withdraw s m) l = withdraw s l
-changeOf (Leave s m) l = leave s l
-changeOf (Clear n) l = free
+unfoldable pub change_of : Change → Lock → Lock
+change_of Keep l = l
+change_of (Join s c) l = join s l
+change_of (Claim s c) l = claim s l
+change_of (Acquire s c) l = acquire s l
+change_of (Vacate s c) l = vacate s l
+change_of (Withdraw s m) l = withdraw s l
+change_of (Leave s m) l = leave s l
+change_of (Clear n) l = free
 
 -- the run with one lock changed; past the end nothing is
-abbrev pub changedAt : Change → ℕ → List Lock → List Lock
-changedAt d c ls = set ls c (changeOf d (lockIn ls c))
+abbrev pub changed_at : Change → ℕ → List Lock → List Lock
+changed_at d c ls = set ls c (change_of d (lock_in ls c))
 
 -- the run with k locks changed, and with all
 unfoldable pub swept : List ℕ → Change → ℕ → List Lock → List Lock
 swept logs d zero ls = ls
-swept logs d (suc k) ls = changedAt d (cell_of logs d k) (swept logs d k ls)
+swept logs d (suc k) ls = changed_at d (cell_of logs d k) (swept logs d k ls)
 
-abbrev pub sweptBy : List ℕ → Change → List Lock → List Lock
-sweptBy logs d ls = swept logs d (countOf d) ls
+abbrev pub swept_by : List ℕ → Change → List Lock → List Lock
+swept_by logs d ls = swept logs d (count_of d) ls
 
 -- what changing one lock asks: the session is one of sixteen
 abbrev pub SessionFits : Change → Type 0

@@ -1,9 +1,9 @@
 // A change of the run of lock records, lock by lock: how many locks it changes, which cell's lock is the i-th, and what becomes of it.
 // It touches no run: it reads the logs, and takes a lock by value.
 ghost use Rattle.std.specs.Prelude.{◌≡◌, ◌<◌, ◌≤◌, length};
-ghost use Rattle.model.specs.Buffers.{logIn, cell_at};
+ghost use Rattle.model.specs.Buffers.{log_in, cell_at};
 ghost use Rattle.run_changes.specs.declared.Change.TheVariants.{Leave};
-ghost use Rattle.run_changes.specs.Run.{countOf, cell_of, changeOf, SessionFits, ChangeFits};
+ghost use Rattle.run_changes.specs.Run.{count_of, cell_of, change_of, SessionFits, ChangeFits};
 
 use records::Lock;
 
@@ -22,7 +22,7 @@ pub enum Change {
 
 // How many locks are changed, one after the other.
 pub fn count_of(change: Change) -> usize
-    ensures { result ≡ countOf change }
+    ensures { result ≡ count_of change }
 {
     match change {
         Change::Keep => 0,
@@ -39,7 +39,7 @@ pub fn count_of(change: Change) -> usize
 // The cell of entry i of a session.
 fn entry_cell(logs: &[u32], session: u8, i: usize) -> usize
     requires { (session < 16) × (i < 32) × (length logs.now ≡ 2048) }
-    ensures { result ≡ cell_at (logIn logs.now session) i }
+    ensures { result ≡ cell_at (log_in logs.now session) i }
 {
     log::cell_at(log::of_session(logs, session), i) as usize
 }
@@ -60,7 +60,7 @@ fn unpublished_cell(logs: &[u32], session: u8, m: u8, i: usize) -> usize
 
 // The cell whose lock is changed i-th, from 0.
 pub fn cell_of(logs: &[u32], change: Change, i: usize) -> usize
-    requires { (ChangeFits logs.now change) × (i < countOf change) }
+    requires { (ChangeFits logs.now change) × (i < count_of change) }
     ensures { result ≡ cell_of logs.now change i }
 {
     match change {
@@ -78,7 +78,7 @@ pub fn cell_of(logs: &[u32], change: Change, i: usize) -> usize
 // What becomes of a lock.
 pub fn changed(l: Lock, change: Change) -> Lock
     requires { SessionFits change }
-    ensures { result ≡ changeOf change l }
+    ensures { result ≡ change_of change l }
 {
     match change {
         Change::Keep => l,

@@ -1,8 +1,8 @@
 // What a call does but for the run of lock records: of the run it is told how many locks there are, and one lock by value; it hands back the change to
 // be carried out on the run.
 ghost use Rattle.std.specs.Prelude.{◌≡◌};
-ghost use Rattle.run_changes.specs.Run.{onRun};
-ghost use Rattle.run_turns.specs.Turns.{onlyAnswer, look_of, IsPeekPlan, IsPeekPart, TakesOnRun, WritesOnRun, SetsUpTurn, SetsUpTurnBy, LoadsOnRun};
+ghost use Rattle.run_changes.specs.Run.{on_run};
+ghost use Rattle.run_turns.specs.Turns.{only_answer, look_of, IsPeekPlan, IsPeekPart, TakesOnRun, WritesOnRun, SetsUpTurn, SetsUpTurnBy, LoadsOnRun};
 
 use records::{Answer, Call, Lock, Plan, Reply, Sessions};
 use run_changes::Change;
@@ -16,7 +16,7 @@ pub struct Turn {
 
 // An answer with the records and the run as they were.
 fn only_answer(sessions: Sessions, answer: Answer) -> Turn
-    ensures { result ≡ onlyAnswer sessions answer }
+    ensures { result ≡ only_answer sessions answer }
 {
     let reply = Reply { answer, sessions };
     Turn {
@@ -115,7 +115,7 @@ pub fn look_up(
 
 // A turn's change as one of the run.
 fn on_run(change: records::Change, session: u8, count: u8) -> Change
-    ensures { result ≡ onRun change session count }
+    ensures { result ≡ on_run change session count }
 {
     match change {
         records::Change::Keep => Change::Keep,

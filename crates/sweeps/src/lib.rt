@@ -1,8 +1,8 @@
 // The locks of a log's entries, on three lent slices: rolling back, and sealing (document 01, "The steps").
 ghost use Rattle.std.specs.Prelude.{◌≡◌, ◌+◌, ◌*◌, ◌<◌, ◌≤◌, length, get_or, set};
-ghost use Rattle.model.specs.Readers.{withoutReader};
-ghost use Rattle.model.specs.Buffers.{cell_at, onLock, withdraw};
-ghost use Rattle.contracts.specs.Lent.{locksBefore, locksAfter};
+ghost use Rattle.model.specs.Readers.{without_reader};
+ghost use Rattle.model.specs.Buffers.{cell_at, on_lock, withdraw};
+ghost use Rattle.contracts.specs.Lent.{locks_before, locks_after};
 ghost use Rattle.sweeps.specs.Sweeps.{Swept, DropsReads, DroppedSoFar, NonePublished, marked, mark, RollsBack, DropsAt};
 
 // ---- rolling back
@@ -10,7 +10,7 @@ ghost use Rattle.sweeps.specs.Sweeps.{Swept, DropsReads, DroppedSoFar, NonePubli
 // The session leaves the readers of one cell.
 fn leave_at(readers: &mut [u16], cell: u32, session: u8)
     requires { (session < 16) × (cell < length readers.old) }
-    ensures { readers.new ≡ set readers.old cell (withoutReader session (get_or readers.old cell 0)) }
+    ensures { readers.new ≡ set readers.old cell (without_reader session (get_or readers.old cell 0)) }
 {
     let c = cell as usize;
     let set = readers[c];
@@ -26,7 +26,7 @@ fn withdraw_at(
     session: u8,
 )
     requires { (session < 16) × (cell < length readers.old) × (length claimants.old ≡ length readers.old) × (length exclusives.old ≡ length readers.old) }
-    ensures { locksAfter readers claimants exclusives ≡ onLock cell (withdraw session) (locksBefore readers claimants exclusives) }
+    ensures { locks_after readers claimants exclusives ≡ on_lock cell (withdraw session) (locks_before readers claimants exclusives) }
 {
     leave_at(readers, cell, session);
     let c = cell as usize;

@@ -1,8 +1,8 @@
 // Which cells of one session's log publish: whether any, the lowest, and the lowest two.
 ghost use Rattle.std.specs.Prelude.{◌≡◌, true, ℕ, ◌+◌, ◌*◌, ◌<◌, ◌≤◌, length};
 ghost use Rattle.model.specs.Search.{some?, below};
-ghost use Rattle.model.specs.Buffers.{cell_at, targetIn};
-ghost use Rattle.log.specs.Slots.{found, better, lowestPublishing, targetSlot, firstPublishes, LowestTwo, IsNext};
+ghost use Rattle.model.specs.Buffers.{cell_at, target_in};
+ghost use Rattle.log.specs.Slots.{found, better, lowest_publishing, target_slot, first_publishes, LowestTwo, IsNext};
 
 // The lower of the best cell so far and entry i's, where that is not below from and publishes.
 fn lower(log: &[u32], i: usize, from: u32, best: u32) -> u32
@@ -25,7 +25,7 @@ fn lower(log: &[u32], i: usize, from: u32, best: u32) -> u32
 // The lowest cell not below from and below n of the first count entries that publish, each judged by itself; n where there is none.
 fn lowest_publishing(log: &[u32], count: usize, n: u32, from: u32) -> u32
     requires { 4 * count ≤ length log.now }
-    ensures { result ≡ lowestPublishing log.now n from count }
+    ensures { result ≡ lowest_publishing log.now n from count }
 {
     let mut i = 0;
     let mut best = n;
@@ -43,7 +43,7 @@ fn lowest_publishing(log: &[u32], count: usize, n: u32, from: u32) -> u32
 // A cell is found among the entries that publish by themselves. If its first entry does, that is the one; if not, the search goes on above it.
 pub fn target(log: &[u32], count: usize, n: u32, from: u32) -> usize
     requires { (4 * count ≤ length log.now) × (n ≤ 1024) × (below n (cell_at log.now) count ≡ true) }
-    ensures { found count result ≡ targetSlot log.now count from }
+    ensures { found count result ≡ target_slot log.now count from }
 {
     let mut start = from;
     let slot = loop {
@@ -177,7 +177,7 @@ pub fn next_two(log: &[u32], count: usize, n: u32, from: u32) -> Next
 // Whether any cell not below from publishes: its first entry does.
 pub fn any_publishes(log: &[u32], count: usize, from: u32) -> bool
     requires { 4 * count ≤ length log.now }
-    ensures { result ≡ some? (targetIn log.now count from) }
+    ensures { result ≡ some? (target_in log.now count from) }
 {
     let mut i = 0;
     while i < count {
@@ -192,7 +192,7 @@ pub fn any_publishes(log: &[u32], count: usize, from: u32) -> bool
 // Whether entry i's cell is not below from, and the entry publishes and is the first of its cell.
 fn first_publishes(log: &[u32], i: usize, from: u32) -> bool
     requires { 4 * i + 3 < length log.now }
-    ensures { result ≡ firstPublishes log.now i from }
+    ensures { result ≡ first_publishes log.now i from }
 {
     let cell = log::cell_at(log, i);
     if (from <= cell) & log::publishes(log, i) {

@@ -6,53 +6,53 @@ use mathlib.Core.List.{List, [], ◌∷◌, ◌++◌, reverse, reverse-cons}
 use borrow.Author.Tests.{le-leb, eq-eqb}
 use Rattle.model.specs.Buffers.{Store, ours, fresh}
 use Rattle.model.specs.Caps.{WithinCaps}
-use Rattle.model.specs.Step.{step, setUp}
+use Rattle.model.specs.Step.{step, set_up}
 use Rattle.model.specs.CommitOrder.{InCommitOrder}
-use Rattle.model.specs.History.{oneCall, run, events, history}
+use Rattle.model.specs.History.{one_call, run, events, history}
 use Rattle.model.specs.InTheWay.{EachWaitsForThose}
 use Rattle.model.specs.Isolation.{Demand3}
-use Rattle.model.proofs.Caps.{limits-step, within-caps}
-use Rattle.model.proofs.CommitOrder.{in-commit-order}
-use Rattle.model.proofs.Demand3.{demand3, set-up-fresh}
-use Rattle.model.proofs.Firsts.{run-first}
-use Rattle.model.proofs.Waiting.{waits-for-those}
-use Rattle.items.specs.Items.{Item, cell, asked, refused, itemsAt, later, calls}
-use Rattle.replay_text.specs.Lines.{answerLines, cellLines, endLine}
-use Rattle.replay_text.specs.Transcript.{given, callsText, afterSetUp, setUpText, itemsText, transcript, givenBy, calls_of, Accepted}
+use Rattle.model.proofs.Caps.{limits_step, within_caps}
+use Rattle.model.proofs.CommitOrder.{in_commit_order}
+use Rattle.model.proofs.Demand3.{demand3, set_up_fresh}
+use Rattle.model.proofs.Firsts.{run_first}
+use Rattle.model.proofs.Waiting.{waits_for_those}
+use Rattle.items.specs.Items.{Item, cell, asked, refused, items_at, later, calls}
+use Rattle.replay_text.specs.Lines.{answer_lines, cell_lines, end_line}
+use Rattle.replay_text.specs.Transcript.{given, calls_text, after_set_up, set_up_text, items_text, transcript, given_by, calls_of, Accepted}
 
 -- a line for each event, in the order of the calls, then what ends them, then the values that the calls leave
-pub printed-is-events : (input : List ℕ) → Accepted input
+pub printed_is_events : (input : List ℕ) → Accepted input
     → transcript input
-    ≡ answerLines 1 (reverse (events (setUp (givenBy input)) (reverse (calls_of input))))
-    ++ (endLine (later (itemsAt input 0)) ++ cellLines 0 (run (setUp (givenBy input)) (reverse (calls_of input))).lent.values)
-unfolding transcript itemsText setUpText afterSetUp callsText
-printed-is-events input a = rw (le-leb _ _ a.short, eq-eqb _ _ a.setUp)
+    ≡ answer_lines 1 (reverse (events (set_up (given_by input)) (reverse (calls_of input))))
+    ++ (end_line (later (items_at input 0)) ++ cell_lines 0 (run (set_up (given_by input)) (reverse (calls_of input))).lent.values)
+unfolding transcript items_text set_up_text after_set_up calls_text
+printed_is_events input a = rw (le-leb _ _ a.short, eq-eqb _ _ a.set_up)
 
 -- of that store and those calls demand 3 holds
-pub printed-isolated : (input : List ℕ) → Accepted input → Demand3 [] (setUp (givenBy input)) (calls_of input)
-printed-isolated input a = demand3 (givenBy input) a.setUp (calls_of input)
+pub printed_isolated : (input : List ℕ) → Accepted input → Demand3 [] (set_up (given_by input)) (calls_of input)
+printed_isolated input a = demand3 (given_by input) a.set_up (calls_of input)
 
 -- and so does the order theorem, of what they tell and of the values that they leave
-pub printed-in-order : (input : List ℕ) → Accepted input → let φ = setUp (givenBy input) in let ks = reverse (calls_of input) in
+pub printed_in_order : (input : List ℕ) → Accepted input → let φ = set_up (given_by input) in let ks = reverse (calls_of input) in
     InCommitOrder φ.lent.values (history [] φ ks) (run φ ks)
-printed-in-order input a = in-commit-order (givenBy input) a.setUp (calls_of input)
+printed_in_order input a = in_commit_order (given_by input) a.set_up (calls_of input)
 
 -- no call of an input changes the limits
-limits-kept : (items : List Item) (σ : Store) → (run σ (reverse (calls items))).limits ≡ σ.limits
+limits_kept : (items : List Item) (σ : Store) → (run σ (reverse (calls items))).limits ≡ σ.limits
 unfolding calls
-limits-kept [] σ = unfold run in refl
-limits-kept (cell place class value ∷ items) σ = unfold run in refl
-limits-kept (asked k ∷ items) σ = rw (reverse-cons (oneCall k) (calls items), run-first σ (oneCall k) (reverse (calls items))) (limits-kept items (step k σ) ∙ limits-step k σ)
-limits-kept (refused place number ∷ items) σ = unfold run in refl
+limits_kept [] σ = unfold run in refl
+limits_kept (cell place class value ∷ items) σ = unfold run in refl
+limits_kept (asked k ∷ items) σ = rw (reverse-cons (one_call k) (calls items), run_first σ (one_call k) (reverse (calls items))) (limits_kept items (step k σ) ∙ limits_step k σ)
+limits_kept (refused place number ∷ items) σ = unfold run in refl
 
 -- so the replay keeps our caps, and by these the theorem on caps holds of it
-pub printed-by-ours : (input : List ℕ) → Accepted input → (run (setUp (givenBy input)) (reverse (calls_of input))).limits ≡ ours
+pub printed_by_ours : (input : List ℕ) → Accepted input → (run (set_up (given_by input)) (reverse (calls_of input))).limits ≡ ours
 unfolding given fresh
-printed-by-ours input a = limits-kept (later (itemsAt input 0)) (setUp (givenBy input)) ∙ ap (λ (σ : Store). σ.limits) (set-up-fresh (givenBy input) a.setUp)
+printed_by_ours input a = limits_kept (later (items_at input 0)) (set_up (given_by input)) ∙ ap (λ (σ : Store). σ.limits) (set_up_fresh (given_by input) a.set_up)
 
-pub printed-within-caps : (input : List ℕ) → Accepted input → WithinCaps (setUp (givenBy input)) (reverse (calls_of input))
-printed-within-caps input a = within-caps (givenBy input) a.setUp (calls_of input)
+pub printed_within_caps : (input : List ℕ) → Accepted input → WithinCaps (set_up (given_by input)) (reverse (calls_of input))
+printed_within_caps input a = within_caps (given_by input) a.set_up (calls_of input)
 
 -- and the number printed after 104 is that of the sessions in the way
-pub printed-waits : (input : List ℕ) → Accepted input → EachWaitsForThose (setUp (givenBy input)) (reverse (calls_of input))
-printed-waits input a = waits-for-those (givenBy input) a.setUp (calls_of input)
+pub printed_waits : (input : List ℕ) → Accepted input → EachWaitsForThose (set_up (given_by input)) (reverse (calls_of input))
+printed_waits input a = waits_for_those (given_by input) a.set_up (calls_of input)

@@ -9,73 +9,73 @@ use lib.Seq.{sets, sets-eq, length-take-le}
 use borrow.Author.Tests.{le-leb, lt-leb, eq-eqb, ne_eqb}
 use Rattle.records.specs.declared.Answer.{Answer}
 use Rattle.records.specs.declared.Sessions.{Sessions}
-use Rattle.model.specs.Buffers.{Store, ours, size, lengthsFit, fresh}
+use Rattle.model.specs.Buffers.{Store, ours, size, lengths_fit, fresh}
 use Rattle.model.specs.Effects.{number}
-use Rattle.model.specs.Step.{Outcome, outcome, setUpRefusal, setUpAnswer, setUp, setUpEffect}
-use Rattle.model.proofs.Demand3.{set-up-fresh}
+use Rattle.model.specs.Step.{Outcome, outcome, set_up_refusal, set_up_answer, set_up, set_up_effect}
+use Rattle.model.proofs.Demand3.{set_up_fresh}
 use Rattle.model.proofs.Tools.{test}
 use Rattle.contracts.specs.Lent.{store_of}
 use Rattle.transcript.specs.declared.Printed.{Printed}
 use Rattle.transcript.specs.declared.Printed.TheVariants.{Bytes, Short}
 use Rattle.items.specs.Items.{Item}
-use Rattle.replay_text.specs.Lines.{setUpLine}
+use Rattle.replay_text.specs.Lines.{set_up_line}
 use Rattle.transcript.specs.Replay.{Replayed, replayed, replaying}
 use Rattle.lines.specs.Output.{Out, out, put}
 use Rattle.transcript.specs.Output.{Fitted}
-use Rattle.replay_text.specs.Transcript.{given, callsText, afterSetUp, setUpText, transcript}
+use Rattle.replay_text.specs.Transcript.{given, calls_text, after_set_up, set_up_text, transcript}
 use Rattle.lines.proofs.Puts.{ends_at}
 
 -- ---- set-up on lent buffers
 
 module _ (vs ks readers claimants exclusives logs : List ℕ) (ss : Sessions) (f : Fitted vs ks readers claimants exclusives logs) where
-  same-lengths : lengthsFit (store_of ours vs ks readers claimants exclusives logs ss).lent ≡ lengthsFit (given vs ks).lent
-  unfolding lengthsFit size given
-  same-lengths = simp (f.read, f.claimed, f.marked, f.logged, length-replicate)
+  same_lengths : lengths_fit (store_of ours vs ks readers claimants exclusives logs ss).lent ≡ lengths_fit (given vs ks).lent
+  unfolding lengths_fit size given
+  same_lengths = simp (f.read, f.claimed, f.marked, f.logged, length-replicate)
 
-  same_answer : setUpAnswer (store_of ours vs ks readers claimants exclusives logs ss) ≡ setUpAnswer (given vs ks)
-  unfolding setUpAnswer setUpRefusal given
-  same_answer = rw same-lengths
+  same_answer : set_up_answer (store_of ours vs ks readers claimants exclusives logs ss) ≡ set_up_answer (given vs ks)
+  unfolding set_up_answer set_up_refusal given
+  same_answer = rw same_lengths
 
-  same-fresh : fresh ours (store_of ours vs ks readers claimants exclusives logs ss).lent ≡ fresh ours (given vs ks).lent
+  same_fresh : fresh ours (store_of ours vs ks readers claimants exclusives logs ss).lent ≡ fresh ours (given vs ks).lent
   unfolding fresh size given
-  same-fresh = refl
+  same_fresh = refl
 
-  module _ {a : Answer} {φ : Store} (e : outcome a φ ≡ setUpEffect (store_of ours vs ks readers claimants exclusives logs ss)) where
-    said : a ≡ setUpAnswer (given vs ks)
-    unfolding setUpEffect
+  module _ {a : Answer} {φ : Store} (e : outcome a φ ≡ set_up_effect (store_of ours vs ks readers claimants exclusives logs ss)) where
+    said : a ≡ set_up_answer (given vs ks)
+    unfolding set_up_effect
     said = ap (λ (r : Outcome). r.answer) e ∙ same_answer
 
-    left : number a ≡ 100 → φ ≡ setUp (given vs ks)
-    unfolding setUpEffect given setUp
+    left : number a ≡ 100 → φ ≡ set_up (given vs ks)
+    unfolding set_up_effect given set_up
     left h =
         let mine = ap (λ (r : Outcome). r.answer) e in
         ap (λ (r : Outcome). r.store) e
-        ∙ set-up-fresh (store_of ours vs ks readers claimants exclusives logs ss) (sym (ap number mine) ∙ h)
-        ∙ same-fresh
-        ∙ sym (set-up-fresh (given vs ks) (sym (ap number said) ∙ h))
+        ∙ set_up_fresh (store_of ours vs ks readers claimants exclusives logs ss) (sym (ap number mine) ∙ h)
+        ∙ same_fresh
+        ∙ sym (set_up_fresh (given vs ks) (sym (ap number said) ∙ h))
 
     -- a refused set-up is all that is printed
-    pub refused-text : (n : ℕ) (items : List Item) → n ≡ number a → (n ≡ 100 → ⊥) → setUpLine n ≡ setUpText (given vs ks) items
-    unfolding setUpText afterSetUp
-    refused-text n items k h =
-        let same : n ≡ number (setUpAnswer (given vs ks)) = k ∙ ap number said in
+    pub refused_text : (n : ℕ) (items : List Item) → n ≡ number a → (n ≡ 100 → ⊥) → set_up_line n ≡ set_up_text (given vs ks) items
+    unfolding set_up_text after_set_up
+    refused_text n items k h =
+        let same : n ≡ number (set_up_answer (given vs ks)) = k ∙ ap number said in
         rw (← same, ne_eqb n 100 h)
 
     -- an accepted one is followed by the calls
-    pub accepted-text : (n : ℕ) (items : List Item) → n ≡ number a → n ≡ 100 → callsText 1 φ items ≡ setUpText (given vs ks) items
-    unfolding setUpText afterSetUp
-    accepted-text n items k h =
-        let done : number (setUpAnswer (given vs ks)) ≡ 100 = sym (ap number said) ∙ sym k ∙ h in
-        ap (λ (x : Store). callsText 1 x items) (left (sym k ∙ h)) ∙ rw (eq-eqb _ _ done)
+    pub accepted_text : (n : ℕ) (items : List Item) → n ≡ number a → n ≡ 100 → calls_text 1 φ items ≡ set_up_text (given vs ks) items
+    unfolding set_up_text after_set_up
+    accepted_text n items k h =
+        let done : number (set_up_answer (given vs ks)) ≡ 100 = sym (ap number said) ∙ sym k ∙ h in
+        ap (λ (x : Store). calls_text 1 x items) (left (sym k ∙ h)) ∙ rw (eq-eqb _ _ done)
 
 -- ---- what is lent
 
 -- the cells that were read
-pub taken-few : (vs : List ℕ) (n : ℕ) → n ≤ 1024 → length vs ≡ 1024 → length (take n vs) ≤ 1024
-taken-few vs n few v = omega (arith, length-take-le n vs (omega arith))
+pub taken_few : (vs : List ℕ) (n : ℕ) → n ≤ 1024 → length vs ≡ 1024 → length (take n vs) ≤ 1024
+taken_few vs n few v = omega (arith, length-take-le n vs (omega arith))
 
-pub taken-both : (vs ks : List ℕ) (n : ℕ) → n ≤ 1024 → length vs ≡ 1024 → length ks ≡ 1024 → length (take n ks) ≡ length (take n vs)
-taken-both vs ks n few v k = length-take-le n ks (omega arith) ∙ sym (length-take-le n vs (omega arith))
+pub taken_both : (vs ks : List ℕ) (n : ℕ) → n ≤ 1024 → length vs ≡ 1024 → length ks ≡ 1024 → length (take n ks) ≡ length (take n vs)
+taken_both vs ks n few v k = length-take-le n ks (omega arith) ∙ sym (length-take-le n vs (omega arith))
 
 -- what set-up is handed
 pub fitted : (vs ks readers claimants exclusives logs : List ℕ) → length vs ≤ 1024 → length ks ≡ length vs → length readers ≡ 1024 → length claimants ≡ 1024 → length exclusives ≡ 1024 → length logs ≡ 2048
@@ -93,9 +93,9 @@ fitted vs ks readers claimants exclusives logs few classed r c e l =
 -- ---- the whole answer
 
 -- the text at the front of an output that is long enough
-pub printed-text : (input o : List ℕ) {a : ℕ} {p : List ℕ} → 409600 ≤ length o → a ≤ 409600 → out a p ≡ put o 0 (transcript input) → replayed (Bytes a) p ≡ replaying input o
+pub printed_text : (input o : List ℕ) {a : ℕ} {p : List ℕ} → 409600 ≤ length o → a ≤ 409600 → out a p ≡ put o 0 (transcript input) → replayed (Bytes a) p ≡ replaying input o
 unfolding put replaying
-printed-text input o {a} {p} h b e =
+printed_text input o {a} {p} h b e =
     let none : 0 + length (transcript input) ≡ length (transcript input) = omega arith in
     let place : a ≡ length (transcript input) = ends_at o 0 (transcript input) e ∙ none in
     let text : p ≡ sets o 0 (transcript input) = ap (λ (x : Out). x.output) e in

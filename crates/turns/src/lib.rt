@@ -1,8 +1,8 @@
 // What every form of the locks shares above the calls: a turn on the logs of all sessions, of which the session's is lent on, and a record taken out of the sixteen and
 // put back. The laws by which a form meets its contracts stand in proofs/.
 ghost use Rattle.std.specs.Prelude.{◌≡◌, ◌<◌, ◌%◌, length};
-ghost use Rattle.model.specs.Buffers.{free, sessionAt, withSession, logIn};
-ghost use Rattle.model.specs.Plans.{readPlan, holdPlan};
+ghost use Rattle.model.specs.Buffers.{free, session_at, with_session, log_in};
+ghost use Rattle.model.specs.Plans.{read_plan, hold_plan};
 ghost use Rattle.turns.specs.InLogs.{TakesIn, TakesWriteIn};
 ghost use Rattle.calls.specs.Pieces.{WriteDecided};
 
@@ -20,8 +20,8 @@ pub fn read(
     cell: u32,
     p: Plan,
 ) -> Turn
-    requires { (session < 16) × (length logs.old ≡ 2048) × (p ≡ readPlan (length values.now) (logIn logs.old session) x free cell) }
-    ensures { TakesIn session (readPlan (length values.now) (logIn logs.old session) x l cell) values logs x result }
+    requires { (session < 16) × (length logs.old ≡ 2048) × (p ≡ read_plan (length values.now) (log_in logs.old session) x free cell) }
+    ensures { TakesIn session (read_plan (length values.now) (log_in logs.old session) x l cell) values logs x result }
 {
     let a = 128 * (session as usize);
     let e = a + 128;
@@ -38,8 +38,8 @@ pub fn hold(
     cell: u32,
     p: Plan,
 ) -> Turn
-    requires { (session < 16) × (length logs.old ≡ 2048) × (p ≡ holdPlan (length values.now) (logIn logs.old session) x free cell) }
-    ensures { TakesIn session (holdPlan (length values.now) (logIn logs.old session) x l cell) values logs x result }
+    requires { (session < 16) × (length logs.old ≡ 2048) × (p ≡ hold_plan (length values.now) (log_in logs.old session) x free cell) }
+    ensures { TakesIn session (hold_plan (length values.now) (log_in logs.old session) x l cell) values logs x result }
 {
     let a = 128 * (session as usize);
     let e = a + 128;
@@ -57,7 +57,7 @@ pub fn write(
     written: u32,
     p: Plan,
 ) -> Turn
-    requires { (session < 16) × (length logs.old ≡ 2048) × (WriteDecided (length values.now) (logIn logs.old session) x cell written p) }
+    requires { (session < 16) × (length logs.old ≡ 2048) × (WriteDecided (length values.now) (log_in logs.old session) x cell written p) }
     ensures { TakesWriteIn session values logs x l cell written p result }
 {
     let a = 128 * (session as usize);
@@ -69,14 +69,14 @@ pub fn write(
 
 // The record of a session, which is taken modulo 16.
 pub fn record_of(sessions: Sessions, session: u8) -> Session
-    ensures { result ≡ sessionAt sessions (session % 16) }
+    ensures { result ≡ session_at sessions (session % 16) }
 {
     sessions.records[(session % 16) as usize]
 }
 
 // A turn's answer, with its record put back in its place.
 pub fn put_back(t: Turn, mut sessions: Sessions, session: u8) -> Reply
-    ensures { result ≡ record { answer = t.answer; sessions = withSession sessions (session % 16) t.session } }
+    ensures { result ≡ record { answer = t.answer; sessions = with_session sessions (session % 16) t.session } }
 {
     let answer = t.answer;
     let x = t.session;

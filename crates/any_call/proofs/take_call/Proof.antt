@@ -1,6 +1,6 @@
 -- One arm for each call, whose plan it is.
 use mathlib.Core.Path.{◌∙◌}
-use Rattle.model.specs.Buffers.{ourCaps}
+use Rattle.model.specs.Buffers.{our_caps}
 use Rattle.model.specs.Plans.{plan}
 use Rattle.any_call.proofs.AnyCall.{advances}
 use borrow.Author.Rules.{rules}
@@ -8,7 +8,7 @@ use Rattle.any_call.proofs.take_call.Statement.{statement}
 use Rattle.any_call.proofs.take_call.Tie as tie
 
 take-write-requires : tie.Need-take-write-requires
-take-write-requires c κs = let s = c.before.before.before.before.before.before.before.before.before.before in (s.requires.0, record { caps = ourCaps; classes = s.args.classes.now; is = c.before.before.write-plan.ensures ∙ rw s.requires.2 })
+take-write-requires c κs = let s = c.before.before.before.before.before.before.before.before.before.before in (s.requires.0, record { caps = our_caps; classes = s.args.classes.now; is = c.before.before.write-plan.ensures ∙ rw s.requires.2 })
 
 take-advance-requires : tie.Need-take-advance-requires
 take-advance-requires c κs = let s = c.before.before.before.before.before.before.before.before.before.before in (s.requires.0, s.requires.1, rw c.before.before.before.before.before.call3.given.1 at s.requires.3, c.before.before.due-slot.ensures)
@@ -23,7 +23,7 @@ returns-2 c = rw c.before.before.before.before.before.before.before.before.call.
 
 returns-3 : tie.Need-returns-3
 unfolding plan
-returns-3 c = rw c.before.before.before.before.before.before.before.before.call2.given.1 (let s = c.before.before.before.before.before.before.before.before.before.before.before.before.before in c.before.before.take-write.ensures ourCaps s.args.classes.now (c.before.before.before.before.before.write-plan.ensures ∙ rw s.requires.2))
+returns-3 c = rw c.before.before.before.before.before.before.before.before.call2.given.1 (let s = c.before.before.before.before.before.before.before.before.before.before.before.before.before in c.before.before.take-write.ensures our_caps s.args.classes.now (c.before.before.before.before.before.write-plan.ensures ∙ rw s.requires.2))
 
 returns-4 : tie.Need-returns-4
 unfolding plan

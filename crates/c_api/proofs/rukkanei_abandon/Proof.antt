@@ -1,12 +1,12 @@
 -- `rukkanei_abandon` meets its contract: the store's `abandon`, its reply in numbers.
 use Rattle.model.specs.Buffers.{Buffers}
-use Rattle.contracts.specs.Lent.{buffersOf}
+use Rattle.contracts.specs.Lent.{buffers_of}
 use Rattle.c_api.proofs.Laws.{told}
 use Rattle.c_api.proofs.rukkanei_abandon.Statement.{statement}
 use Rattle.c_api.proofs.rukkanei_abandon.Tie as tie
 
 abbrev lent : tie.Start → Buffers
-lent c = buffersOf c.args.values.now c.args.classes.now c.args.readers.now c.args.claimants.now c.args.exclusives.now c.args.logs.now
+lent c = buffers_of c.args.values.now c.args.classes.now c.args.readers.now c.args.claimants.now c.args.exclusives.now c.args.logs.now
 
 abandon-requires : tie.Need-abandon-requires
 abandon-requires c κs = tt
@@ -24,7 +24,7 @@ same-length-3 : tie.Need-same-length-3
 same-length-3 c = c.before.before.before.before.before.before.before.abandon.auto.1.1.1.1.1.0
 
 returns : tie.Need-returns
-returns c = told _ (lent c.before.before.before.before.before.before.before.before.before.before.before.before.before.before.before.before.before) _ _ _ _ c.in-numbers.ensures c.before.before.before.before.before.before.before.abandon.ensures
+returns c = told _ (lent c.before.before.before.before.before.before.before.before.before.before.before.before.before.before.before.before.before) _ _ _ _ c.in_numbers_lem.ensures c.before.before.before.before.before.before.before.abandon.ensures
 
 pub rukkanei-abandon-spec : {M : Type 1} → statement M
 rukkanei-abandon-spec =

@@ -1,12 +1,12 @@
 -- `rukkanei_advance` meets its contract: the store's `advance`, its reply in numbers.
 use Rattle.model.specs.Buffers.{Buffers}
-use Rattle.contracts.specs.Lent.{buffersOf}
+use Rattle.contracts.specs.Lent.{buffers_of}
 use Rattle.c_api.proofs.Laws.{told}
 use Rattle.c_api.proofs.rukkanei_advance.Statement.{statement}
 use Rattle.c_api.proofs.rukkanei_advance.Tie as tie
 
 abbrev lent : tie.Start → Buffers
-lent c = buffersOf c.args.values.now c.args.classes.now c.args.readers.now c.args.claimants.now c.args.exclusives.now c.args.logs.now
+lent c = buffers_of c.args.values.now c.args.classes.now c.args.readers.now c.args.claimants.now c.args.exclusives.now c.args.logs.now
 
 advance-requires : tie.Need-advance-requires
 advance-requires c κs = tt
@@ -27,7 +27,7 @@ same-length-4 : tie.Need-same-length-4
 same-length-4 c = c.before.before.before.before.before.before.before.before.before.advance.auto.1.1.1.1.1.0
 
 returns : tie.Need-returns
-returns c = told _ (lent c.before.before.before.before.before.before.before.before.before.before.before.before.before.before.before.before.before.before.before.before) _ _ _ _ c.in-numbers.ensures c.before.before.before.before.before.before.before.before.before.advance.ensures
+returns c = told _ (lent c.before.before.before.before.before.before.before.before.before.before.before.before.before.before.before.before.before.before.before.before) _ _ _ _ c.in_numbers_lem.ensures c.before.before.before.before.before.before.before.before.before.advance.ensures
 
 pub rukkanei-advance-spec : {M : Type 1} → statement M
 rukkanei-advance-spec =

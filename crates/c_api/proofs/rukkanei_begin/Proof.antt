@@ -1,13 +1,13 @@
 -- `rukkanei_begin` meets its contract: the store's `begin`, its reply in numbers.
 use Rattle.model.specs.Buffers.{Buffers}
-use Rattle.contracts.specs.Lent.{buffersOf}
+use Rattle.contracts.specs.Lent.{buffers_of}
 use Rattle.c_api.proofs.Answers.{begin-gives}
 use Rattle.c_api.proofs.Laws.{told}
 use Rattle.c_api.proofs.rukkanei_begin.Statement.{statement}
 use Rattle.c_api.proofs.rukkanei_begin.Tie as tie
 
 abbrev lent : tie.Start → Buffers
-lent c = buffersOf c.args.values.now c.args.classes.now c.args.readers.now c.args.claimants.now c.args.exclusives.now c.args.logs.now
+lent c = buffers_of c.args.values.now c.args.classes.now c.args.readers.now c.args.claimants.now c.args.exclusives.now c.args.logs.now
 
 begin-requires : tie.Need-begin-requires
 begin-requires c κs = tt

@@ -1,13 +1,13 @@
 -- `rukkanei_seal` meets its contract: the store's `seal`, its reply in numbers.
 use Rattle.model.specs.Buffers.{Buffers}
-use Rattle.contracts.specs.Lent.{buffersOf}
+use Rattle.contracts.specs.Lent.{buffers_of}
 use Rattle.c_api.proofs.Answers.{seal-gives}
 use Rattle.c_api.proofs.Laws.{told}
 use Rattle.c_api.proofs.rukkanei_seal.Statement.{statement}
 use Rattle.c_api.proofs.rukkanei_seal.Tie as tie
 
 abbrev lent : tie.Start → Buffers
-lent c = buffersOf c.args.values.now c.args.classes.now c.args.readers.now c.args.claimants.now c.args.exclusives.now c.args.logs.now
+lent c = buffers_of c.args.values.now c.args.classes.now c.args.readers.now c.args.claimants.now c.args.exclusives.now c.args.logs.now
 
 seal-requires : tie.Need-seal-requires
 seal-requires c κs = tt

@@ -1,5 +1,5 @@
 -- `rukkanei_set_up` meets its contract: the store's `set_up`, its answer in numbers.
-use Rattle.c_api.proofs.Laws.{in-numbers}
+use Rattle.c_api.proofs.Laws.{in_numbers_lem}
 use borrow.Author.Rules.{rules}
 use Rattle.c_api.proofs.rukkanei_set_up.Statement.{statement}
 use Rattle.c_api.proofs.rukkanei_set_up.Tie as tie
@@ -8,19 +8,19 @@ set-up-requires : tie.Need-set-up-requires
 set-up-requires c κs = tt
 
 same_length : tie.Need-same-length
-same_length c = c.before.before.before.before.before.before.before.before.before.before.before.set-up.auto.1.1.1.0
+same_length c = c.before.before.before.before.before.before.before.before.before.before.before.set_up_lem.auto.1.1.1.0
 
 same-length-2 : tie.Need-same-length-2
-same-length-2 c = c.before.before.before.before.before.before.before.before.before.before.before.set-up.auto.1.1.1.1.0
+same-length-2 c = c.before.before.before.before.before.before.before.before.before.before.before.set_up_lem.auto.1.1.1.1.0
 
 same-length-3 : tie.Need-same-length-3
-same-length-3 c = c.before.before.before.before.before.before.before.before.before.before.before.set-up.auto.1.1.1.1.1.0
+same-length-3 c = c.before.before.before.before.before.before.before.before.before.before.before.set_up_lem.auto.1.1.1.1.1.0
 
 same-length-4 : tie.Need-same-length-4
-same-length-4 c = c.before.before.before.before.before.before.before.before.before.before.before.set-up.auto.1.1.1.1.1.1.0
+same-length-4 c = c.before.before.before.before.before.before.before.before.before.before.before.set_up_lem.auto.1.1.1.1.1.1.0
 
 returns : tie.Need-returns
-returns c = in-numbers _ _ _ _ _ c.before.before.before.before.before.before.before.before.before.before.before.set-up.ensures c.before.number.ensures c.value.ensures
+returns c = in_numbers_lem _ _ _ _ _ c.before.before.before.before.before.before.before.before.before.before.before.set_up_lem.ensures c.before.number.ensures c.value.ensures
 
 pub rukkanei-set-up-spec : {M : Type 1} → statement M
 rukkanei-set-up-spec =

@@ -1,5 +1,5 @@
 -- `rukkanei_set_up_with_caps` meets its contract: the store's `set_up_with_caps`, its answer in numbers.
-use Rattle.c_api.proofs.Laws.{in-numbers}
+use Rattle.c_api.proofs.Laws.{in_numbers_lem}
 use borrow.Author.Rules.{rules}
 use Rattle.c_api.proofs.rukkanei_set_up_with_caps.Statement.{statement}
 use Rattle.c_api.proofs.rukkanei_set_up_with_caps.Tie as tie
@@ -20,7 +20,7 @@ same-length-4 : tie.Need-same-length-4
 same-length-4 c = c.before.before.before.before.before.before.before.before.before.before.before.set-up-with-caps.auto.1.1.1.1.1.1.0
 
 returns : tie.Need-returns
-returns c = in-numbers _ _ _ _ _ c.before.before.before.before.before.before.before.before.before.before.before.set-up-with-caps.ensures c.before.number.ensures c.value.ensures
+returns c = in_numbers_lem _ _ _ _ _ c.before.before.before.before.before.before.before.before.before.before.before.set-up-with-caps.ensures c.before.number.ensures c.value.ensures
 
 pub rukkanei-set-up-with-caps-spec : {M : Type 1} → statement M
 rukkanei-set-up-with-caps-spec =

@@ -4,7 +4,7 @@ use mathlib.Core.Path.{refl, sym, ◌∙◌, ◌≡◌}
 use native.Mathlib.Omega.{arith}
 use borrow.Author.Rules.{rules}
 use lib.ListN.{length-set, length, take}
-use Rattle.caps.proofs.Caps.{copy-on, copy-end}
+use Rattle.caps.proofs.Caps.{copy_on, copy_end}
 use Rattle.caps.proofs.put_caps.Statement.{statement}
 use Rattle.caps.proofs.put_caps.Tie as tie
 
@@ -24,13 +24,13 @@ loop-again : tie.Need-loop-preserved invariant-loop decreases-loop
 loop-again c =
     let v = c.before.before.loop.invariant in
     let h = c.before.loop-test.true in
-    (omega (arith, h), simp length-set v.1, copy-on _ _ _ v.1 v.2 h)
+    (omega (arith, h), simp length-set v.1, copy_on _ _ _ v.1 v.2 h)
 
 same_length : tie.Need-same-length invariant-loop decreases-loop
 same_length c = c.before.loop.invariant.1 ∙ sym c.before.before.requires
 
 returns : tie.Need-returns invariant-loop decreases-loop
-returns c = let v = c.before.loop.invariant in copy-end _ _ _ v.1 v.2 c.loop-test.false
+returns c = let v = c.before.loop.invariant in copy_end _ _ _ v.1 v.2 c.loop-test.false
 
 pub put-caps-spec : {M : Type 1} → statement M
 put-caps-spec =

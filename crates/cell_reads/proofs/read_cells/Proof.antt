@@ -3,9 +3,9 @@ use Prim.Native.Nat.{◌≤◌, ◌-◌}
 use native.Mathlib.Omega.{arith}
 use mathlib.Core.Path.{◌≡◌, refl, sym, ◌∙◌}
 use lib.ListN.{length, drop, length-set}
-use Rattle.cell_reads.specs.Cells.{Fits, Covers, readCells}
+use Rattle.cell_reads.specs.Cells.{Fits, Covers, read_cells}
 use Rattle.cell_reads.proofs.Marks.{below_less}
-use Rattle.cell_reads.proofs.Ways.{fits_after, reads_end, reads-stop, reads-go-on}
+use Rattle.cell_reads.proofs.Ways.{fits_after, reads_end, reads_stop, reads_go_on}
 use borrow.Author.Rules.{rules}
 use Rattle.cell_reads.proofs.read_cells.Statement.{statement}
 use Rattle.cell_reads.proofs.read_cells.Tie as tie
@@ -14,7 +14,7 @@ abbrev invariant-loop : tie.invariant-loop
 invariant-loop values readers₀ claimants log₀ count session cells target₀ entered₀ entries₀ i₀ readers log target entered entries i =
     (i ≤ length cells) × (length readers ≡ length readers₀) × (length log ≡ length log₀) × (length target ≡ length target₀)
     × Fits session (length values) (length readers) (length claimants) log entries × Covers entered log entries
-    × (readCells values claimants session 0 cells target₀ readers₀ log₀ count ≡ readCells values claimants session i (drop i cells) target readers log entries)
+    × (read_cells values claimants session 0 cells target₀ readers₀ log₀ count ≡ read_cells values claimants session i (drop i cells) target readers log entries)
 
 abbrev decreases-loop : tie.decreases-loop
 decreases-loop values readers₀ claimants log₀ count session cells target₀ entered₀ entries₀ i₀ readers log target entered entries i = length cells - i
@@ -41,7 +41,7 @@ same-length-3 : tie.Need-same-length-3 invariant-loop decreases-loop
 same-length-3 c = c.before.before.before.before.before.before.before.before.before.before.before.loop.invariant.3
 
 returns : tie.Need-returns invariant-loop decreases-loop
-returns c = reads-stop _ _ _ _ _ _ _ _ _ c.before.before.before.before.before.before.before.before.before.before.loop-test.true _ _ _ _ _ c.before.before.before.before.before.read_cell.ensures.0 c.if1.true ∙ sym c.before.before.before.before.before.before.before.before.before.before.before.loop.invariant.6
+returns c = reads_stop _ _ _ _ _ _ _ _ _ c.before.before.before.before.before.before.before.before.before.before.loop-test.true _ _ _ _ _ c.before.before.before.before.before.read_cell.ensures.0 c.if1.true ∙ sym c.before.before.before.before.before.before.before.before.before.before.before.loop.invariant.6
 
 mul-read-cell : tie.Need-overflow-mul-read-cell invariant-loop decreases-loop
 mul-read-cell c = omega (arith, c.before.before.before.loop-test.true, c.before.before.before.before.before.before.before.before.before.before.before.before.before.before.requires.1)
@@ -66,7 +66,7 @@ loop-again c = (
   rw length-set c.before.before.before.before.before.before.before.before.before.before.before.loop.invariant.3,
   fits_after _ _ _ _ _ _ c.before.before.before.before.before.before.before.before.before.before.before.loop.invariant.4 _ _ _ _ _ _ c.before.before.before.before.before.read_cell.ensures.0,
   c.before.before.before.before.before.read_cell.ensures.1,
-  c.before.before.before.before.before.before.before.before.before.before.before.loop.invariant.6 ∙ reads-go-on _ _ _ _ _ _ _ _ _ c.before.before.before.before.before.before.before.before.before.before.loop-test.true _ _ _ _ _ c.before.before.before.before.before.read_cell.ensures.0 c.if1.false,
+  c.before.before.before.before.before.before.before.before.before.before.before.loop.invariant.6 ∙ reads_go_on _ _ _ _ _ _ _ _ _ c.before.before.before.before.before.before.before.before.before.before.loop-test.true _ _ _ _ _ c.before.before.before.before.before.read_cell.ensures.0 c.if1.false,
 )
 
 same-length-4 : tie.Need-same-length-4 invariant-loop decreases-loop

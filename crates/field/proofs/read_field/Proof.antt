@@ -7,16 +7,16 @@ use native.Mathlib.Omega.{arith}
 use Rattle.field.specs.declared.Call.{Call}
 use Rattle.field.specs.declared.Reading.TheVariants.{Field}
 use Rattle.field.proofs.Rows.{proper}
-use Rattle.field.proofs.Readings.{at-end, short-head, unknown, other_length, short-body, accepted}
+use Rattle.field.proofs.Readings.{at_end, short_head, unknown, other_length, short_body, accepted}
 use borrow.Author.Rules.{rules}
 use Rattle.field.proofs.read_field.Statement.{statement}
 use Rattle.field.proofs.read_field.Tie as tie
 
 returns : tie.Need-returns
-returns c = at-end _ _ c.if1.true
+returns c = at_end _ _ c.if1.true
 
 returns-2 : tie.Need-returns-2
-returns-2 c = short-head _ _ c.before.if1.false c.if2.true
+returns-2 c = short_head _ _ c.before.if1.false c.if2.true
 
 returns-3 : tie.Need-returns-3
 returns-3 c = unknown _ _ c.before.before.before.before.before.if1.false c.before.before.before.before.if2.false (sym c.before.before.layout_of.ensures ∙ c.enum_told.given.1)
@@ -34,7 +34,7 @@ returns-5 : tie.Need-returns-5
 returns-5 c =
     let known = sym c.before.before.before.before.before.before.before.layout_of.ensures ∙ c.before.before.before.before.before.own.given.1 in
     let read = c.before.before.wide.ensures ∙ c.before.before.before.word_at.ensures in
-    short-body _ _ _ c.before.before.before.before.before.before.before.before.before.before.if1.false c.before.before.before.before.before.before.before.before.before.if2.false known (sym read ∙ c.before.if3.false) c.if4.true
+    short_body _ _ _ c.before.before.before.before.before.before.before.before.before.before.if1.false c.before.before.before.before.before.before.before.before.before.if2.false known (sym read ∙ c.before.if3.false) c.if4.true
 
 read-body-requires : tie.Need-read-body-requires
 read-body-requires c κs =

@@ -1,8 +1,8 @@
 -- `field::write_body` meets its contract: its four runs of stores are one.
 -- Assumes nothing.
 use mathlib.Core.Path.{◌∙◌}
-use Rattle.field.proofs.Bodies.{session-end, class-end, cell-end, value-end}
-use Rattle.field.proofs.Writings.{body-stores}
+use Rattle.field.proofs.Bodies.{session_end, class_end, cell_end, value_end}
+use Rattle.field.proofs.Writings.{body_stores}
 use borrow.Author.Rules.{rules}
 use Rattle.field.proofs.write_body.Statement.{statement}
 use Rattle.field.proofs.write_body.Tie as tie
@@ -10,20 +10,20 @@ use Rattle.field.proofs.write_body.Tie as tie
 put-byte-requires : tie.Need-put-byte-requires
 put-byte-requires c κs =
     let entry = c.before.before.before.before.before in
-    (entry.requires.0.session, session-end _ entry.requires.0 3 _ entry.requires.1)
+    (entry.requires.0.session, session_end _ entry.requires.0 3 _ entry.requires.1)
 
 put-byte-requires-2 : tie.Need-put-byte-requires-2
 put-byte-requires-2 c κs =
     let session = c.before.before.before in
     let entry = session.before.before.before.before.before.before in
-    (entry.requires.0.class, rw session.put_byte.auto.0 (class-end _ entry.requires.0 3 _ entry.requires.1))
+    (entry.requires.0.class, rw session.put_byte.auto.0 (class_end _ entry.requires.0 3 _ entry.requires.1))
 
 put-word-requires : tie.Need-put-word-requires
 put-word-requires c κs =
     let class = c.before.before.before in
     let session = class.before.before.before.before in
     let entry = session.before.before.before.before.before.before in
-    (entry.requires.0.cell, rw (class.put-byte2.auto.0 ∙ session.put_byte.auto.0) (cell-end _ entry.requires.0 3 _ entry.requires.1))
+    (entry.requires.0.cell, rw (class.put-byte2.auto.0 ∙ session.put_byte.auto.0) (cell_end _ entry.requires.0 3 _ entry.requires.1))
 
 put-long-requires : tie.Need-put-long-requires
 put-long-requires c κs =
@@ -31,7 +31,7 @@ put-long-requires c κs =
     let class = cell.before.before.before.before in
     let session = class.before.before.before.before in
     let entry = session.before.before.before.before.before.before in
-    (entry.requires.0.value, rw (cell.put_word.auto.0 ∙ class.put-byte2.auto.0 ∙ session.put_byte.auto.0) (value-end _ entry.requires.0 3 _ entry.requires.1))
+    (entry.requires.0.value, rw (cell.put_word.auto.0 ∙ class.put-byte2.auto.0 ∙ session.put_byte.auto.0) (value_end _ entry.requires.0 3 _ entry.requires.1))
 
 same_length : tie.Need-same-length
 same_length c =
@@ -48,7 +48,7 @@ returns c =
     let class = cell.before.before.before.before in
     let session = class.before.before.before.before in
     let entry = session.before.before.before.before.before.before in
-    body-stores entry.args.own entry.args.call _ _ _ _ _ session.put_byte.ensures class.put-byte2.ensures cell.put_word.ensures value.put-long.ensures
+    body_stores entry.args.own entry.args.call _ _ _ _ _ session.put_byte.ensures class.put-byte2.ensures cell.put_word.ensures value.put-long.ensures
 
 pub write-body-spec : {M : Type 1} → statement M
 write-body-spec =

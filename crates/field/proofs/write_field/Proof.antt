@@ -5,7 +5,7 @@ use mathlib.Core.Logic.{inr}
 use native.Mathlib.Omega.{arith}
 use lib.ListN.{length-set}
 use Rattle.field.proofs.Rows.{proper}
-use Rattle.field.proofs.Writings.{small, unknown, short, field-stores}
+use Rattle.field.proofs.Writings.{small, unknown, short, field_stores}
 use borrow.Author.Rules.{rules}
 use Rattle.field.proofs.write_field.Statement.{statement}
 use Rattle.field.proofs.write_field.Tie as tie
@@ -36,7 +36,7 @@ same_length c = c.before.before.write-body.auto.0 ∙ c.before.before.before.bef
 returns-3 : tie.Need-returns-3
 returns-3 c =
     let known = sym c.before.before.before.before.before.before.before.before.before.before.before.before.layout_of.ensures ∙ c.before.before.before.before.before.before.before.before.before.before.own.given.1 in
-    field-stores _ _ _ known _ _ (proper _ _ known) c.before.before.before.before.before.before.before.before.if1.false c.before.before.before.before.before.before.put_word.ensures c.before.before.write-body.ensures
+    field_stores _ _ _ known _ _ (proper _ _ known) c.before.before.before.before.before.before.before.before.if1.false c.before.before.before.before.before.before.put_word.ensures c.before.before.write-body.ensures
 
 pub write-field-spec : {M : Type 1} → statement M
 write-field-spec =

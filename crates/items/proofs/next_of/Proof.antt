@@ -1,39 +1,39 @@
 -- `items::next_of` meets its contract: one answer for each kind. Assumes nothing.
-use Rattle.items.specs.Items.{nextOfField}
+use Rattle.items.specs.Items.{next_of_field}
 use borrow.Author.Rules.{rules}
 use Rattle.items.proofs.next_of.Statement.{statement}
 use Rattle.items.proofs.next_of.Tie as tie
 
 returns : tie.Need-returns
-unfolding nextOfField
+unfolding next_of_field
 returns c = rw c.enum_told.given.1
 
 returns-2 : tie.Need-returns-2
-unfolding nextOfField
+unfolding next_of_field
 returns-2 c = rw c.enum-told2.given.1
 
 returns-3 : tie.Need-returns-3
-unfolding nextOfField
+unfolding next_of_field
 returns-3 c = rw c.enum-told3.given.1
 
 returns-4 : tie.Need-returns-4
-unfolding nextOfField
+unfolding next_of_field
 returns-4 c = rw c.enum-told4.given.1
 
 returns-5 : tie.Need-returns-5
-unfolding nextOfField
+unfolding next_of_field
 returns-5 c = rw c.enum-told5.given.1
 
 returns-6 : tie.Need-returns-6
-unfolding nextOfField
+unfolding next_of_field
 returns-6 c = rw c.enum-told6.given.1
 
 returns-7 : tie.Need-returns-7
-unfolding nextOfField
+unfolding next_of_field
 returns-7 c = rw c.enum-told7.given.1
 
 returns-8 : tie.Need-returns-8
-unfolding nextOfField
+unfolding next_of_field
 returns-8 c = rw c.enum-told8.given.1
 
 pub next-of-spec : {M : Type 1} → statement M

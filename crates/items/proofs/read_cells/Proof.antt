@@ -5,7 +5,7 @@ use native.Mathlib.Omega.{arith}
 use mathlib.Core.Path.{◌≡◌, refl, sym, ◌∙◌, subst}
 use lib.ListN.{length}
 use Rattle.items.specs.Items.{following}
-use Rattle.items.proofs.Scanning.{Advances, advances, items-by, closed, Closed, Leads, none_yet, one_more, too_many, closes}
+use Rattle.items.proofs.Scanning.{Advances, advances, items_by, closed, Closed, Leads, none_yet, one_more, too_many, closes}
 use borrow.Author.Rules.{rules}
 use Rattle.items.proofs.read_cells.Statement.{statement}
 use Rattle.items.proofs.read_cells.Tie as tie
@@ -24,14 +24,14 @@ returns : tie.Need-returns invariant-loop decreases-loop
 returns c =
     let inv = c.before.before.loop.invariant in
     let shut = closed _ _ _ c.match.keys2 in
-    closes _ _ _ _ _ inv.4 (subst Closed (sym (items-by _ _ _ c.before.next-at.ensures)) shut) inv.0 inv.1
+    closes _ _ _ _ _ inv.4 (subst Closed (sym (items_by _ _ _ c.before.next-at.ensures)) shut) inv.0 inv.1
 
 returns-2 : tie.Need-returns-2 invariant-loop decreases-loop
 unfolding following
 returns-2 c =
     let inv = c.before.before.before.before.before.loop.invariant in
     let seen = sym c.before.before.next.given.1 ∙ c.before.before.before.before.next-at.ensures in
-    let here = items-by _ _ _ seen in
+    let here = items_by _ _ _ seen in
     let step = subst (Advances _ _) (sym seen) (advances _ _) in
     too_many _ _ _ _ _ _ _ _ inv.4 here c.if1.true (omega arith)
 
@@ -52,7 +52,7 @@ unfolding following
 loop-again c =
     let inv = c.before.before.before.before.before.loop.invariant in
     let seen = sym c.before.before.next.given.1 ∙ c.before.before.before.before.next-at.ensures in
-    let here = items-by _ _ _ seen in
+    let here = items_by _ _ _ seen in
     let step = subst (Advances _ _) (sym seen) (advances _ _) in
     (omega arith, omega (arith, step.inside), search rules, search rules, one_more _ _ _ _ _ _ _ _ inv.4 here (omega arith) (omega arith))
 

@@ -4,7 +4,7 @@ use Prim.Native.Nat.{ℕ, ◌<◌, ◌+◌}
 use native.Mathlib.Omega.{arith}
 use mathlib.Core.Path.{sym, ◌∙◌, ap}
 use Rattle.lines.specs.Output.{put}
-use Rattle.replay_text.proofs.Decimals.{decimal_digit, decimal-more, length-digit, length_more}
+use Rattle.replay_text.proofs.Decimals.{decimal_digit, decimal_more, length-digit, length_more}
 use Rattle.lines.proofs.Puts.{ends_at, then}
 use borrow.Fn.Kinds.{In}
 use borrow.Fn.PlainCycle.{Measures, is, falls, and}
@@ -112,7 +112,7 @@ put-number-returns-2 : (t : ℕ) → put-number-lts.Need-returns-2 (
   put-number-below t,
   put-number.Post,
 ) (put-number-at t) put-number.Post
-put-number-returns-2 t c = then _ _ _ _ c.before.before.before.before.before.before.put-number.ensures c.before.before.put-byte2.ensures ∙ ap (put _ _) (sym (decimal-more _ c.before.before.before.before.before.before.before.before.if1.false))
+put-number-returns-2 t c = then _ _ _ _ c.before.before.before.before.before.before.put-number.ensures c.before.before.put-byte2.ensures ∙ ap (put _ _) (sym (decimal_more _ c.before.before.before.before.before.before.before.before.if1.false))
 
 pub +put-number-spec : {M : Type 1} → statement M
 +put-number-spec = close μ-put-number λ t. put-number-lts.spec (

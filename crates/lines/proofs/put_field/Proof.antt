@@ -1,6 +1,6 @@
 -- `lines::put_field` meets its contract: the word `field`, the place and the number. Assumes nothing.
 use native.Mathlib.Omega.{arith}
-use Rattle.replay_text.specs.Lines.{fieldLine}
+use Rattle.replay_text.specs.Lines.{field_line}
 use Rattle.replay_text.proofs.Decimals.{length-pair}
 use Rattle.lines.proofs.Puts.{ends_at, then}
 use borrow.Author.Rules.{rules}
@@ -11,7 +11,7 @@ put-pair-requires : tie.Need-put-pair-requires
 put-pair-requires c κs = omega (arith, ends_at _ _ _ c.before.before.before.put-text.ensures, length-pair 4 2 c.before.before.before.before.before.before.before.args.place c.before.before.before.before.before.before.before.args.n 10 (omega arith) (omega arith))
 
 returns : tie.Need-returns
-unfolding fieldLine
+unfolding field_line
 returns c =
     let a = c.before.before.before.before.before.before.put-text.ensures in
     let e = c.before.before.put-pair.ensures in

@@ -1,6 +1,6 @@
 -- `lines::put_set_up` meets its contract: the word, then the number. Assumes nothing.
 use native.Mathlib.Omega.{arith}
-use Rattle.replay_text.specs.Lines.{setUpLine}
+use Rattle.replay_text.specs.Lines.{set_up_line}
 use Rattle.replay_text.proofs.Decimals.{length-word}
 use Rattle.lines.proofs.Puts.{ends_at, then}
 use borrow.Author.Rules.{rules}
@@ -20,7 +20,7 @@ same_length : tie.Need-same-length
 same_length c = search rules
 
 returns : tie.Need-returns
-unfolding setUpLine
+unfolding set_up_line
 returns c =
     let a = c.before.before.before.before.before.before.put-text.ensures in
     let e = c.before.before.put_word.ensures in

@@ -1,13 +1,13 @@
 -- `lines::put_size` meets its contract: the text as it is. Assumes nothing.
 use native.Mathlib.Omega.{arith}
-use Rattle.replay_text.specs.Lines.{sizeLine}
+use Rattle.replay_text.specs.Lines.{size_line}
 use Rattle.lines.proofs.Puts.{ends_at}
 use borrow.Author.Rules.{rules}
 use Rattle.lines.proofs.put_size.Statement.{statement}
 use Rattle.lines.proofs.put_size.Tie as tie
 
 returns : tie.Need-returns
-unfolding sizeLine
+unfolding size_line
 returns c =
     let text = c.before.before.put-text.ensures in
     (text, omega (arith, ends_at _ _ _ text))

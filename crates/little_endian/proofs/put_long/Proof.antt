@@ -6,13 +6,13 @@ use native.Mathlib.Numerals.{add-one}
 use native.Mathlib.Omega.{arith}
 use lib.ListN.{length-set}
 use Rattle.little_endian.specs.LittleEndian.{bytes_of}
-use Rattle.little_endian.proofs.Numbers.{all_of, write-none, write-all}
+use Rattle.little_endian.proofs.Numbers.{all_of, write_none, write_all}
 use borrow.Author.Rules.{rules}
 use Rattle.little_endian.proofs.put_long.Statement.{statement}
 use Rattle.little_endian.proofs.put_long.Tie as tie
 
 returns : tie.Need-returns
-returns c = write-none _ _ _ _ c.if1.true
+returns c = write_none _ _ _ _ c.if1.true
 
 slice-write-target-2 : tie.Need-slice-write-target-2
 slice-write-target-2 c = simp length-set (omega (arith, all_of 4 _ c.before.requires.0 c.if1.false))
@@ -30,7 +30,7 @@ returns-2 c =
     let at = entry.args.at in
     let e : at + 2 ≡ suc (suc at) = omega arith in
     let f : at + 3 ≡ suc (suc (suc at)) = omega arith in
-    rw (add-one, e, f) (write-all 4 _ _ _ entry.args.x entry.requires.0 c.if1.false)
+    rw (add-one, e, f) (write_all 4 _ _ _ entry.args.x entry.requires.0 c.if1.false)
 
 pub put-long-spec : {M : Type 1} → statement M
 put-long-spec =

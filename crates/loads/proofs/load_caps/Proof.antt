@@ -1,19 +1,19 @@
 -- Each return is a way through a load: 7, a refusal of the table, or 100 with the table put in force.
 use mathlib.Core.Path.{sym, ◌∙◌}
 use borrow.Author.Tests.{not-true, not-false}
-use Rattle.loads.proofs.Loading.{caps-7, table-7, lengths-7, even, refuses, loads}
+use Rattle.loads.proofs.Loading.{caps_7, table_7, lengths_7, even, refuses, loads}
 use borrow.Author.Rules.{rules}
 use Rattle.loads.proofs.load_caps.Statement.{statement}
 use Rattle.loads.proofs.load_caps.Tie as tie
 
 returns : tie.Need-returns
-returns c = caps-7 _ _ _ _ _ _ _ _ _ c.if1.true
+returns c = caps_7 _ _ _ _ _ _ _ _ _ c.if1.true
 
 returns-2 : tie.Need-returns-2
-returns-2 c = table-7 _ _ _ _ _ _ _ _ _ c.if2.true
+returns-2 c = table_7 _ _ _ _ _ _ _ _ _ c.if2.true
 
 returns-3 : tie.Need-returns-3
-returns-3 c = lengths-7 _ _ _ _ _ _ _ _ _ _ c.before.lengths-fit.ensures (not-true _ c.if3.true)
+returns-3 c = lengths_7 _ _ _ _ _ _ _ _ _ _ c.before.lengths-fit.ensures (not-true _ c.if3.true)
 
 table-refusal-requires : tie.Need-table-refusal-requires
 table-refusal-requires c κs = (c.before.before.if2.false, even _ _ _ _ _ _ _ c.before.lengths-fit.ensures (not-false _ c.if3.false))

@@ -41,7 +41,7 @@ use Rattle.records.specs.declared.Sessions.{Sessions}
 use Rattle.records.specs.declared.Reply.{Reply}
 use Rattle.run_turns.specs.Turns.{IsLoad}
 use Rattle.lock_run.proofs.Row.{R}
-use Rattle.lock_records.proofs.Row.{RS, low-s, tells-s, makes-s, typed-s, Ra, typed-a}
+use Rattle.lock_records.proofs.Row.{RS, low_s, tells_s, makes_s, typed_s, Ra, typed_a}
 use Rattle.lock_run.proofs.Leave.{full, leave}
 use Rattle.lock_run.proofs.Short.{allocates, var, sets, relends}
 use Rattle.run_turns.specs.contracts.load_turn as load-turn
@@ -61,7 +61,7 @@ LoadTurn 𝓛 mem run = triple_of 𝓛 load-turn.signature (load-turn.spec 𝓛 
 
 module _ {M : Type 1} {𝓤 : Ura M} (𝓛 : Logic 𝓤) (mem : Memory → SProp 𝓤) (run : Routine → Fun 𝓤)
     (κ₀ κ₁ κ₂ κ₃ κ₄ κ₅ : Lft) (q₀ q₁ q₂ q₃ q₄ q₅ : Share) (ss : Sessions) (x₀ x₁ : Bor (List ℕ)) (x : Bor (List Lock)) (x₃ x₄ x₅ : Bor (List ℕ))
-    (gs : Is RS ss (low-s ss ∷ [])) (room₀ : Room u32 (length x₀.now)) (room₁ : Room u8 (length x₁.now)) (room : Room R (length x.now)) (room₃ : Room u32 (length x₃.now))
+    (gs : Is RS ss (low_s ss ∷ [])) (room₀ : Room u32 (length x₀.now)) (room₁ : Room u8 (length x₁.now)) (room : Room R (length x.now)) (room₃ : Room u32 (length x₃.now))
     (room₄ : Room u32 (length x₄.now)) (room₅ : Room u32 (length x₅.now)) where
   open 𝓛 use {H}
 
@@ -84,10 +84,10 @@ module _ {M : Type 1} {𝓤 : Ura M} (𝓛 : Logic 𝓤) (mem : Memory → SProp
   a = (ss, (x₀, (x₁, (x, (x₃, (x₄, (x₅, tt)))))))
 
   abbrev at : Vals load-caps.signature κs
-  at = (low-s ss ∷ [], (shr_slice_vals x₀, (shr_slice_vals x₁, (shr_slice_vals x, (shr_slice_vals x₃, (shr_slice_vals x₄, (shr_slice_vals x₅, tt)))))))
+  at = (low_s ss ∷ [], (shr_slice_vals x₀, (shr_slice_vals x₁, (shr_slice_vals x, (shr_slice_vals x₃, (shr_slice_vals x₄, (shr_slice_vals x₅, tt)))))))
 
   abbrev Passed : List Val
-  Passed = low-s ss ∷ slice_val x₀.ref_ptr (length x₀.now) ∷ slice_val x₁.ref_ptr (length x₁.now) ∷ slice_val x.ptr n ∷ slice_val x₃.ptr k ∷ slice_val x₄.ref_ptr (length x₄.now) ∷ slice_val x₅.ref_ptr (length x₅.now) ∷ []
+  Passed = low_s ss ∷ slice_val x₀.ref_ptr (length x₀.now) ∷ slice_val x₁.ref_ptr (length x₁.now) ∷ slice_val x.ptr n ∷ slice_val x₃.ptr k ∷ slice_val x₄.ref_ptr (length x₄.now) ∷ slice_val x₅.ref_ptr (length x₅.now) ∷ []
 
   abbrev Post : Val → SProp 𝓤
   Post = (walk_of 𝓛 load-caps.ended stayed (load-caps.clauses 𝓛 mem run)).post ((κs, qs, tt, a, at), tt)
@@ -116,7 +116,7 @@ module _ {M : Type 1} {𝓤 : Ura M} (𝓛 : Logic 𝓤) (mem : Memory → SProp
   told = (ss, (x₀, (x₁, (n, (k, (x₄, (x₅, tt)))))))
 
   abbrev to : (LoadTurn 𝓛 mem run).Ghost
-  to = (((κ₀, (κ₁, (κ₄, (κ₅, tt)))), (q₀, (q₁, (q₄, (q₅, tt)))), tt, told, (low-s ss ∷ [], (shr_slice_vals x₀, (shr_slice_vals x₁, (vint w64 n ∷ [], (vint w64 k ∷ [], (shr_slice_vals x₄, (shr_slice_vals x₅, tt)))))))), tt)
+  to = (((κ₀, (κ₁, (κ₄, (κ₅, tt)))), (q₀, (q₁, (q₄, (q₅, tt)))), tt, told, (low_s ss ∷ [], (shr_slice_vals x₀, (shr_slice_vals x₁, (vint w64 n ∷ [], (vint w64 k ∷ [], (shr_slice_vals x₄, (shr_slice_vals x₅, tt)))))))), tt)
 
   abbrev Says : List ℕ → Reply → Type 0
   Says T r = IsLoad x₅.now x₄.now T x₀.now x₁.now n k ss r
@@ -138,7 +138,7 @@ module _ {M : Type 1} {𝓤 : Ura M} (𝓛 : Logic 𝓤) (mem : Memory → SProp
       qed 𝓛 Asks ∵ nothing ! $ move ! (8 ∷ 0 ∷ []) $ join ! $ move ! (7 ∷ 0 ∷ []) $ join ! $ move ! (6 ∷ 0 ∷ []) $ join ! $ move ! (5 ∷ 0 ∷ []) $ join ! $
       -- [the tokens; values; classes; caps; table]
       nothing ! $ move ! (5 ∷ 0 ∷ []) $ fjoin ! $ move ! (4 ∷ 0 ∷ []) $ fjoin ! $ owned ! usize (Is usize) (uint_Makes 𝓛 w64) k _ (refl, room₃.0) $ fjoin ! $ owned ! usize (Is usize) (uint_Makes 𝓛 w64) n _ (refl, room.0) $ fjoin ! $
-      move ! (3 ∷ 0 ∷ []) $ fjoin ! $ move ! (2 ∷ 0 ∷ []) $ fjoin ! $ owned ! RS (Is RS) (makes-s 𝓛) ss (low-s ss ∷ []) gs $ fjoin ! $ move ! (1 ∷ 0 ∷ []) $ join ! $ frame ! $ done !
+      move ! (3 ∷ 0 ∷ []) $ fjoin ! $ move ! (2 ∷ 0 ∷ []) $ fjoin ! $ owned ! RS (Is RS) (makes_s 𝓛) ss (low_s ss ∷ []) gs $ fjoin ! $ move ! (1 ∷ 0 ∷ []) $ join ! $ frame ! $ done !
 
   gets : (v : Val) → ent 𝓤 ((LoadTurn 𝓛 mem run).post to v) (mean 𝓛 (later (gives v)))
   gets v =
@@ -163,7 +163,7 @@ module _ {M : Type 1} {𝓤 : Ura M} (𝓛 : Logic 𝓤) (mem : Memory → SProp
       -- [classes' token; those of caps and table; values'; what says caps' last list; the reply; table; classes; values; logs' token; locks'; logs; locks]
       move ! (8 ∷ 1 ∷ []) $ join ! $ move ! (8 ∷ 0 ∷ []) $ join ! $ move ! (1 ∷ 0 ∷ []) $ join ! $ move ! (1 ∷ 0 ∷ []) $ join ! $ frame ! $
       nothing ! $ move ! (3 ∷ 0 ∷ []) $ fjoin ! $ move ! (1 ∷ 0 ∷ []) $ fjoin ! $ move ! (4 ∷ 0 ∷ []) $ fjoin ! $ move ! (4 ∷ 0 ∷ []) $ fjoin ! $ move ! (2 ∷ 0 ∷ []) $ fjoin ! $ move ! (2 ∷ 0 ∷ []) $ fjoin ! $
-      owned ! RS (Is RS) (makes-s 𝓛) ss (low-s ss ∷ []) gs $ fjoin ! $ frame ! $ done !
+      owned ! RS (Is RS) (makes_s 𝓛) ss (low_s ss ∷ []) gs $ fjoin ! $ frame ! $ done !
 
   module _ (C : Calls 𝓤 H) (Λ : Loops 𝓤 H) (fm : FmC 𝓤 H 𝓛.laws C) (known : Triple 𝓤 (C #run-turns·load-turn) (LoadTurn 𝓛 mem run)) where
     walk : ent 𝓤 (on_entry 𝓛 load-caps.signature κs qs a at) (WpFn 𝓤 H C Λ code.function Passed Post)
@@ -171,7 +171,7 @@ module _ {M : Type 1} {𝓤 : Ura M} (𝓛 : Logic 𝓤) (mem : Memory → SProp
         qed 𝓛 ((‵ (flft κ₀ q₀) ⊛ (‵ (flft κ₁ q₁) ⊛ (‵ (flft κ₂ q₂) ⊛ (‵ (flft κ₃ q₃) ⊛ (‵ (flft κ₄ q₄) ⊛ (‵ (flft κ₅ q₅) ⊛ ‵ ftrue)))))) ∷ ‵ (owns (RS ∷ ShrSlice (named 0) κ₀ u32 ∷ ShrSlice (named 1) κ₁ u8 ∷ ShrSlice (named 2) κ₂ R ∷ ShrSlice (named 3) κ₃ u32 ∷ MutSlice (named 4) κ₄ u32 ∷ ShrSlice (named 5) κ₅ u32 ∷ []) a at) ∷ []) ∵
         enter ! C Λ code.function Passed _ $
         allocates ! _ (λ bs. params1 ! $
-        pass1 ! (init ! 20 refl (typed-s 𝓛 ss (low-s ss) gs)) $ pass1 ! (init ! 18 refl (tt, (tt, (record { fits = room₀.0 }, tt)))) $ pass1 ! (init ! 16 refl (tt, (tt, (record { fits = room₁.0 }, tt)))) $
+        pass1 ! (init ! 20 refl (typed_s 𝓛 ss (low_s ss) gs)) $ pass1 ! (init ! 18 refl (tt, (tt, (record { fits = room₀.0 }, tt)))) $ pass1 ! (init ! 16 refl (tt, (tt, (record { fits = room₁.0 }, tt)))) $
         pass1 ! (init ! 14 refl (tt, (tt, (record { fits = room.0 }, tt)))) $ pass1 ! (init ! 12 refl (tt, (tt, (record { fits = room₃.0 }, tt)))) $ pass1 ! (init ! 10 refl (tt, (tt, (record { fits = room₄.0 }, tt)))) $
         pass1 ! (init ! 8 refl (tt, (tt, (record { fits = room₅.0 }, tt)))) $ pass0 ! $
         move ! (25 ∷ []) $ fsplit ! $ move ! (1 ∷ []) $ fsplit ! $ move ! (1 ∷ []) $ fsplit ! $ move ! (1 ∷ []) $ fsplit ! $ move ! (1 ∷ []) $ fsplit ! $ move ! (1 ∷ []) $ fsplit ! $ move ! (1 ∷ []) $ fsplit ! $
@@ -188,15 +188,15 @@ module _ {M : Type 1} {𝓤 : Ura M} (𝓛 : Logic 𝓤) (mem : Memory → SProp
         -- [what `load_turn` asks; table; classes; values; logs' token; locks'; logs; locks; _11 at 8; …]
         calls_at ! fm (LoadTurn 𝓛 mem run) known to (and_then ! (var ! 28 refl) (and_then ! (var ! 26 refl) (and_then ! (var ! 24 refl) (and_then ! (var ! 14 refl) (and_then ! (var ! 12 refl) (and_then ! (var ! 8 refl) (and_then ! (var ! 16 refl) (no_more !)))))))) (λ v.
         use1 𝓛 (later (gives v)) (gets v) $ await ! tt $ pick ! (λ p. learn ! (λ f. split ! $
-        peeks ! Ra (Is Ra) (shows 𝓛 Ra) p.0 (v ∷ []) (λ pa. land ! (from ! (stop !)) (init ! 31 refl (typed-a 𝓛 p.0 v pa)) $
+        peeks ! Ra (Is Ra) (shows 𝓛 Ra) p.0 (v ∷ []) (λ pa. land ! (from ! (stop !)) (init ! 31 refl (typed_a 𝓛 p.0 v pa)) $
         returns ! (look ! 31 refl) $ leave ! 9 (full _ ∷ full _ ∷ full _ ∷ full _ ∷ full _ ∷ full _ ∷ full _ ∷ full _ ∷ full _ ∷ full _ ∷ full _ ∷ full _ ∷ []) refl $ by ! (exits p.0 p.1 v f.0 f.1))))))
 
 module _ {M : Type 1} {𝓤 : Ura M} (𝓛 : Logic 𝓤) (mem : Memory → SProp 𝓤) (run : Routine → Fun 𝓤) (𝓣 : Tables 𝓤 𝓛.H) (known : Triple 𝓤 (𝓣.C #run-turns·load-turn) (LoadTurn 𝓛 mem run)) where
   open 𝓛 use {H}
 
   walks : Walks 𝓛 load-caps.ended stayed (WpFn 𝓤 H 𝓣.C 𝓣.Λ code.function) (load-caps.clauses 𝓛 mem run)
-  walks = walked 𝓛 load-caps.ended stayed (load-caps.clauses 𝓛 mem run) (WpFn 𝓤 H 𝓣.C 𝓣.Λ code.function) (λ κs. (λ (k : Sessions). low-s k ∷ [], (shr_slice_vals, (shr_slice_vals, (shr_slice_vals, (shr_slice_vals, (shr_slice_vals, (shr_slice_vals, tt))))))))
-      (λ κs. (tells-s, (shr_slice_Tells (named 0) κs.0 u32, (shr_slice_Tells (named 1) κs.1.0 u8, (shr_slice_Tells (named 2) κs.1.1.0 R, (shr_slice_Tells (named 3) κs.1.1.1.0 u32, (mut_slice_Tells (named 4) κs.1.1.1.1.0 u32, (shr_slice_Tells (named 5) κs.1.1.1.1.1.0 u32, tt))))))))
+  walks = walked 𝓛 load-caps.ended stayed (load-caps.clauses 𝓛 mem run) (WpFn 𝓤 H 𝓣.C 𝓣.Λ code.function) (λ κs. (λ (k : Sessions). low_s k ∷ [], (shr_slice_vals, (shr_slice_vals, (shr_slice_vals, (shr_slice_vals, (shr_slice_vals, (shr_slice_vals, tt))))))))
+      (λ κs. (tells_s, (shr_slice_Tells (named 0) κs.0 u32, (shr_slice_Tells (named 1) κs.1.0 u8, (shr_slice_Tells (named 2) κs.1.1.0 R, (shr_slice_Tells (named 3) κs.1.1.1.0 u32, (mut_slice_Tells (named 4) κs.1.1.1.1.0 u32, (shr_slice_Tells (named 5) κs.1.1.1.1.1.0 u32, tt))))))))
       (λ κs qs bounds a g are. via 𝓤 _ (fst∗ 𝓤 _ (emp 𝓤))
       (walk 𝓛 mem run κs.0 κs.1.0 κs.1.1.0 κs.1.1.1.0 κs.1.1.1.1.0 κs.1.1.1.1.1.0 qs.0 qs.1.0 qs.1.1.0 qs.1.1.1.0 qs.1.1.1.1.0 qs.1.1.1.1.1.0
       a.0 a.1.0 a.1.1.0 a.1.1.1.0 a.1.1.1.1.0 a.1.1.1.1.1.0 a.1.1.1.1.1.1.0

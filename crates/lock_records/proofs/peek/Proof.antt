@@ -39,7 +39,7 @@ use Rattle.records.specs.declared.Lock.{Lock}
 use Rattle.records.specs.declared.Sessions.{Sessions}
 use Rattle.run_turns.specs.Turns.{IsPeekPart}
 use Rattle.lock_run.proofs.Row.{R}
-use Rattle.lock_records.proofs.Row.{RS, low-s, tells-s, makes-s, typed-s}
+use Rattle.lock_records.proofs.Row.{RS, low_s, tells_s, makes_s, typed_s}
 use Rattle.lock_run.proofs.Leave.{full, leave}
 use Rattle.lock_run.proofs.Short.{allocates, var, sets}
 use Rattle.run_turns.specs.contracts.peek_part as peek-part
@@ -59,7 +59,7 @@ PeekPart 𝓛 mem run = triple_of 𝓛 peek-part.signature (peek-part.spec 𝓛 
 
 module _ {M : Type 1} {𝓤 : Ura M} (𝓛 : Logic 𝓤) (mem : Memory → SProp 𝓤) (run : Routine → Fun 𝓤)
     (κ₀ κ₁ κ₂ : Lft) (q₀ q₁ q₂ : Share) (ss : Sessions) (x₀ x₁ : Bor (List ℕ)) (x : Bor (List Lock)) (x₃ : Bor (List ℕ)) (s c : ℕ)
-    (gs : Is RS ss (low-s ss ∷ [])) (room₀ : Room u32 (length x₀.now)) (room₁ : Room u8 (length x₁.now)) (room : Room R (length x.now)) (room₃ : Room u32 (length x₃.now)) (fs : s < 2 ^ 8) (fc : c < 2 ^ 32) where
+    (gs : Is RS ss (low_s ss ∷ [])) (room₀ : Room u32 (length x₀.now)) (room₁ : Room u8 (length x₁.now)) (room : Room R (length x.now)) (room₃ : Room u32 (length x₃.now)) (fs : s < 2 ^ 8) (fc : c < 2 ^ 32) where
   open 𝓛 use {H}
 
   abbrev n₀ : ℕ
@@ -78,7 +78,7 @@ module _ {M : Type 1} {𝓤 : Ura M} (𝓛 : Logic 𝓤) (mem : Memory → SProp
   a = (ss, (x₀, (x₁, (x, (x₃, (s, (c, tt)))))))
 
   abbrev at : Vals peek.signature (κ₀, (κ₁, (κ₂, tt)))
-  at = (low-s ss ∷ [], (shr_slice_vals x₀, (shr_slice_vals x₁, (shr_slice_vals x, (shr_slice_vals x₃, (vint w8 s ∷ [], (vint w32 c ∷ [], tt)))))))
+  at = (low_s ss ∷ [], (shr_slice_vals x₀, (shr_slice_vals x₁, (shr_slice_vals x, (shr_slice_vals x₃, (vint w8 s ∷ [], (vint w32 c ∷ [], tt)))))))
 
   abbrev Post : Val → SProp 𝓤
   Post = (walk_of 𝓛 peek.ended stayed (peek.clauses 𝓛 mem run)).post (((κ₀, (κ₁, (κ₂, tt))), (q₀, (q₁, (q₂, tt))), tt, a, at), tt)
@@ -98,7 +98,7 @@ module _ {M : Type 1} {𝓤 : Ura M} (𝓛 : Logic 𝓤) (mem : Memory → SProp
 
   -- ---- `peek_part`
   abbrev to : (PeekPart 𝓛 mem run).Ghost
-  to = (((κ₀, tt), (q₀, tt), tt, (ss, (x₀, (n₁, (n, (x₃, (s, (c, tt))))))), (low-s ss ∷ [], (shr_slice_vals x₀, (vint w64 n₁ ∷ [], (vint w64 n ∷ [], (shr_slice_vals x₃, (vint w8 s ∷ [], (vint w32 c ∷ [], tt)))))))), tt)
+  to = (((κ₀, tt), (q₀, tt), tt, (ss, (x₀, (n₁, (n, (x₃, (s, (c, tt))))))), (low_s ss ∷ [], (shr_slice_vals x₀, (vint w64 n₁ ∷ [], (vint w64 n ∷ [], (shr_slice_vals x₃, (vint w8 s ∷ [], (vint w32 c ∷ [], tt)))))))), tt)
 
   abbrev Part : Bor (List ℕ) → Val → Fml
   Part r v = (ShrSlice (named 0) κ₀ u32).own_val r (v ∷ [])
@@ -110,7 +110,7 @@ module _ {M : Type 1} {𝓤 : Ura M} (𝓛 : Logic 𝓤) (mem : Memory → SProp
   goes =
       qed 𝓛 (‵ Values ∷ ‵ Logs ∷ ‵ (flft κ₀ q₀) ∷ []) ∵ nothing ! $ owned ! u32 (Is u32) (uint_Makes 𝓛 w32) c _ (refl, fc) $ fjoin ! $ owned ! u8 (Is u8) (uint_Makes 𝓛 w8) s _ (refl, fs) $ fjoin ! $ move ! (2 ∷ 0 ∷ []) $ fjoin ! $
       owned ! usize (Is usize) (uint_Makes 𝓛 w64) n _ (refl, room.0) $ fjoin ! $ owned ! usize (Is usize) (uint_Makes 𝓛 w64) n₁ _ (refl, room₁.0) $ fjoin ! $ move ! (1 ∷ 0 ∷ []) $ fjoin ! $
-      owned ! RS (Is RS) (makes-s 𝓛) ss (low-s ss ∷ []) gs $ fjoin ! $ nothing ! $ move ! (2 ∷ 0 ∷ []) $ join ! $ join ! $ frame ! $ done !
+      owned ! RS (Is RS) (makes_s 𝓛) ss (low_s ss ∷ []) gs $ fjoin ! $ nothing ! $ move ! (2 ∷ 0 ∷ []) $ join ! $ join ! $ frame ! $ done !
 
   hears : (r : Bor (List ℕ)) → ent 𝓤 (ensured 𝓛 peek-part.ended (peek-part.clauses 𝓛 mem run) (κ₀, tt) (ss, (x₀, (n₁, (n, (x₃, (s, (c, tt))))))) tt r) (fact 𝓤 (Says r))
   hears r = ex_e 𝓤 _ (λ ws. snd∗ 𝓤 (sem 𝓛 (lasts peek-part.ended (κ₀, tt) (ss, (x₀, (n₁, (n, (x₃, (s, (c, tt))))))) ws)) (fact 𝓤 (Says r)))
@@ -123,15 +123,15 @@ module _ {M : Type 1} {𝓤 : Ura M} (𝓛 : Logic 𝓤) (mem : Memory → SProp
       move ! (1 ∷ []) $ split ! $ move ! (5 ∷ 1 ∷ []) $ join ! $ move ! (5 ∷ 0 ∷ []) $ join ! $ move ! (1 ∷ 0 ∷ []) $ join ! $ frame ! $
       -- [the part; values; logs; locks; classes]
       nothing ! $ owned ! u32 (Is u32) (uint_Makes 𝓛 w32) c _ (refl, fc) $ fjoin ! $ owned ! u8 (Is u8) (uint_Makes 𝓛 w8) s _ (refl, fs) $ fjoin ! $ move ! (3 ∷ 0 ∷ []) $ fjoin ! $ move ! (3 ∷ 0 ∷ []) $ fjoin ! $ move ! (3 ∷ 0 ∷ []) $ fjoin ! $ move ! (2 ∷ 0 ∷ []) $ fjoin ! $
-      owned ! RS (Is RS) (makes-s 𝓛) ss (low-s ss ∷ []) gs $ fjoin ! $ frame ! $ done !
+      owned ! RS (Is RS) (makes_s 𝓛) ss (low_s ss ∷ []) gs $ fjoin ! $ frame ! $ done !
 
   module _ (C : Calls 𝓤 H) (Λ : Loops 𝓤 H) (fm : FmC 𝓤 H 𝓛.laws C) (known : Triple 𝓤 (C #run-turns·peek-part) (PeekPart 𝓛 mem run)) where
-    walk : ent 𝓤 (on_entry 𝓛 peek.signature (κ₀, (κ₁, (κ₂, tt))) (q₀, (q₁, (q₂, tt))) a at) (WpFn 𝓤 H C Λ code.function (low-s ss ∷ slice_val x₀.ptr n₀ ∷ slice_val x₁.ptr n₁ ∷ slice_val x.ptr n ∷ slice_val x₃.ref_ptr (length x₃.now) ∷ vint w8 s ∷ vint w32 c ∷ []) Post)
+    walk : ent 𝓤 (on_entry 𝓛 peek.signature (κ₀, (κ₁, (κ₂, tt))) (q₀, (q₁, (q₂, tt))) a at) (WpFn 𝓤 H C Λ code.function (low_s ss ∷ slice_val x₀.ptr n₀ ∷ slice_val x₁.ptr n₁ ∷ slice_val x.ptr n ∷ slice_val x₃.ref_ptr (length x₃.now) ∷ vint w8 s ∷ vint w32 c ∷ []) Post)
     walk =
         qed 𝓛 ((‵ (flft κ₀ q₀) ⊛ (‵ (flft κ₁ q₁) ⊛ (‵ (flft κ₂ q₂) ⊛ ‵ ftrue))) ∷ ‵ (owns (RS ∷ ShrSlice (named 0) κ₀ u32 ∷ ShrSlice (named 1) κ₁ u8 ∷ ShrSlice (named 2) κ₂ R ∷ ShrSlice (named 0) κ₀ u32 ∷ u8 ∷ u32 ∷ []) a at) ∷ []) ∵
-        enter ! C Λ code.function (low-s ss ∷ slice_val x₀.ptr n₀ ∷ slice_val x₁.ptr n₁ ∷ slice_val x.ptr n ∷ slice_val x₃.ref_ptr (length x₃.now) ∷ vint w8 s ∷ vint w32 c ∷ []) _ $
+        enter ! C Λ code.function (low_s ss ∷ slice_val x₀.ptr n₀ ∷ slice_val x₁.ptr n₁ ∷ slice_val x.ptr n ∷ slice_val x₃.ref_ptr (length x₃.now) ∷ vint w8 s ∷ vint w32 c ∷ []) _ $
         allocates ! _ (λ bs. params1 ! $
-        pass1 ! (init ! 16 refl (typed-s 𝓛 ss (low-s ss) gs)) $ pass1 ! (init ! 14 refl (tt, (tt, (record { fits = room₀.0 }, tt)))) $ pass1 ! (init ! 12 refl (tt, (tt, (record { fits = room₁.0 }, tt)))) $
+        pass1 ! (init ! 16 refl (typed_s 𝓛 ss (low_s ss) gs)) $ pass1 ! (init ! 14 refl (tt, (tt, (record { fits = room₀.0 }, tt)))) $ pass1 ! (init ! 12 refl (tt, (tt, (record { fits = room₁.0 }, tt)))) $
         pass1 ! (init ! 10 refl (tt, (tt, (record { fits = room.0 }, tt)))) $ pass1 ! (init ! 8 refl (tt, (tt, (record { fits = room₃.0 }, tt)))) $ pass1 ! (init ! 6 refl (tt, record { fits = fs })) $ pass1 ! (init ! 4 refl (tt, record { fits = fc })) $ pass0 ! $
         move ! (21 ∷ []) $ fsplit ! $ move ! (1 ∷ []) $ fsplit ! $ move ! (1 ∷ []) $ fsplit ! $ move ! (1 ∷ []) $ fsplit ! $ move ! (1 ∷ []) $ fsplit ! $ move ! (1 ∷ []) $ fsplit ! $ move ! (1 ∷ []) $ fsplit ! $
         move ! (28 ∷ []) $ split ! $ move ! (1 ∷ []) $ split ! $ move ! (1 ∷ []) $ split ! $ move ! (1 ∷ 4 ∷ 5 ∷ 6 ∷ 11 ∷ []) $ drop ! $ drop ! $ drop ! $ drop ! $ drop ! $
@@ -152,8 +152,8 @@ module _ {M : Type 1} {𝓤 : Ura M} (𝓛 : Logic 𝓤) (mem : Memory → SProp
   open 𝓛 use {H}
 
   walks : Walks 𝓛 peek.ended stayed (WpFn 𝓤 H 𝓣.C 𝓣.Λ code.function) (peek.clauses 𝓛 mem run)
-  walks = walked 𝓛 peek.ended stayed (peek.clauses 𝓛 mem run) (WpFn 𝓤 H 𝓣.C 𝓣.Λ code.function) (λ κs. (λ (k : Sessions). low-s k ∷ [], (shr_slice_vals, (shr_slice_vals, (shr_slice_vals, (shr_slice_vals, (uint_vals w8, (uint_vals w32, tt))))))))
-      (λ κs. (tells-s, (shr_slice_Tells (named 0) κs.0 u32, (shr_slice_Tells (named 1) κs.1.0 u8, (shr_slice_Tells (named 2) κs.1.1.0 R, (shr_slice_Tells (named 0) κs.0 u32, (uint_Tells w8, (uint_Tells w32, tt))))))))
+  walks = walked 𝓛 peek.ended stayed (peek.clauses 𝓛 mem run) (WpFn 𝓤 H 𝓣.C 𝓣.Λ code.function) (λ κs. (λ (k : Sessions). low_s k ∷ [], (shr_slice_vals, (shr_slice_vals, (shr_slice_vals, (shr_slice_vals, (uint_vals w8, (uint_vals w32, tt))))))))
+      (λ κs. (tells_s, (shr_slice_Tells (named 0) κs.0 u32, (shr_slice_Tells (named 1) κs.1.0 u8, (shr_slice_Tells (named 2) κs.1.1.0 R, (shr_slice_Tells (named 0) κs.0 u32, (uint_Tells w8, (uint_Tells w32, tt))))))))
       (λ κs qs bounds a g are. via 𝓤 _ (fst∗ 𝓤 _ (emp 𝓤))
       (walk 𝓛 mem run κs.0 κs.1.0 κs.1.1.0 qs.0 qs.1.0 qs.1.1.0 a.0 a.1.0 a.1.1.0 a.1.1.1.0 a.1.1.1.1.0 a.1.1.1.1.1.0 a.1.1.1.1.1.1.0
       are.0 are.1.0.0.1 are.1.1.0.0.1 are.1.1.1.0.0.1 are.1.1.1.1.0.0.1 are.1.1.1.1.1.0.1 are.1.1.1.1.1.1.0.1 𝓣.C 𝓣.Λ (fm_of 𝓤 H 𝓛.laws 𝓣) known))

@@ -41,15 +41,15 @@ use Rattle.model.specs.Step.{outcome}
 use Rattle.records.specs.declared.Lock.{Lock}
 use Rattle.records.specs.declared.Sessions.{Sessions}
 use Rattle.run_turns.specs.declared.Turn.{Turn}
-use Rattle.run_changes.specs.Run.{storeOn, sweptBy}
+use Rattle.run_changes.specs.Run.{store_on, swept_by}
 use Rattle.run_turns.specs.Turns.{IsSetUpTurn}
 use Rattle.run_turns.proofs.Turn.TheLaws as U'
 use Rattle.lock_run.proofs.Row.{R}
-use Rattle.lock_records.proofs.Row.{RS, low-s, tells-s, makes-s, typed-s, Ra, low-a, makes-a, typed-a, RU, typed-u, turn_is, reply-is, change-is}
+use Rattle.lock_records.proofs.Row.{RS, low_s, tells_s, makes_s, typed_s, Ra, low_a, makes_a, typed_a, RU, typed_u, turn_is, reply_is, change_is}
 use Rattle.lock_run.proofs.Leave.{full, leave}
 use Rattle.lock_run.proofs.Short.{allocates, var, sets, relends}
-use Rattle.lock_run.proofs.Lent.{ref-at, lent, lent_both}
-use Rattle.lock_run.proofs.Calls.{Sweep, sw-to, sw-gives, sw-goes, sw-gets}
+use Rattle.lock_run.proofs.Lent.{ref_at, lent, lent_both}
+use Rattle.lock_run.proofs.Calls.{Sweep, sw-to, sw-gives, sw_goes, sw_gets}
 use Rattle.lock_run.proofs.sweep.Symbol as sweep-def
 use Rattle.lock_run.proofs.sweep.Symbol.{name as #lock-run·sweep}
 use Rattle.lock_run.proofs.sweep.Met as sweep-thm
@@ -58,11 +58,11 @@ use Rattle.run_turns.proofs.set_up_turn_by.Symbol as set-up-turn-def
 use Rattle.run_turns.proofs.set_up_turn_by.Symbol.{name as #run-turns·set-up-turn-by}
 use Rattle.run_turns.proofs.set_up_turn_by.Met as set-up-turn-thm
 use Rattle.lock_records.specs.contracts.set_up_with_caps.Key.{name as #lock-records·set-up-with-caps}
-use Rattle.lock_records.specs.contracts.set_up_with_caps as set-up
+use Rattle.lock_records.specs.contracts.set_up_with_caps as set_up_lem
 use Rattle.lock_records.proofs.set_up_with_caps.Statement as stated
 use Rattle.lock_records.proofs.set_up_with_caps.Code as code
 
-abbrev stayed : Stays (set-up.ended).signature.params (set-up.ended).kept
+abbrev stayed : Stays (set_up_lem.ended).signature.params (set_up_lem.ended).kept
 stayed = (stay_none (λ _. RS) yes, (stay_none_slice (0 ∷ []) tt (plain (λ _. u32)) yes, (stay_none_slice (1 ∷ []) tt (plain (λ _. u8)) yes, (stay_slice (2 ∷ []) tt (plain (λ _. R)), (stay_slice (3 ∷ []) tt (plain (λ _. u32)), (stay_none_slice (4 ∷ []) tt (plain (λ _. u32)) yes, tt))))))
 
 abbrev SetUpTurn : {M : Type 1} {𝓤 : Ura M} (𝓛 : Logic 𝓤) (mem : Memory → SProp 𝓤) (run : Routine → Fun 𝓤) → Contract 𝓤
@@ -70,7 +70,7 @@ SetUpTurn 𝓛 mem run = triple_of 𝓛 set-up-turn.signature (set-up-turn.spec 
 
 module _ {M : Type 1} {𝓤 : Ura M} (𝓛 : Logic 𝓤) (mem : Memory → SProp 𝓤) (run : Routine → Fun 𝓤)
     (κ₀ κ₁ κ₂ κ₃ κ₄ : Lft) (q₀ q₁ q₂ q₃ q₄ : Share) (ss : Sessions) (x₀ x₁ : MutBor (List ℕ)) (b o : ℕ) (γ : GName) (ys : List Lock) (b₃ o₃ : ℕ) (γ₃ : GName) (logs : List ℕ) (x₄ : MutBor (List ℕ))
-    (gs : Is RS ss (low-s ss ∷ [])) (room₀ : Room u32 (length x₀.now)) (room₁ : Room u8 (length x₁.now)) (room : Room R (length ys)) (room₃ : Room u32 (length logs)) (room₄ : Room u32 (length x₄.now)) where
+    (gs : Is RS ss (low_s ss ∷ [])) (room₀ : Room u32 (length x₀.now)) (room₁ : Room u8 (length x₁.now)) (room : Room R (length ys)) (room₃ : Room u32 (length logs)) (room₄ : Room u32 (length x₄.now)) where
   open 𝓛 use {H}
 
   abbrev κs : Lfts 5
@@ -96,16 +96,16 @@ module _ {M : Type 1} {𝓤 : Ura M} (𝓛 : Logic 𝓤) (mem : Memory → SProp
   Arg = Sessions × (Bor (List ℕ) × (Bor (List ℕ) × (Bor (List Lock) × (Bor (List ℕ) × (Bor (List ℕ) × Unit {0})))))
 
   abbrev a : Arg
-  a = (ss, (x₀, (x₁, (ref-at b o γ ys, (ref-at b₃ o₃ γ₃ logs, (x₄, tt))))))
+  a = (ss, (x₀, (x₁, (ref_at b o γ ys, (ref_at b₃ o₃ γ₃ logs, (x₄, tt))))))
 
-  abbrev at : Vals set-up.signature κs
-  at = (low-s ss ∷ [], (shr_slice_vals x₀, (shr_slice_vals x₁, (s ∷ [], (s₃ ∷ [], (shr_slice_vals x₄, tt))))))
+  abbrev at : Vals set_up_lem.signature κs
+  at = (low_s ss ∷ [], (shr_slice_vals x₀, (shr_slice_vals x₁, (s ∷ [], (s₃ ∷ [], (shr_slice_vals x₄, tt))))))
 
   abbrev Passed : List Val
-  Passed = low-s ss ∷ slice_val x₀.ref_ptr (length x₀.now) ∷ slice_val x₁.ref_ptr (length x₁.now) ∷ s ∷ s₃ ∷ slice_val x₄.ref_ptr (length x₄.now) ∷ []
+  Passed = low_s ss ∷ slice_val x₀.ref_ptr (length x₀.now) ∷ slice_val x₁.ref_ptr (length x₁.now) ∷ s ∷ s₃ ∷ slice_val x₄.ref_ptr (length x₄.now) ∷ []
 
   abbrev Post : Val → SProp 𝓤
-  Post = (walk_of 𝓛 set-up.ended stayed (set-up.clauses 𝓛 mem run)).post ((κs, qs, tt, a, at), tt)
+  Post = (walk_of 𝓛 set_up_lem.ended stayed (set_up_lem.clauses 𝓛 mem run)).post ((κs, qs, tt, a, at), tt)
 
   -- what each slice owns
   abbrev Values : Fml
@@ -115,10 +115,10 @@ module _ {M : Type 1} {𝓤 : Ura M} (𝓛 : Logic 𝓤) (mem : Memory → SProp
   Classes = (ShrSlice (named 0) κ₁ u8).own_val x₁ (shr_slice_vals x₁)
 
   abbrev Locks : List Lock → Fml
-  Locks zs = (MutSlice (named 0) κ₂ R).own_val (ref-at b o γ zs) (s ∷ [])
+  Locks zs = (MutSlice (named 0) κ₂ R).own_val (ref_at b o γ zs) (s ∷ [])
 
   abbrev Logs : List ℕ → Fml
-  Logs ws = (MutSlice (named 0) κ₃ u32).own_val (ref-at b₃ o₃ γ₃ ws) (s₃ ∷ [])
+  Logs ws = (MutSlice (named 0) κ₃ u32).own_val (ref_at b₃ o₃ γ₃ ws) (s₃ ∷ [])
 
   abbrev Caps : Fml
   Caps = (ShrSlice (named 0) κ₄ u32).own_val x₄ (shr_slice_vals x₄)
@@ -128,10 +128,10 @@ module _ {M : Type 1} {𝓤 : Ura M} (𝓛 : Logic 𝓤) (mem : Memory → SProp
 
   -- ---- `set_up_turn_by`, lent the logs
   abbrev told : GName → Sessions × (MutBor (List ℕ) × (MutBor (List ℕ) × (ℕ × (MutBor (List ℕ) × (MutBor (List ℕ) × Unit {0})))))
-  told δ = (ss, (x₀, (x₁, (n, (ref-at b₃ o₃ δ logs, (x₄, tt))))))
+  told δ = (ss, (x₀, (x₁, (n, (ref_at b₃ o₃ δ logs, (x₄, tt))))))
 
   abbrev to : ℕ → GName → (SetUpTurn 𝓛 mem run).Ghost
-  to ν δ = (((κ₀, (κ₁, (ν ∷ [], (κ₄, tt)))), (q₀, (q₁, (full_share, (q₄, tt)))), tt, told δ, (low-s ss ∷ [], (mut_slice_vals x₀, (mut_slice_vals x₁, (vint w64 n ∷ [], (s₃ ∷ [], (mut_slice_vals x₄, tt))))))), tt)
+  to ν δ = (((κ₀, (κ₁, (ν ∷ [], (κ₄, tt)))), (q₀, (q₁, (full_share, (q₄, tt)))), tt, told δ, (low_s ss ∷ [], (mut_slice_vals x₀, (mut_slice_vals x₁, (vint w64 n ∷ [], (s₃ ∷ [], (mut_slice_vals x₄, tt))))))), tt)
 
   abbrev Says : List ℕ → Turn → Type 0
   Says ws t = IsSetUpTurn G x₀.now x₁.now n logs ss ws t
@@ -145,14 +145,14 @@ module _ {M : Type 1} {𝓤 : Ura M} (𝓛 : Logic 𝓤) (mem : Memory → SProp
   abbrev Asks : Item 𝓤
   Asks = ‵ Values ⊛ (‵ Classes ⊛ (‵ Caps ⊛ (‵ (flft κ₀ q₀) ⊛ (‵ (flft κ₁ q₁) ⊛ ‵ (flft κ₄ q₄)))))
 
-  goes : (ν : ℕ) (δ : GName) → ent 𝓤 (⋆ 𝓛 (‵ (flft (ν ∷ []) full_share) ∷ ‵ ((MutSlice (named 0) (ν ∷ []) u32).own_val (ref-at b₃ o₃ δ logs) (s₃ ∷ [])) ∷ Asks ∷ [])) ((SetUpTurn 𝓛 mem run).pre (to ν δ))
+  goes : (ν : ℕ) (δ : GName) → ent 𝓤 (⋆ 𝓛 (‵ (flft (ν ∷ []) full_share) ∷ ‵ ((MutSlice (named 0) (ν ∷ []) u32).own_val (ref_at b₃ o₃ δ logs) (s₃ ∷ [])) ∷ Asks ∷ [])) ((SetUpTurn 𝓛 mem run).pre (to ν δ))
   goes ν δ =
-      qed 𝓛 (‵ (flft (ν ∷ []) full_share) ∷ ‵ ((MutSlice (named 0) (ν ∷ []) u32).own_val (ref-at b₃ o₃ δ logs) (s₃ ∷ [])) ∷ Asks ∷ []) ∵ move ! (2 ∷ []) $ split ! $ move ! (1 ∷ []) $ split ! $ move ! (1 ∷ []) $ split ! $ move ! (1 ∷ []) $ split ! $ move ! (1 ∷ []) $ split ! $
+      qed 𝓛 (‵ (flft (ν ∷ []) full_share) ∷ ‵ ((MutSlice (named 0) (ν ∷ []) u32).own_val (ref_at b₃ o₃ δ logs) (s₃ ∷ [])) ∷ Asks ∷ []) ∵ move ! (2 ∷ []) $ split ! $ move ! (1 ∷ []) $ split ! $ move ! (1 ∷ []) $ split ! $ move ! (1 ∷ []) $ split ! $ move ! (1 ∷ []) $ split ! $
       -- [classes' token; caps'; values'; caps; classes; values; the token of ν; logs]
       nothing ! $ move ! (2 ∷ 0 ∷ []) $ join ! $ move ! (6 ∷ 0 ∷ []) $ join ! $ move ! (1 ∷ 0 ∷ []) $ join ! $ move ! (1 ∷ 0 ∷ []) $ join ! $
       -- [the tokens; caps; classes; values; logs]
       nothing ! $ move ! (2 ∷ 0 ∷ []) $ fjoin ! $ move ! (4 ∷ 0 ∷ []) $ fjoin ! $ owned ! usize (Is usize) (uint_Makes 𝓛 w64) n _ (refl, room.0) $ fjoin ! $ move ! (2 ∷ 0 ∷ []) $ fjoin ! $ move ! (2 ∷ 0 ∷ []) $ fjoin ! $
-      owned ! RS (Is RS) (makes-s 𝓛) ss (low-s ss ∷ []) gs $ fjoin ! $ move ! (1 ∷ 0 ∷ []) $ join ! $ frame ! $ done !
+      owned ! RS (Is RS) (makes_s 𝓛) ss (low_s ss ∷ []) gs $ fjoin ! $ move ! (1 ∷ 0 ∷ []) $ join ! $ frame ! $ done !
 
   gets : (ν : ℕ) (δ : GName) (v : Val) → ent 𝓤 ((SetUpTurn 𝓛 mem run).post (to ν δ) v) (mean 𝓛 (later (some (λ (ws : List ℕ). given (length ws ≡ k) (‵ (flft (ν ∷ []) full_share) ⊛ (‵ (finally u32 δ ws) ⊛ gives v ws))))))
   gets ν δ v =
@@ -170,23 +170,23 @@ module _ {M : Type 1} {𝓤 : Ura M} (𝓛 : Logic 𝓤) (mem : Memory → SProp
   abbrev Ends : List Lock → List ℕ → List (Item 𝓤)
   Ends zs ws = ‵ (Locks zs) ∷ ‵ (flft κ₂ q₂) ∷ ‵ (Logs ws) ∷ ‵ (flft κ₃ q₃) ∷ ‵ (flft κ₁ q₁) ∷ ‵ (flft κ₄ q₄) ∷ ‵ (flft κ₀ q₀) ∷ ‵ Caps ∷ ‵ Classes ∷ ‵ Values ∷ []
 
-  exits : (t : Turn) (v : Val) → Is RU t (v ∷ []) → (zs : List Lock) (ws : List ℕ) → Says ws t → length zs ≡ n → zs ≡ sweptBy ws t.change ys → length ws ≡ k → ent 𝓤 (⋆ 𝓛 (Ends zs ws)) (Post (low-a t.reply))
+  exits : (t : Turn) (v : Val) → Is RU t (v ∷ []) → (zs : List Lock) (ws : List ℕ) → Says ws t → length zs ≡ n → zs ≡ swept_by ws t.change ys → length ws ≡ k → ent 𝓤 (⋆ 𝓛 (Ends zs ws)) (Post (low_a t.reply))
   exits t v p zs ws f len put len₃ =
       qed 𝓛 (Ends zs ws) ∵
-      suffices ! _ (ends_at 𝓛 set-up.ended stayed (set-up.clauses 𝓛 mem run) ((κs, qs, tt, a, at), tt) (low-a t.reply) t.reply (tt, (tt, (tt, (zs, (ws, (tt, tt)))))) (tt, (tt, (tt, (len, (len₃, (tt, tt))))))) $
-      says ! (ap (λ (us : List Lock). outcome t.reply.answer (storeOn G x₀.now x₁.now us ws t.reply.sessions)) put ∙ f.1 ys refl) $
+      suffices ! _ (ends_at 𝓛 set_up_lem.ended stayed (set_up_lem.clauses 𝓛 mem run) ((κs, qs, tt, a, at), tt) (low_a t.reply) t.reply (tt, (tt, (tt, (zs, (ws, (tt, tt)))))) (tt, (tt, (tt, (len, (len₃, (tt, tt))))))) $
+      says ! (ap (λ (us : List Lock). outcome t.reply.answer (store_on G x₀.now x₁.now us ws t.reply.sessions)) put ∙ f.1 ys refl) $
       nothing ! $ move ! (6 ∷ 0 ∷ []) $ join ! $ move ! (4 ∷ 0 ∷ []) $ join ! $ move ! (2 ∷ 0 ∷ []) $ join ! $ move ! (3 ∷ 0 ∷ []) $ join ! $ move ! (3 ∷ 0 ∷ []) $ join ! $ frame ! $
       -- [locks; logs; caps; classes; values]
       nothing ! $ move ! (3 ∷ 0 ∷ []) $ fjoin ! $ move ! (2 ∷ 0 ∷ []) $ fjoin ! $ move ! (1 ∷ 0 ∷ []) $ fjoin ! $ move ! (1 ∷ 0 ∷ []) $ fjoin ! $ move ! (1 ∷ 0 ∷ []) $ fjoin ! $
-      owned ! RS (Is RS) (makes-s 𝓛) ss (low-s ss ∷ []) gs $ fjoin ! $ frame ! $ owned ! Ra (Is Ra) (makes-a 𝓛) t.reply (low-a t.reply ∷ []) (reply-is t v p) $ done !
+      owned ! RS (Is RS) (makes_s 𝓛) ss (low_s ss ∷ []) gs $ fjoin ! $ frame ! $ owned ! Ra (Is Ra) (makes_a 𝓛) t.reply (low_a t.reply ∷ []) (reply_is t v p) $ done !
 
   module _ (C : Calls 𝓤 H) (Λ : Loops 𝓤 H) (fm : FmC 𝓤 H 𝓛.laws C) (known-turn : Triple 𝓤 (C #run-turns·set-up-turn-by) (SetUpTurn 𝓛 mem run)) (known-sweep : Triple 𝓤 (C #lock-run·sweep) (Sweep 𝓛 mem run)) where
-    walk : ent 𝓤 (on_entry 𝓛 set-up.signature κs qs a at) (WpFn 𝓤 H C Λ code.function Passed Post)
+    walk : ent 𝓤 (on_entry 𝓛 set_up_lem.signature κs qs a at) (WpFn 𝓤 H C Λ code.function Passed Post)
     walk =
         qed 𝓛 ((‵ (flft κ₀ q₀) ⊛ (‵ (flft κ₁ q₁) ⊛ (‵ (flft κ₂ q₂) ⊛ (‵ (flft κ₃ q₃) ⊛ (‵ (flft κ₄ q₄) ⊛ ‵ ftrue))))) ∷ ‵ (owns (RS ∷ ShrSlice (named 0) κ₀ u32 ∷ ShrSlice (named 1) κ₁ u8 ∷ MutSlice (named 2) κ₂ R ∷ MutSlice (named 3) κ₃ u32 ∷ ShrSlice (named 4) κ₄ u32 ∷ []) a at) ∷ []) ∵
         enter ! C Λ code.function Passed _ $
         allocates ! _ (λ bs. params1 ! $
-        pass1 ! (init ! 28 refl (typed-s 𝓛 ss (low-s ss) gs)) $ pass1 ! (init ! 26 refl (tt, (tt, (record { fits = room₀.0 }, tt)))) $ pass1 ! (init ! 24 refl (tt, (tt, (record { fits = room₁.0 }, tt)))) $
+        pass1 ! (init ! 28 refl (typed_s 𝓛 ss (low_s ss) gs)) $ pass1 ! (init ! 26 refl (tt, (tt, (record { fits = room₀.0 }, tt)))) $ pass1 ! (init ! 24 refl (tt, (tt, (record { fits = room₁.0 }, tt)))) $
         pass1 ! (init ! 22 refl (tt, (tt, (record { fits = room.0 }, tt)))) $ pass1 ! (init ! 20 refl (tt, (tt, (record { fits = room₃.0 }, tt)))) $ pass1 ! (init ! 18 refl (tt, (tt, (record { fits = room₄.0 }, tt)))) $ pass0 ! $
         move ! (33 ∷ []) $ fsplit ! $ move ! (1 ∷ []) $ fsplit ! $ move ! (1 ∷ []) $ fsplit ! $ move ! (1 ∷ []) $ fsplit ! $ move ! (1 ∷ []) $ fsplit ! $ move ! (1 ∷ []) $ fsplit ! $
         move ! (39 ∷ []) $ split ! $ move ! (1 ∷ []) $ split ! $ move ! (1 ∷ []) $ split ! $ move ! (1 ∷ []) $ split ! $ move ! (1 ∷ []) $ split ! $ move ! (1 ∷ 7 ∷ 12 ∷ []) $ drop ! $ drop ! $ drop ! $
@@ -201,18 +201,18 @@ module _ {M : Type 1} {𝓤 : Ura M} (𝓛 : Logic 𝓤) (mem : Memory → SProp
         -- [logs; its token; what else `set_up_turn_by` asks; caps; classes; values; locks' token; locks; _15 at 8; …]
         lent ! fm (SetUpTurn 𝓛 mem run) known-turn u32 κ₃ q₃ b₃ o₃ k γ₃ logs refl room₃ gives to goes gets
         (λ ν δ i j. and_then ! (var ! 35 refl) (and_then ! (var ! 33 refl) (and_then ! (var ! 31 refl) (and_then ! (var ! 21 refl) (and_then ! (var ! 17 refl) (and_then ! (var ! 25 refl) (no_more !))))))) (λ v ws len₃. move ! (2 ∷ []) $ pick ! (λ t. learn ! (λ f. split ! $
-        peeks ! RU (Is RU) (shows 𝓛 RU) t (v ∷ []) (λ p. land ! (from ! (stop !)) (init ! 25 refl (typed-u 𝓛 t v p)) $ drop ! $ split ! $ move ! (1 ∷ []) $ split ! $
+        peeks ! RU (Is RU) (shows 𝓛 RU) t (v ∷ []) (λ p. land ! (from ! (stop !)) (init ! 25 refl (typed_u 𝓛 t v p)) $ drop ! $ split ! $ move ! (1 ∷ []) $ split ! $
         -- [classes' token; caps'; values'; logs; its token; caps; classes; values; locks' token; locks; _15 at 10; …]
         rewrite ! 26 (λ (w : Val). ‵ (fat full_share U'.mir bs.1.1.1.1.1.1.1.0 0 w)) (turn_is t v p) refl $ nothing ! $ move ! (10 ∷ 9 ∷ 4 ∷ 5 ∷ 0 ∷ []) $
         -- [locks; its token; logs; its token; true; classes' token; caps'; values'; caps; classes; values; _15 at 11; …]
         relends ! 33 refl refl 17 refl (tt, tt) refl refl 15 refl (tt, (tt, (record { fits = room.0 }, tt))) $
         relends ! 31 refl refl 13 refl (tt, tt) refl refl 11 refl (tt, (tt, (record { fits = room₃.0 }, tt))) $
-        let gd = change-is t v p in
+        let gd = change_is t v p in
         lent_both ! fm (Sweep 𝓛 mem run) known-sweep R κ₂ q₂ b o n γ ys refl room u32 κ₃ q₃ b₃ o₃ k γ₃ ws len₃ room₃ (sw-gives 𝓛 mem run b o n ys b₃ o₃ k ws t.change gd f.0) (sw-to 𝓛 mem run b o n ys b₃ o₃ k ws t.change gd f.0)
-        (sw-goes 𝓛 mem run b o n ys b₃ o₃ k ws t.change gd f.0) (sw-gets 𝓛 mem run b o n ys b₃ o₃ k ws t.change gd f.0 refl)
+        (sw_goes 𝓛 mem run b o n ys b₃ o₃ k ws t.change gd f.0) (sw_gets 𝓛 mem run b o n ys b₃ o₃ k ws t.change gd f.0 refl)
         (λ ν δ δ₂ i j l. and_then ! (var ! 13 refl) (and_then ! (var ! 9 refl) (and_then ! (load ! (from ! (fld ! refl (stop !))) (look_in ! 25 (sub ! 1 refl (whole !)))) (no_more !)))) (λ u zs len. move ! (4 ∷ []) $ learn ! (λ put. peeks ! unit (Is unit) (shows 𝓛 unit) tt (u ∷ []) (λ pu.
         land ! (from ! (stop !)) (init ! 19 refl ((Nothing-Lawful 𝓛).typed tt (u ∷ []) pu).0) $ drop ! $
-        sets ! (of_opd ! (load ! (from ! (fld ! refl (stop !))) (look_in ! 26 (sub ! 0 refl (whole !))))) 40 refl (typed-a 𝓛 t.reply (low-a t.reply) (reply-is t v p)) $
+        sets ! (of_opd ! (load ! (from ! (fld ! refl (stop !))) (look_in ! 26 (sub ! 0 refl (whole !))))) 40 refl (typed_a 𝓛 t.reply (low_a t.reply) (reply_is t v p)) $
         returns ! (look ! 40 refl) $ leave ! 10 (full _ ∷ full _ ∷ full _ ∷ full _ ∷ full _ ∷ full _ ∷ full _ ∷ full _ ∷ full _ ∷ full _ ∷ full _ ∷ full _ ∷ full _ ∷ full _ ∷ full _ ∷ full _ ∷ []) refl $
         by ! (exits t v p zs ws f len put len₃)))))))))
 
@@ -220,22 +220,22 @@ module _ {M : Type 1} {𝓤 : Ura M} (𝓛 : Logic 𝓤) (mem : Memory → SProp
     (known-turn : Triple 𝓤 (𝓣.C #run-turns·set-up-turn-by) (SetUpTurn 𝓛 mem run)) (known-sweep : Triple 𝓤 (𝓣.C #lock-run·sweep) (Sweep 𝓛 mem run)) where
   open 𝓛 use {H}
 
-  walks : Walks 𝓛 set-up.ended stayed (WpFn 𝓤 H 𝓣.C 𝓣.Λ code.function) (set-up.clauses 𝓛 mem run)
-  walks = walked 𝓛 set-up.ended stayed (set-up.clauses 𝓛 mem run) (WpFn 𝓤 H 𝓣.C 𝓣.Λ code.function) (λ κs. (λ (k : Sessions). low-s k ∷ [], (shr_slice_vals, (shr_slice_vals, (shr_slice_vals, (shr_slice_vals, (shr_slice_vals, tt)))))))
-      (λ κs. (tells-s, (shr_slice_Tells (named 0) κs.0 u32, (shr_slice_Tells (named 1) κs.1.0 u8, (mut_slice_Tells (named 2) κs.1.1.0 R, (mut_slice_Tells (named 3) κs.1.1.1.0 u32, (shr_slice_Tells (named 4) κs.1.1.1.1.0 u32, tt)))))))
+  walks : Walks 𝓛 set_up_lem.ended stayed (WpFn 𝓤 H 𝓣.C 𝓣.Λ code.function) (set_up_lem.clauses 𝓛 mem run)
+  walks = walked 𝓛 set_up_lem.ended stayed (set_up_lem.clauses 𝓛 mem run) (WpFn 𝓤 H 𝓣.C 𝓣.Λ code.function) (λ κs. (λ (k : Sessions). low_s k ∷ [], (shr_slice_vals, (shr_slice_vals, (shr_slice_vals, (shr_slice_vals, (shr_slice_vals, tt)))))))
+      (λ κs. (tells_s, (shr_slice_Tells (named 0) κs.0 u32, (shr_slice_Tells (named 1) κs.1.0 u8, (mut_slice_Tells (named 2) κs.1.1.0 R, (mut_slice_Tells (named 3) κs.1.1.1.0 u32, (shr_slice_Tells (named 4) κs.1.1.1.1.0 u32, tt)))))))
       (λ κs qs bounds a g are. via 𝓤 _ (fst∗ 𝓤 _ (emp 𝓤))
       (walk 𝓛 mem run κs.0 κs.1.0 κs.1.1.0 κs.1.1.1.0 κs.1.1.1.1.0 qs.0 qs.1.0 qs.1.1.0 qs.1.1.1.0 qs.1.1.1.1.0 a.0 a.1.0 a.1.1.0
       a.1.1.1.0.ref_ptr.0 a.1.1.1.0.ref_ptr.1 a.1.1.1.0.ghost_name a.1.1.1.0.now a.1.1.1.1.0.ref_ptr.0 a.1.1.1.1.0.ref_ptr.1 a.1.1.1.1.0.ghost_name a.1.1.1.1.0.now a.1.1.1.1.1.0
       are.0 are.1.0.0.1 are.1.1.0.0.1 are.1.1.1.0.0.1 are.1.1.1.1.0.0.1 are.1.1.1.1.1.0.0.1 𝓣.C 𝓣.Λ (fm_of 𝓤 H 𝓛.laws 𝓣) known-turn known-sweep))
 
-  meets : Meets 𝓛 set-up.signature (WpFn 𝓤 H 𝓣.C 𝓣.Λ code.function) (set-up.spec 𝓛 mem run)
-  meets = walk_Meets 𝓛 set-up.ended stayed (Goes-none 𝓛 5 (λ _. RS) yes (λ κs x f. refl), (Goes-none_slice 𝓛 5 (0 ∷ []) tt (plain (λ _. u32)) yes, (Goes-none_slice 𝓛 5 (1 ∷ []) tt (plain (λ _. u8)) yes, (Goes-slice 𝓛 5 2 tt (plain (λ _. R)), (Goes-slice 𝓛 5 3 tt (plain (λ _. u32)), (Goes-none_slice 𝓛 5 (4 ∷ []) tt (plain (λ _. u32)) yes, tt))))))
-      (set-up.clauses 𝓛 mem run) (WpFn 𝓤 H 𝓣.C 𝓣.Λ code.function) (WpFn-mono 𝓤 H 𝓛.laws 𝓣 code.function) walks
+  meets : Meets 𝓛 set_up_lem.signature (WpFn 𝓤 H 𝓣.C 𝓣.Λ code.function) (set_up_lem.spec 𝓛 mem run)
+  meets = walk_Meets 𝓛 set_up_lem.ended stayed (Goes-none 𝓛 5 (λ _. RS) yes (λ κs x f. refl), (Goes-none_slice 𝓛 5 (0 ∷ []) tt (plain (λ _. u32)) yes, (Goes-none_slice 𝓛 5 (1 ∷ []) tt (plain (λ _. u8)) yes, (Goes-slice 𝓛 5 2 tt (plain (λ _. R)), (Goes-slice 𝓛 5 3 tt (plain (λ _. u32)), (Goes-none_slice 𝓛 5 (4 ∷ []) tt (plain (λ _. u32)) yes, tt))))))
+      (set_up_lem.clauses 𝓛 mem run) (WpFn 𝓤 H 𝓣.C 𝓣.Λ code.function) (WpFn-mono 𝓤 H 𝓛.laws 𝓣 code.function) walks
 
 pub set-up-with-caps-spec : {M : Type 1} → stated.statement M
 unfolding code.routine tables_of
 set-up-with-caps-spec 𝓤 𝓛 𝓜 𝓡 =
-    entered 𝓤 𝓛.H (triple_of 𝓛 set-up.signature (set-up.spec 𝓛 𝓜.mem 𝓡.run))
+    entered 𝓤 𝓛.H (triple_of 𝓛 set_up_lem.signature (set_up_lem.spec 𝓛 𝓜.mem 𝓡.run))
     (tables 𝓤 𝓛.H 𝓜 𝓡 code.env).C (tables 𝓤 𝓛.H 𝓜 𝓡 code.env).Λ #lock-records·set-up-with-caps code.function (code.unfolded 𝓤 𝓛.H 𝓜 𝓡)
     (meets 𝓛 𝓜.mem 𝓡.run (tables_of 𝓤 𝓛.H 𝓜 (tables 𝓤 𝓛.H 𝓜 𝓡 code.env))
     (cited 𝓤 𝓛.H (SetUpTurn 𝓛 𝓜.mem 𝓡.run) 𝓜 𝓡 code.env #run-turns·set-up-turn-by set-up-turn-def.routine code.calls-run-turns::set-up-turn-by (set-up-turn-thm.met 𝓤 𝓛 𝓜 𝓡))

@@ -43,15 +43,15 @@ use Rattle.records.specs.declared.Lock.{Lock}
 use Rattle.records.specs.declared.Sessions.{Sessions}
 use Rattle.records.specs.declared.Call.TheVariants.{Write}
 use Rattle.run_turns.specs.declared.Turn.{Turn}
-use Rattle.run_changes.specs.Run.{storeOn, lockIn, sweptBy}
+use Rattle.run_changes.specs.Run.{store_on, lock_in, swept_by}
 use Rattle.run_turns.specs.Turns.{IsTurnUnder}
 use Rattle.run_turns.proofs.Turn.TheLaws as U'
 use Rattle.lock_run.proofs.Row.{R, makes, typed_at}
-use Rattle.lock_records.proofs.Row.{RS, low-s, tells-s, makes-s, typed-s, Ra, low-a, makes-a, typed-a, RU, typed-u, turn_is, reply-is, change-is}
+use Rattle.lock_records.proofs.Row.{RS, low_s, tells_s, makes_s, typed_s, Ra, low_a, makes_a, typed_a, RU, typed_u, turn_is, reply_is, change_is}
 use Rattle.lock_run.proofs.Leave.{full, leave}
 use Rattle.lock_run.proofs.Short.{allocates, var, sets, relends}
-use Rattle.lock_run.proofs.Lent.{ref-at, lent, lent-shared, lent_both}
-use Rattle.lock_run.proofs.Calls.{LockAt, at-to, at_gives, at_goes, at-gets, Sweep, sw-to, sw-gives, sw-goes, sw-gets}
+use Rattle.lock_run.proofs.Lent.{ref_at, lent, lent_shared, lent_both}
+use Rattle.lock_run.proofs.Calls.{LockAt, at-to, at_gives, at_goes, at_gets, Sweep, sw-to, sw-gives, sw_goes, sw_gets}
 use Rattle.lock_run.proofs.lock_at.Symbol as lock-at-def
 use Rattle.lock_run.proofs.lock_at.Symbol.{name as #lock-run·lock-at}
 use Rattle.lock_run.proofs.lock_at.Met as lock-at-thm
@@ -76,7 +76,7 @@ WriteTurn 𝓛 mem run = triple_of 𝓛 write-turn.signature (write-turn.spec �
 -- the numbers: session i, cell c, and the value w that is written
 module _ {M : Type 1} {𝓤 : Ura M} (𝓛 : Logic 𝓤) (mem : Memory → SProp 𝓤) (run : Routine → Fun 𝓤)
     (κ₀ κ₁ κ₂ κ₃ κ₄ : Lft) (q₀ q₁ q₂ q₃ q₄ : Share) (ss : Sessions) (x₀ x₁ : MutBor (List ℕ)) (b o : ℕ) (γ : GName) (ys : List Lock) (b₃ o₃ : ℕ) (γ₃ : GName) (logs : List ℕ) (x₄ : MutBor (List ℕ)) (i c w : ℕ)
-    (gs : Is RS ss (low-s ss ∷ [])) (room₀ : Room u32 (length x₀.now)) (room₁ : Room u8 (length x₁.now)) (room : Room R (length ys)) (room₃ : Room u32 (length logs)) (room₄ : Room u32 (length x₄.now))
+    (gs : Is RS ss (low_s ss ∷ [])) (room₀ : Room u32 (length x₀.now)) (room₁ : Room u8 (length x₁.now)) (room : Room R (length ys)) (room₃ : Room u32 (length logs)) (room₄ : Room u32 (length x₄.now))
     (fi : i < 2 ^ 8) (fc : c < 2 ^ 32) (fw : w < 2 ^ 32) where
   open 𝓛 use {H}
 
@@ -103,13 +103,13 @@ module _ {M : Type 1} {𝓤 : Ura M} (𝓛 : Logic 𝓤) (mem : Memory → SProp
   Arg = Sessions × (Bor (List ℕ) × (Bor (List ℕ) × (Bor (List Lock) × (Bor (List ℕ) × (Bor (List ℕ) × (ℕ × (ℕ × (ℕ × Unit {0}))))))))
 
   abbrev a : Arg
-  a = (ss, (x₀, (x₁, (ref-at b o γ ys, (ref-at b₃ o₃ γ₃ logs, (x₄, (i, (c, (w, tt)))))))))
+  a = (ss, (x₀, (x₁, (ref_at b o γ ys, (ref_at b₃ o₃ γ₃ logs, (x₄, (i, (c, (w, tt)))))))))
 
   abbrev at : Vals write.signature κs
-  at = (low-s ss ∷ [], (shr_slice_vals x₀, (shr_slice_vals x₁, (s ∷ [], (s₃ ∷ [], (shr_slice_vals x₄, (vint w8 i ∷ [], (vint w32 c ∷ [], (vint w32 w ∷ [], tt)))))))))
+  at = (low_s ss ∷ [], (shr_slice_vals x₀, (shr_slice_vals x₁, (s ∷ [], (s₃ ∷ [], (shr_slice_vals x₄, (vint w8 i ∷ [], (vint w32 c ∷ [], (vint w32 w ∷ [], tt)))))))))
 
   abbrev Passed : List Val
-  Passed = low-s ss ∷ slice_val x₀.ref_ptr (length x₀.now) ∷ slice_val x₁.ref_ptr (length x₁.now) ∷ s ∷ s₃ ∷ slice_val x₄.ref_ptr (length x₄.now) ∷ vint w8 i ∷ vint w32 c ∷ vint w32 w ∷ []
+  Passed = low_s ss ∷ slice_val x₀.ref_ptr (length x₀.now) ∷ slice_val x₁.ref_ptr (length x₁.now) ∷ s ∷ s₃ ∷ slice_val x₄.ref_ptr (length x₄.now) ∷ vint w8 i ∷ vint w32 c ∷ vint w32 w ∷ []
 
   abbrev Post : Val → SProp 𝓤
   Post = (walk_of 𝓛 write.ended stayed (write.clauses 𝓛 mem run)).post ((κs, qs, tt, a, at), tt)
@@ -122,10 +122,10 @@ module _ {M : Type 1} {𝓤 : Ura M} (𝓛 : Logic 𝓤) (mem : Memory → SProp
   Classes = (ShrSlice (named 0) κ₁ u8).own_val x₁ (shr_slice_vals x₁)
 
   abbrev Locks : List Lock → Fml
-  Locks zs = (MutSlice (named 0) κ₂ R).own_val (ref-at b o γ zs) (s ∷ [])
+  Locks zs = (MutSlice (named 0) κ₂ R).own_val (ref_at b o γ zs) (s ∷ [])
 
   abbrev Logs : List ℕ → Fml
-  Logs ws = (MutSlice (named 0) κ₃ u32).own_val (ref-at b₃ o₃ γ₃ ws) (s₃ ∷ [])
+  Logs ws = (MutSlice (named 0) κ₃ u32).own_val (ref_at b₃ o₃ γ₃ ws) (s₃ ∷ [])
 
   abbrev Caps : Fml
   Caps = (ShrSlice (named 0) κ₄ u32).own_val x₄ (shr_slice_vals x₄)
@@ -140,10 +140,10 @@ module _ {M : Type 1} {𝓤 : Ura M} (𝓛 : Logic 𝓤) (mem : Memory → SProp
   -- ---- `write_turn`, lent the logs, with the lock r that is at v
   module _ (r : Lock) (v : Val) (pr : Is R r (v ∷ [])) where
     abbrev told : GName → Sessions × (MutBor (List ℕ) × (MutBor (List ℕ) × (ℕ × (Lock × (MutBor (List ℕ) × (MutBor (List ℕ) × (ℕ × (ℕ × (ℕ × Unit {0})))))))))
-    told δ = (ss, (x₀, (x₁, (n, (r, (ref-at b₃ o₃ δ logs, (x₄, (i, (c, (w, tt))))))))))
+    told δ = (ss, (x₀, (x₁, (n, (r, (ref_at b₃ o₃ δ logs, (x₄, (i, (c, (w, tt))))))))))
 
     abbrev to : ℕ → GName → (WriteTurn 𝓛 mem run).Ghost
-    to ν δ = (((κ₀, (κ₁, (ν ∷ [], (κ₄, tt)))), (q₀, (q₁, (full_share, (q₄, tt)))), tt, told δ, (low-s ss ∷ [], (mut_slice_vals x₀, (mut_slice_vals x₁, (vint w64 n ∷ [], (v ∷ [], (s₃ ∷ [], (mut_slice_vals x₄, (vint w8 i ∷ [], (vint w32 c ∷ [], (vint w32 w ∷ [], tt))))))))))), tt)
+    to ν δ = (((κ₀, (κ₁, (ν ∷ [], (κ₄, tt)))), (q₀, (q₁, (full_share, (q₄, tt)))), tt, told δ, (low_s ss ∷ [], (mut_slice_vals x₀, (mut_slice_vals x₁, (vint w64 n ∷ [], (v ∷ [], (s₃ ∷ [], (mut_slice_vals x₄, (vint w8 i ∷ [], (vint w32 c ∷ [], (vint w32 w ∷ [], tt))))))))))), tt)
 
     abbrev Says : List ℕ → Turn → Type 0
     Says ws t = IsTurnUnder G (Write i c w) c x₀.now x₁.now n r logs ss x₀.now ws t
@@ -157,15 +157,15 @@ module _ {M : Type 1} {𝓤 : Ura M} (𝓛 : Logic 𝓤) (mem : Memory → SProp
     abbrev Asks : Item 𝓤
     Asks = ‵ Values ⊛ (‵ Classes ⊛ (‵ Caps ⊛ (‵ (flft κ₀ q₀) ⊛ (‵ (flft κ₁ q₁) ⊛ ‵ (flft κ₄ q₄)))))
 
-    goes : (ν : ℕ) (δ : GName) → ent 𝓤 (⋆ 𝓛 (‵ (flft (ν ∷ []) full_share) ∷ ‵ ((MutSlice (named 0) (ν ∷ []) u32).own_val (ref-at b₃ o₃ δ logs) (s₃ ∷ [])) ∷ Asks ∷ [])) ((WriteTurn 𝓛 mem run).pre (to ν δ))
+    goes : (ν : ℕ) (δ : GName) → ent 𝓤 (⋆ 𝓛 (‵ (flft (ν ∷ []) full_share) ∷ ‵ ((MutSlice (named 0) (ν ∷ []) u32).own_val (ref_at b₃ o₃ δ logs) (s₃ ∷ [])) ∷ Asks ∷ [])) ((WriteTurn 𝓛 mem run).pre (to ν δ))
     goes ν δ =
-        qed 𝓛 (‵ (flft (ν ∷ []) full_share) ∷ ‵ ((MutSlice (named 0) (ν ∷ []) u32).own_val (ref-at b₃ o₃ δ logs) (s₃ ∷ [])) ∷ Asks ∷ []) ∵ move ! (2 ∷ []) $ split ! $ move ! (1 ∷ []) $ split ! $ move ! (1 ∷ []) $ split ! $ move ! (1 ∷ []) $ split ! $ move ! (1 ∷ []) $ split ! $
+        qed 𝓛 (‵ (flft (ν ∷ []) full_share) ∷ ‵ ((MutSlice (named 0) (ν ∷ []) u32).own_val (ref_at b₃ o₃ δ logs) (s₃ ∷ [])) ∷ Asks ∷ []) ∵ move ! (2 ∷ []) $ split ! $ move ! (1 ∷ []) $ split ! $ move ! (1 ∷ []) $ split ! $ move ! (1 ∷ []) $ split ! $ move ! (1 ∷ []) $ split ! $
         -- [classes' token; caps'; values'; caps; classes; values; the token of ν; logs]
         nothing ! $ move ! (2 ∷ 0 ∷ []) $ join ! $ move ! (6 ∷ 0 ∷ []) $ join ! $ move ! (1 ∷ 0 ∷ []) $ join ! $ move ! (1 ∷ 0 ∷ []) $ join ! $
         -- [the tokens; caps; classes; values; logs]
         nothing ! $ owned ! u32 (Is u32) (uint_Makes 𝓛 w32) w _ (refl, fw) $ fjoin ! $ owned ! u32 (Is u32) (uint_Makes 𝓛 w32) c _ (refl, fc) $ fjoin ! $ owned ! u8 (Is u8) (uint_Makes 𝓛 w8) i _ (refl, fi) $ fjoin ! $
         move ! (2 ∷ 0 ∷ []) $ fjoin ! $ move ! (4 ∷ 0 ∷ []) $ fjoin ! $ owned ! R (Is R) (makes 𝓛) r (v ∷ []) pr $ fjoin ! $ owned ! usize (Is usize) (uint_Makes 𝓛 w64) n _ (refl, room.0) $ fjoin ! $ move ! (2 ∷ 0 ∷ []) $ fjoin ! $ move ! (2 ∷ 0 ∷ []) $ fjoin ! $
-        owned ! RS (Is RS) (makes-s 𝓛) ss (low-s ss ∷ []) gs $ fjoin ! $ move ! (1 ∷ 0 ∷ []) $ join ! $ frame ! $ done !
+        owned ! RS (Is RS) (makes_s 𝓛) ss (low_s ss ∷ []) gs $ fjoin ! $ move ! (1 ∷ 0 ∷ []) $ join ! $ frame ! $ done !
 
     gets : (ν : ℕ) (δ : GName) (u : Val) → ent 𝓤 ((WriteTurn 𝓛 mem run).post (to ν δ) u) (mean 𝓛 (later (some (λ (ws : List ℕ). given (length ws ≡ k) (‵ (flft (ν ∷ []) full_share) ⊛ (‵ (finally u32 δ ws) ⊛ gives u ws))))))
     gets ν δ u =
@@ -183,17 +183,17 @@ module _ {M : Type 1} {𝓤 : Ura M} (𝓛 : Logic 𝓤) (mem : Memory → SProp
   abbrev Ends : List Lock → List ℕ → List (Item 𝓤)
   Ends zs ws = ‵ (Locks zs) ∷ ‵ (flft κ₂ q₂) ∷ ‵ (Logs ws) ∷ ‵ (flft κ₃ q₃) ∷ ‵ (flft κ₁ q₁) ∷ ‵ (flft κ₄ q₄) ∷ ‵ (flft κ₀ q₀) ∷ ‵ Caps ∷ ‵ Classes ∷ ‵ Values ∷ []
 
-  exits : (r : Lock) → r ≡ lockIn ys c → (t : Turn) (v : Val) → Is RU t (v ∷ []) → (zs : List Lock) (ws : List ℕ) → IsTurnUnder G (Write i c w) c x₀.now x₁.now n r logs ss x₀.now ws t
-      → length zs ≡ n → zs ≡ sweptBy ws t.change ys → length ws ≡ k → ent 𝓤 (⋆ 𝓛 (Ends zs ws)) (Post (low-a t.reply))
+  exits : (r : Lock) → r ≡ lock_in ys c → (t : Turn) (v : Val) → Is RU t (v ∷ []) → (zs : List Lock) (ws : List ℕ) → IsTurnUnder G (Write i c w) c x₀.now x₁.now n r logs ss x₀.now ws t
+      → length zs ≡ n → zs ≡ swept_by ws t.change ys → length ws ≡ k → ent 𝓤 (⋆ 𝓛 (Ends zs ws)) (Post (low_a t.reply))
   exits r r-is t v p zs ws f len put len₃ =
       qed 𝓛 (Ends zs ws) ∵
-      suffices ! _ (ends_at 𝓛 write.ended stayed (write.clauses 𝓛 mem run) ((κs, qs, tt, a, at), tt) (low-a t.reply) t.reply (tt, (tt, (tt, (zs, (ws, (tt, (tt, (tt, (tt, tt))))))))) (tt, (tt, (tt, (len, (len₃, (tt, (tt, (tt, (tt, tt)))))))))) $
-      says ! (ap (λ (us : List Lock). outcome t.reply.answer (storeOn G x₀.now x₁.now us ws t.reply.sessions)) put ∙ f.1 ys refl (sym r-is)) $
+      suffices ! _ (ends_at 𝓛 write.ended stayed (write.clauses 𝓛 mem run) ((κs, qs, tt, a, at), tt) (low_a t.reply) t.reply (tt, (tt, (tt, (zs, (ws, (tt, (tt, (tt, (tt, tt))))))))) (tt, (tt, (tt, (len, (len₃, (tt, (tt, (tt, (tt, tt)))))))))) $
+      says ! (ap (λ (us : List Lock). outcome t.reply.answer (store_on G x₀.now x₁.now us ws t.reply.sessions)) put ∙ f.1 ys refl (sym r-is)) $
       nothing ! $ move ! (6 ∷ 0 ∷ []) $ join ! $ move ! (4 ∷ 0 ∷ []) $ join ! $ move ! (2 ∷ 0 ∷ []) $ join ! $ move ! (3 ∷ 0 ∷ []) $ join ! $ move ! (3 ∷ 0 ∷ []) $ join ! $ frame ! $
       -- [locks; logs; caps; classes; values]
       nothing ! $ owned ! u32 (Is u32) (uint_Makes 𝓛 w32) w _ (refl, fw) $ fjoin ! $ owned ! u32 (Is u32) (uint_Makes 𝓛 w32) c _ (refl, fc) $ fjoin ! $ owned ! u8 (Is u8) (uint_Makes 𝓛 w8) i _ (refl, fi) $ fjoin ! $
       move ! (3 ∷ 0 ∷ []) $ fjoin ! $ move ! (2 ∷ 0 ∷ []) $ fjoin ! $ move ! (1 ∷ 0 ∷ []) $ fjoin ! $ move ! (1 ∷ 0 ∷ []) $ fjoin ! $ move ! (1 ∷ 0 ∷ []) $ fjoin ! $
-      owned ! RS (Is RS) (makes-s 𝓛) ss (low-s ss ∷ []) gs $ fjoin ! $ frame ! $ owned ! Ra (Is Ra) (makes-a 𝓛) t.reply (low-a t.reply ∷ []) (reply-is t v p) $ done !
+      owned ! RS (Is RS) (makes_s 𝓛) ss (low_s ss ∷ []) gs $ fjoin ! $ frame ! $ owned ! Ra (Is Ra) (makes_a 𝓛) t.reply (low_a t.reply ∷ []) (reply_is t v p) $ done !
 
   module _ (C : Calls 𝓤 H) (Λ : Loops 𝓤 H) (fm : FmC 𝓤 H 𝓛.laws C) (known_at_lem : Triple 𝓤 (C #lock-run·lock-at) (LockAt 𝓛 mem run)) (known-turn : Triple 𝓤 (C #run-turns·write-turn) (WriteTurn 𝓛 mem run)) (known-sweep : Triple 𝓤 (C #lock-run·sweep) (Sweep 𝓛 mem run)) where
     walk : ent 𝓤 (on_entry 𝓛 write.signature κs qs a at) (WpFn 𝓤 H C Λ code.function Passed Post)
@@ -201,7 +201,7 @@ module _ {M : Type 1} {𝓤 : Ura M} (𝓛 : Logic 𝓤) (mem : Memory → SProp
         qed 𝓛 ((‵ (flft κ₀ q₀) ⊛ (‵ (flft κ₁ q₁) ⊛ (‵ (flft κ₂ q₂) ⊛ (‵ (flft κ₃ q₃) ⊛ (‵ (flft κ₄ q₄) ⊛ ‵ ftrue))))) ∷ ‵ (owns (RS ∷ ShrSlice (named 0) κ₀ u32 ∷ ShrSlice (named 1) κ₁ u8 ∷ MutSlice (named 2) κ₂ R ∷ MutSlice (named 3) κ₃ u32 ∷ ShrSlice (named 4) κ₄ u32 ∷ u8 ∷ u32 ∷ u32 ∷ []) a at) ∷ []) ∵
         enter ! C Λ code.function Passed _ $
         allocates ! _ (λ bs. params1 ! $
-        pass1 ! (init ! 40 refl (typed-s 𝓛 ss (low-s ss) gs)) $ pass1 ! (init ! 38 refl (tt, (tt, (record { fits = room₀.0 }, tt)))) $ pass1 ! (init ! 36 refl (tt, (tt, (record { fits = room₁.0 }, tt)))) $
+        pass1 ! (init ! 40 refl (typed_s 𝓛 ss (low_s ss) gs)) $ pass1 ! (init ! 38 refl (tt, (tt, (record { fits = room₀.0 }, tt)))) $ pass1 ! (init ! 36 refl (tt, (tt, (record { fits = room₁.0 }, tt)))) $
         pass1 ! (init ! 34 refl (tt, (tt, (record { fits = room.0 }, tt)))) $ pass1 ! (init ! 32 refl (tt, (tt, (record { fits = room₃.0 }, tt)))) $ pass1 ! (init ! 30 refl (tt, (tt, (record { fits = room₄.0 }, tt)))) $
         pass1 ! (init ! 28 refl (tt, record { fits = fi })) $ pass1 ! (init ! 26 refl (tt, record { fits = fc })) $ pass1 ! (init ! 24 refl (tt, record { fits = fw })) $ pass0 ! $
         move ! (45 ∷ []) $ fsplit ! $ move ! (1 ∷ []) $ fsplit ! $ move ! (1 ∷ []) $ fsplit ! $ move ! (1 ∷ []) $ fsplit ! $ move ! (1 ∷ []) $ fsplit ! $ move ! (1 ∷ []) $ fsplit ! $ move ! (1 ∷ []) $ fsplit ! $ move ! (1 ∷ []) $ fsplit ! $ move ! (1 ∷ []) $ fsplit ! $
@@ -211,7 +211,7 @@ module _ {M : Type 1} {𝓤 : Ura M} (𝓛 : Logic 𝓤) (mem : Memory → SProp
         sets ! (un ! (var ! 36 refl) (record { fits = wide })) 24 refl (tt, record { fits = wide }) $
         nothing ! $ move ! (8 ∷ 3 ∷ 0 ∷ []) $
         -- [locks; its token; true; caps' token; logs'; classes'; values'; caps; logs; classes; values; _21 at 11; …]
-        lent-shared ! fm (LockAt 𝓛 mem run) known_at_lem R κ₂ q₂ b o n γ ys refl room (at_gives 𝓛 mem run b o n ys c wide) (at-to 𝓛 mem run b o n ys c wide) (at_goes 𝓛 mem run b o n ys c wide) (at-gets 𝓛 mem run b o n ys c wide)
+        lent_shared ! fm (LockAt 𝓛 mem run) known_at_lem R κ₂ q₂ b o n γ ys refl room (at_gives 𝓛 mem run b o n ys c wide) (at-to 𝓛 mem run b o n ys c wide) (at_goes 𝓛 mem run b o n ys c wide) (at_gets 𝓛 mem run b o n ys c wide)
         (λ ν δ i' j. and_then ! (var ! 26 refl) (and_then ! (var ! 24 refl) (no_more !))) (λ v. move ! (2 ∷ []) $ pick ! (λ r. learn ! (λ r-is.
         peeks ! R (Is R) (shows 𝓛 R) r (v ∷ []) (λ pr. land ! (from ! (stop !)) (init ! 33 refl (typed_at 𝓛 r v pr)) $ drop ! $
         -- [locks; its token; caps' token; logs'; classes'; values'; caps; logs; classes; values; _21 at 10; …]
@@ -225,18 +225,18 @@ module _ {M : Type 1} {𝓤 : Ura M} (𝓛 : Logic 𝓤) (mem : Memory → SProp
         -- [logs; its token; what else `write_turn` asks; caps; classes; values; locks; its token; _21 at 8; …]
         lent ! fm (WriteTurn 𝓛 mem run) known-turn u32 κ₃ q₃ b₃ o₃ k γ₃ logs refl room₃ (gives r v pr) (to r v pr) (goes r v pr) (gets r v pr)
         (λ ν δ i' j. and_then ! (var ! 47 refl) (and_then ! (var ! 45 refl) (and_then ! (var ! 43 refl) (and_then ! (var ! 21 refl) (and_then ! (var ! 29 refl) (and_then ! (var ! 17 refl) (and_then ! (var ! 37 refl) (and_then ! (var ! 35 refl) (and_then ! (var ! 33 refl) (and_then ! (var ! 31 refl) (no_more !))))))))))) (λ u ws len₃. move ! (2 ∷ []) $ pick ! (λ t. learn ! (λ f. split ! $
-        peeks ! RU (Is RU) (shows 𝓛 RU) t (u ∷ []) (λ p. land ! (from ! (stop !)) (init ! 29 refl (typed-u 𝓛 t u p)) $ drop ! $ split ! $ move ! (1 ∷ []) $ split ! $
+        peeks ! RU (Is RU) (shows 𝓛 RU) t (u ∷ []) (λ p. land ! (from ! (stop !)) (init ! 29 refl (typed_u 𝓛 t u p)) $ drop ! $ split ! $ move ! (1 ∷ []) $ split ! $
         -- [classes' token; caps'; values'; logs; its token; caps; classes; values; locks; its token; _21 at 10; …]
         rewrite ! 30 (λ (u' : Val). ‵ (fat full_share U'.mir bs.1.1.1.1.1.1.1.1.1.1.1.0 0 u')) (turn_is t u p) refl $ nothing ! $ move ! (9 ∷ 10 ∷ 4 ∷ 5 ∷ 0 ∷ []) $
         -- [locks; its token; logs; its token; true; classes' token; caps'; values'; caps; classes; values; _21 at 11; …]
         relends ! 45 refl refl 17 refl (tt, tt) refl refl 15 refl (tt, (tt, (record { fits = room.0 }, tt))) $
         relends ! 43 refl refl 13 refl (tt, tt) refl refl 11 refl (tt, (tt, (record { fits = room₃.0 }, tt))) $
-        let gd = change-is t u p in
+        let gd = change_is t u p in
         lent_both ! fm (Sweep 𝓛 mem run) known-sweep R κ₂ q₂ b o n γ ys refl room u32 κ₃ q₃ b₃ o₃ k γ₃ ws len₃ room₃ (sw-gives 𝓛 mem run b o n ys b₃ o₃ k ws t.change gd f.0) (sw-to 𝓛 mem run b o n ys b₃ o₃ k ws t.change gd f.0)
-        (sw-goes 𝓛 mem run b o n ys b₃ o₃ k ws t.change gd f.0) (sw-gets 𝓛 mem run b o n ys b₃ o₃ k ws t.change gd f.0 refl)
+        (sw_goes 𝓛 mem run b o n ys b₃ o₃ k ws t.change gd f.0) (sw_gets 𝓛 mem run b o n ys b₃ o₃ k ws t.change gd f.0 refl)
         (λ ν δ δ₂ i' j l. and_then ! (var ! 13 refl) (and_then ! (var ! 9 refl) (and_then ! (load ! (from ! (fld ! refl (stop !))) (look_in ! 29 (sub ! 1 refl (whole !)))) (no_more !)))) (λ u' zs len. move ! (4 ∷ []) $ learn ! (λ put. peeks ! unit (Is unit) (shows 𝓛 unit) tt (u' ∷ []) (λ pu.
         land ! (from ! (stop !)) (init ! 19 refl ((Nothing-Lawful 𝓛).typed tt (u' ∷ []) pu).0) $ drop ! $
-        sets ! (of_opd ! (load ! (from ! (fld ! refl (stop !))) (look_in ! 30 (sub ! 0 refl (whole !))))) 52 refl (typed-a 𝓛 t.reply (low-a t.reply) (reply-is t u p)) $
+        sets ! (of_opd ! (load ! (from ! (fld ! refl (stop !))) (look_in ! 30 (sub ! 0 refl (whole !))))) 52 refl (typed_a 𝓛 t.reply (low_a t.reply) (reply_is t u p)) $
         returns ! (look ! 52 refl) $ leave ! 10 (full _ ∷ full _ ∷ full _ ∷ full _ ∷ full _ ∷ full _ ∷ full _ ∷ full _ ∷ full _ ∷ full _ ∷ full _ ∷ full _ ∷ full _ ∷ full _ ∷ full _ ∷ full _ ∷ full _ ∷ full _ ∷ full _ ∷ full _ ∷ full _ ∷ full _ ∷ []) refl $
         by ! (exits r r-is t u p zs ws f len put len₃)))))))))))))
 
@@ -245,8 +245,8 @@ module _ {M : Type 1} {𝓤 : Ura M} (𝓛 : Logic 𝓤) (mem : Memory → SProp
   open 𝓛 use {H}
 
   walks : Walks 𝓛 write.ended stayed (WpFn 𝓤 H 𝓣.C 𝓣.Λ code.function) (write.clauses 𝓛 mem run)
-  walks = walked 𝓛 write.ended stayed (write.clauses 𝓛 mem run) (WpFn 𝓤 H 𝓣.C 𝓣.Λ code.function) (λ κs. (λ (k : Sessions). low-s k ∷ [], (shr_slice_vals, (shr_slice_vals, (shr_slice_vals, (shr_slice_vals, (shr_slice_vals, (uint_vals w8, (uint_vals w32, (uint_vals w32, tt))))))))))
-      (λ κs. (tells-s, (shr_slice_Tells (named 0) κs.0 u32, (shr_slice_Tells (named 1) κs.1.0 u8, (mut_slice_Tells (named 2) κs.1.1.0 R, (mut_slice_Tells (named 3) κs.1.1.1.0 u32, (shr_slice_Tells (named 4) κs.1.1.1.1.0 u32, (uint_Tells w8, (uint_Tells w32, (uint_Tells w32, tt))))))))))
+  walks = walked 𝓛 write.ended stayed (write.clauses 𝓛 mem run) (WpFn 𝓤 H 𝓣.C 𝓣.Λ code.function) (λ κs. (λ (k : Sessions). low_s k ∷ [], (shr_slice_vals, (shr_slice_vals, (shr_slice_vals, (shr_slice_vals, (shr_slice_vals, (uint_vals w8, (uint_vals w32, (uint_vals w32, tt))))))))))
+      (λ κs. (tells_s, (shr_slice_Tells (named 0) κs.0 u32, (shr_slice_Tells (named 1) κs.1.0 u8, (mut_slice_Tells (named 2) κs.1.1.0 R, (mut_slice_Tells (named 3) κs.1.1.1.0 u32, (shr_slice_Tells (named 4) κs.1.1.1.1.0 u32, (uint_Tells w8, (uint_Tells w32, (uint_Tells w32, tt))))))))))
       (λ κs qs bounds a g are. via 𝓤 _ (fst∗ 𝓤 _ (emp 𝓤))
       (walk 𝓛 mem run κs.0 κs.1.0 κs.1.1.0 κs.1.1.1.0 κs.1.1.1.1.0 qs.0 qs.1.0 qs.1.1.0 qs.1.1.1.0 qs.1.1.1.1.0 a.0 a.1.0 a.1.1.0
       a.1.1.1.0.ref_ptr.0 a.1.1.1.0.ref_ptr.1 a.1.1.1.0.ghost_name a.1.1.1.0.now a.1.1.1.1.0.ref_ptr.0 a.1.1.1.1.0.ref_ptr.1 a.1.1.1.1.0.ghost_name a.1.1.1.1.0.now a.1.1.1.1.1.0

@@ -36,22 +36,22 @@ use denote.Triple.Table.{entered, cited}
 use denote.Triple.Walked.{says, Stays, stay_none, gave_slice, stay_none_slice, walk_of, Goes-none, Goes-gave_slice, Goes-none_slice, Walks, ends_at, walked, walk_Meets}
 use denote.Exit.{yes}
 use Rattle.model.specs.Buffers.{ours}
-use Rattle.model.specs.Step.{outcome, setUpEffect}
+use Rattle.model.specs.Step.{outcome, set_up_effect}
 use Rattle.records.specs.declared.Lock.{Lock}
 use Rattle.records.specs.declared.Sessions.{Sessions}
 use Rattle.records.specs.declared.Reply.{Reply}
-use Rattle.run_changes.specs.Run.{storeOn}
+use Rattle.run_changes.specs.Run.{store_on}
 use Rattle.lock_run.proofs.Row.{R, vals, tells}
-use Rattle.lock_records.proofs.Row.{RS, low-s, tells-s, makes-s, typed-s, Ra, typed-a}
+use Rattle.lock_records.proofs.Row.{RS, low_s, tells_s, makes_s, typed_s, Ra, typed_a}
 use Rattle.lock_run.proofs.Leave.{full, leave}
 use Rattle.lock_run.proofs.Short.{var, sets}
-use Rattle.lock_run.proofs.Lent.{ref-at}
-use Rattle.lock_records.specs.contracts.set_up as set-up
+use Rattle.lock_run.proofs.Lent.{ref_at}
+use Rattle.lock_records.specs.contracts.set_up as set_up_lem
 use Rattle.lock_records.proofs.set_up.Symbol as set-up-def
-use Rattle.lock_records.proofs.set_up.Symbol.{name as #lock-records·set-up}
+use Rattle.lock_records.proofs.set_up.Symbol.{name as #lock-records·set_up_lem}
 use Rattle.lock_records.proofs.set_up.Met as set-up-thm
-use Rattle.lock_records_check.proofs.LentArray.{lent-array}
-use Rattle.lock_records_check.proofs.Run.{room, RX, typed-run, makes-run, makes-x, typed-x, run-reply-is}
+use Rattle.lock_records_check.proofs.LentArray.{lent_array}
+use Rattle.lock_records_check.proofs.Run.{room, RX, typed_run, makes_run, makes_x, typed_x, run_reply_is}
 use Rattle.lock_records_check.specs.contracts.set_up_on.Key.{name as #lock-records-check·set-up-on}
 use Rattle.lock_records_check.specs.contracts.set_up_on as set-up-on
 use Rattle.lock_records_check.proofs.set_up_on.Statement as stated
@@ -61,11 +61,11 @@ abbrev stayed : Stays (set-up-on.ended).signature.params (set-up-on.ended).kept
 stayed = (stay_none (λ _. RS) yes, (stay_none_slice (0 ∷ []) tt (plain (λ _. u32)) yes, (stay_none_slice (1 ∷ []) tt (plain (λ _. u8)) yes, (stay_none (λ _. Array R 2) yes, (gave_slice (2 ∷ []) tt (plain (λ _. u32)), tt)))))
 
 abbrev SetUp : {M : Type 1} {𝓤 : Ura M} (𝓛 : Logic 𝓤) (mem : Memory → SProp 𝓤) (run : Routine → Fun 𝓤) → Contract 𝓤
-SetUp 𝓛 mem run = triple_of 𝓛 set-up.signature (set-up.spec 𝓛 mem run)
+SetUp 𝓛 mem run = triple_of 𝓛 set_up_lem.signature (set_up_lem.spec 𝓛 mem run)
 
 module _ {M : Type 1} {𝓤 : Ura M} (𝓛 : Logic 𝓤) (mem : Memory → SProp 𝓤) (run : Routine → Fun 𝓤)
     (κ₀ κ₁ κ₂ : Lft) (q₀ q₁ q₂ : Share) (ss : Sessions) (x₀ x₁ : Bor (List ℕ)) (ys : List Lock) (x₂ : Bor (List ℕ))
-    (gs : Is RS ss (low-s ss ∷ [])) (room₀ : Room u32 (length x₀.now)) (room₁ : Room u8 (length x₁.now)) (gr : Is (Array R 2) ys (only (array_vals vals ys) ∷ [])) (room₂ : Room u32 (length x₂.now)) where
+    (gs : Is RS ss (low_s ss ∷ [])) (room₀ : Room u32 (length x₀.now)) (room₁ : Room u8 (length x₁.now)) (gr : Is (Array R 2) ys (only (array_vals vals ys) ∷ [])) (room₂ : Room u32 (length x₂.now)) where
   open 𝓛 use {H}
 
   abbrev v₀ : Val
@@ -78,7 +78,7 @@ module _ {M : Type 1} {𝓤 : Ura M} (𝓛 : Logic 𝓤) (mem : Memory → SProp
   a = (ss, (x₀, (x₁, (ys, (x₂, tt)))))
 
   abbrev at : Vals set-up-on.signature (κ₀, (κ₁, (κ₂, tt)))
-  at = (low-s ss ∷ [], (shr_slice_vals x₀, (shr_slice_vals x₁, (v₀ ∷ [], (shr_slice_vals x₂, tt)))))
+  at = (low_s ss ∷ [], (shr_slice_vals x₀, (shr_slice_vals x₁, (v₀ ∷ [], (shr_slice_vals x₂, tt)))))
 
   abbrev Post : Val → SProp 𝓤
   Post = (walk_of 𝓛 set-up-on.ended stayed (set-up-on.clauses 𝓛 mem run)).post (((κ₀, (κ₁, (κ₂, tt))), (q₀, (q₁, (q₂, tt))), tt, a, at), tt)
@@ -98,7 +98,7 @@ module _ {M : Type 1} {𝓤 : Ura M} (𝓛 : Logic 𝓤) (mem : Memory → SProp
   Final = Reply × List ℕ
 
   abbrev Says : Final → List Lock → Type 0
-  Says p zs = (outcome p.0.answer (storeOn ours x₀.now x₁.now zs p.1 p.0.sessions) ≡ setUpEffect (storeOn ours x₀.now x₁.now ys x₂.now ss)) × (length p.1 ≡ length x₂.now)
+  Says p zs = (outcome p.0.answer (store_on ours x₀.now x₁.now zs p.1 p.0.sessions) ≡ set_up_effect (store_on ours x₀.now x₁.now ys x₂.now ss)) × (length p.1 ≡ length x₂.now)
 
   abbrev gives : Val → List Lock → Item 𝓤
   gives v zs = some (λ (p : Final). given (Says p zs) (‵ (Ra.own p.0 (v ∷ [])) ⊛ (‵ (finally u32 x₂.name p.1) ⊛ (‵ (flft κ₀ q₀) ⊛ (‵ (flft κ₁ q₁) ⊛ ‵ (flft κ₂ q₂))))))
@@ -109,21 +109,21 @@ module _ {M : Type 1} {𝓤 : Ura M} (𝓛 : Logic 𝓤) (mem : Memory → SProp
   -- ---- `lock_records::set_up`, lent the local at (b, 0)
   module _ (b : ℕ) where
     abbrev to : ℕ → GName → (SetUp 𝓛 mem run).Ghost
-    to ν δ = (((κ₀, (κ₁, (ν ∷ [], (κ₂, tt)))), (q₀, (q₁, (full_share, (q₂, tt)))), tt, (ss, (x₀, (x₁, (ref-at b 0 δ ys, (x₂, tt))))), (low-s ss ∷ [], (mut_slice_vals x₀, (mut_slice_vals x₁, (slice_val (b, 0) 2 ∷ [], (mut_slice_vals x₂, tt)))))), tt)
+    to ν δ = (((κ₀, (κ₁, (ν ∷ [], (κ₂, tt)))), (q₀, (q₁, (full_share, (q₂, tt)))), tt, (ss, (x₀, (x₁, (ref_at b 0 δ ys, (x₂, tt))))), (low_s ss ∷ [], (mut_slice_vals x₀, (mut_slice_vals x₁, (slice_val (b, 0) 2 ∷ [], (mut_slice_vals x₂, tt)))))), tt)
 
-    goes : (ν : ℕ) (δ : GName) → ent 𝓤 (⋆ 𝓛 (‵ (flft (ν ∷ []) full_share) ∷ ‵ ((MutSlice (named 0) (ν ∷ []) R).own_val (ref-at b 0 δ ys) (slice_val (b, 0) 2 ∷ [])) ∷ Asks ∷ [])) ((SetUp 𝓛 mem run).pre (to ν δ))
+    goes : (ν : ℕ) (δ : GName) → ent 𝓤 (⋆ 𝓛 (‵ (flft (ν ∷ []) full_share) ∷ ‵ ((MutSlice (named 0) (ν ∷ []) R).own_val (ref_at b 0 δ ys) (slice_val (b, 0) 2 ∷ [])) ∷ Asks ∷ [])) ((SetUp 𝓛 mem run).pre (to ν δ))
     goes ν δ =
-        qed 𝓛 (‵ (flft (ν ∷ []) full_share) ∷ ‵ ((MutSlice (named 0) (ν ∷ []) R).own_val (ref-at b 0 δ ys) (slice_val (b, 0) 2 ∷ [])) ∷ Asks ∷ []) ∵ move ! (2 ∷ []) $ split ! $ move ! (1 ∷ []) $ split ! $ move ! (1 ∷ []) $ split ! $ move ! (1 ∷ []) $ split ! $ move ! (1 ∷ []) $ split ! $
+        qed 𝓛 (‵ (flft (ν ∷ []) full_share) ∷ ‵ ((MutSlice (named 0) (ν ∷ []) R).own_val (ref_at b 0 δ ys) (slice_val (b, 0) 2 ∷ [])) ∷ Asks ∷ []) ∵ move ! (2 ∷ []) $ split ! $ move ! (1 ∷ []) $ split ! $ move ! (1 ∷ []) $ split ! $ move ! (1 ∷ []) $ split ! $ move ! (1 ∷ []) $ split ! $
         -- [classes' token; logs'; values'; logs; classes; values; the token of ν; the run]
         nothing ! $ move ! (2 ∷ 0 ∷ []) $ join ! $ move ! (6 ∷ 0 ∷ []) $ join ! $ move ! (1 ∷ 0 ∷ []) $ join ! $ move ! (1 ∷ 0 ∷ []) $ join ! $
-        nothing ! $ move ! (2 ∷ 0 ∷ []) $ fjoin ! $ move ! (4 ∷ 0 ∷ []) $ fjoin ! $ move ! (2 ∷ 0 ∷ []) $ fjoin ! $ move ! (2 ∷ 0 ∷ []) $ fjoin ! $ owned ! RS (Is RS) (makes-s 𝓛) ss (low-s ss ∷ []) gs $ fjoin ! $ move ! (1 ∷ 0 ∷ []) $ join ! $ frame ! $ done !
+        nothing ! $ move ! (2 ∷ 0 ∷ []) $ fjoin ! $ move ! (4 ∷ 0 ∷ []) $ fjoin ! $ move ! (2 ∷ 0 ∷ []) $ fjoin ! $ move ! (2 ∷ 0 ∷ []) $ fjoin ! $ owned ! RS (Is RS) (makes_s 𝓛) ss (low_s ss ∷ []) gs $ fjoin ! $ move ! (1 ∷ 0 ∷ []) $ join ! $ frame ! $ done !
 
     gets : length ys ≡ 2 → (ν : ℕ) (δ : GName) (v : Val) → ent 𝓤 ((SetUp 𝓛 mem run).post (to ν δ) v) (mean 𝓛 (later (some (λ (zs : List Lock). given (length zs ≡ 2) (‵ (flft (ν ∷ []) full_share) ⊛ (‵ (finally R δ zs) ⊛ gives v zs))))))
     gets len ν δ v =
         qed 𝓛 (raw ((SetUp 𝓛 mem run).post (to ν δ) v) ∷ []) ∵ updating ! $
-        use1 𝓛 (later (some (λ (r : Reply). ((‵ (flft κ₀ q₀) ⊛ (‵ (flft κ₁ q₁) ⊛ (‵ (flft (ν ∷ []) full_share) ⊛ (‵ (flft κ₂ q₂) ⊛ ‵ ftrue)))) ⊛ ‵ (Ra.own r (v ∷ []))) ⊛ raw (ensured 𝓛 set-up.ended (set-up.clauses 𝓛 mem run) (κ₀, (κ₁, (ν ∷ [], (κ₂, tt)))) (ss, (x₀, (x₁, (ref-at b 0 δ ys, (x₂, tt))))) tt r)))) (id⊢ 𝓤 _) $ await ! tt $ pick ! (λ r. split ! $ move ! (1 ∷ []) $
-        use1 𝓛 (some (λ (ws : Unit {0} × (Unit {0} × (Unit {0} × (List Lock × (List ℕ × Unit {0}))))). ‵ (lasts set-up.ended (κ₀, (κ₁, (ν ∷ [], (κ₂, tt)))) (ss, (x₀, (x₁, (ref-at b 0 δ ys, (x₂, tt))))) ws) ⊛ raw (fact 𝓤 (outcome r.answer (storeOn ours x₀.now x₁.now ws.1.1.1.0 ws.1.1.1.1.0 r.sessions) ≡ setUpEffect (storeOn ours x₀.now x₁.now ys x₂.now ss))))) (id⊢ 𝓤 _) $ pick ! (λ ws. split ! $ move ! (1 ∷ []) $
-        heard ! (outcome r.answer (storeOn ours x₀.now x₁.now ws.1.1.1.0 ws.1.1.1.1.0 r.sessions) ≡ setUpEffect (storeOn ours x₀.now x₁.now ys x₂.now ss)) (λ is. fsplit ! $ drop ! $ fsplit ! $ drop ! $ fsplit ! $ drop ! $ fsplit ! $ fsplit ! $ move ! (1 ∷ []) $ feq_l ! (λ e. move ! (1 ∷ []) $ fsplit ! $ fsplit ! $ move ! (1 ∷ []) $ feq_l ! (λ e₂.
+        use1 𝓛 (later (some (λ (r : Reply). ((‵ (flft κ₀ q₀) ⊛ (‵ (flft κ₁ q₁) ⊛ (‵ (flft (ν ∷ []) full_share) ⊛ (‵ (flft κ₂ q₂) ⊛ ‵ ftrue)))) ⊛ ‵ (Ra.own r (v ∷ []))) ⊛ raw (ensured 𝓛 set_up_lem.ended (set_up_lem.clauses 𝓛 mem run) (κ₀, (κ₁, (ν ∷ [], (κ₂, tt)))) (ss, (x₀, (x₁, (ref_at b 0 δ ys, (x₂, tt))))) tt r)))) (id⊢ 𝓤 _) $ await ! tt $ pick ! (λ r. split ! $ move ! (1 ∷ []) $
+        use1 𝓛 (some (λ (ws : Unit {0} × (Unit {0} × (Unit {0} × (List Lock × (List ℕ × Unit {0}))))). ‵ (lasts set_up_lem.ended (κ₀, (κ₁, (ν ∷ [], (κ₂, tt)))) (ss, (x₀, (x₁, (ref_at b 0 δ ys, (x₂, tt))))) ws) ⊛ raw (fact 𝓤 (outcome r.answer (store_on ours x₀.now x₁.now ws.1.1.1.0 ws.1.1.1.1.0 r.sessions) ≡ set_up_effect (store_on ours x₀.now x₁.now ys x₂.now ss))))) (id⊢ 𝓤 _) $ pick ! (λ ws. split ! $ move ! (1 ∷ []) $
+        heard ! (outcome r.answer (store_on ours x₀.now x₁.now ws.1.1.1.0 ws.1.1.1.1.0 r.sessions) ≡ set_up_effect (store_on ours x₀.now x₁.now ys x₂.now ss)) (λ is. fsplit ! $ drop ! $ fsplit ! $ drop ! $ fsplit ! $ drop ! $ fsplit ! $ fsplit ! $ move ! (1 ∷ []) $ feq_l ! (λ e. move ! (1 ∷ []) $ fsplit ! $ fsplit ! $ move ! (1 ∷ []) $ feq_l ! (λ e₂.
         move ! (3 ∷ []) $ split ! $ split ! $ move ! (1 ∷ []) $ split ! $ move ! (1 ∷ []) $ split ! $ move ! (1 ∷ []) $ split ! $
         keep ! (2 ∷ 8 ∷ 5 ∷ 6 ∷ 4 ∷ 3 ∷ 0 ∷ []) $ at_once ! $ show ! (λ (us : List Lock). mean 𝓛 (given (length us ≡ 2) (‵ (flft (ν ∷ []) full_share) ⊛ (‵ (finally R δ us) ⊛ gives v us)))) ws.1.1.1.0 $ check ! (subst (λ (n : ℕ). length ws.1.1.1.0 ≡ n) len e) $ frame ! $ frame ! $
         show ! (λ (p : Final). mean 𝓛 (given (Says p ws.1.1.1.0) (‵ (Ra.own p.0 (v ∷ [])) ⊛ (‵ (finally u32 x₂.name p.1) ⊛ (‵ (flft κ₀ q₀) ⊛ (‵ (flft κ₁ q₁) ⊛ ‵ (flft κ₂ q₂))))))) (r, ws.1.1.1.1.0) $ check ! (is, e₂) $ frame ! $ frame ! $ frame ! $ frame ! $ done !)))))
@@ -135,20 +135,20 @@ module _ {M : Type 1} {𝓤 : Ura M} (𝓛 : Logic 𝓤) (mem : Memory → SProp
       suffices ! _ (ends_at 𝓛 set-up-on.ended stayed (set-up-on.clauses 𝓛 mem run) (((κ₀, (κ₁, (κ₂, tt))), (q₀, (q₁, (q₂, tt))), tt, a, at), tt) (vstruct (of_list (v ∷ u ∷ []))) (record { reply = p.0; locks = zs }) (tt, (tt, (tt, (tt, (p.1, tt))))) (tt, (tt, (tt, (tt, (f.1, tt)))))) $ says ! f.0 $
       move ! (1 ∷ []) $ split ! $ move ! (1 ∷ []) $ split ! $ move ! (1 ∷ []) $ split ! $ nothing ! $ move ! (2 ∷ 0 ∷ []) $ join ! $ move ! (1 ∷ 0 ∷ []) $ join ! $ move ! (1 ∷ 0 ∷ []) $ join ! $ frame ! $
       -- [what says logs' last list; the reply; classes; values]
-      nothing ! $ move ! (1 ∷ 0 ∷ []) $ fjoin ! $ owned ! (Array R 2) (Is (Array R 2)) (makes-run 𝓛) ys (v₀ ∷ []) gr $ fjoin ! $ move ! (2 ∷ 0 ∷ []) $ fjoin ! $ move ! (2 ∷ 0 ∷ []) $ fjoin ! $
-      owned ! RS (Is RS) (makes-s 𝓛) ss (low-s ss ∷ []) gs $ fjoin ! $ frame ! $ drop ! $ owned ! RX (Is RX) (makes-x 𝓛) (record { reply = p.0; locks = zs }) (vstruct (of_list (v ∷ u ∷ [])) ∷ []) (run-reply-is p.0 v pa zs u pu) $ done !
+      nothing ! $ move ! (1 ∷ 0 ∷ []) $ fjoin ! $ owned ! (Array R 2) (Is (Array R 2)) (makes_run 𝓛) ys (v₀ ∷ []) gr $ fjoin ! $ move ! (2 ∷ 0 ∷ []) $ fjoin ! $ move ! (2 ∷ 0 ∷ []) $ fjoin ! $
+      owned ! RS (Is RS) (makes_s 𝓛) ss (low_s ss ∷ []) gs $ fjoin ! $ frame ! $ drop ! $ owned ! RX (Is RX) (makes_x 𝓛) (record { reply = p.0; locks = zs }) (vstruct (of_list (v ∷ u ∷ [])) ∷ []) (run_reply_is p.0 v pa zs u pu) $ done !
 
-  module _ (C : Calls 𝓤 H) (Λ : Loops 𝓤 H) (fm : FmC 𝓤 H 𝓛.laws C) (known : Triple 𝓤 (C #lock-records·set-up) (SetUp 𝓛 mem run)) where
-    walk : ent 𝓤 (on_entry 𝓛 set-up-on.signature (κ₀, (κ₁, (κ₂, tt))) (q₀, (q₁, (q₂, tt))) a at) (WpFn 𝓤 H C Λ code.function (low-s ss ∷ slice_val x₀.ref_ptr (length x₀.now) ∷ slice_val x₁.ref_ptr (length x₁.now) ∷ v₀ ∷ slice_val x₂.ref_ptr (length x₂.now) ∷ []) Post)
+  module _ (C : Calls 𝓤 H) (Λ : Loops 𝓤 H) (fm : FmC 𝓤 H 𝓛.laws C) (known : Triple 𝓤 (C #lock-records·set_up_lem) (SetUp 𝓛 mem run)) where
+    walk : ent 𝓤 (on_entry 𝓛 set-up-on.signature (κ₀, (κ₁, (κ₂, tt))) (q₀, (q₁, (q₂, tt))) a at) (WpFn 𝓤 H C Λ code.function (low_s ss ∷ slice_val x₀.ref_ptr (length x₀.now) ∷ slice_val x₁.ref_ptr (length x₁.now) ∷ v₀ ∷ slice_val x₂.ref_ptr (length x₂.now) ∷ []) Post)
     walk =
         qed 𝓛 ((‵ (flft κ₀ q₀) ⊛ (‵ (flft κ₁ q₁) ⊛ (‵ (flft κ₂ q₂) ⊛ ‵ ftrue))) ∷ ‵ (owns (RS ∷ ShrSlice (named 0) κ₀ u32 ∷ ShrSlice (named 1) κ₁ u8 ∷ Array R 2 ∷ MutSlice (named 2) κ₂ u32 ∷ []) a at) ∷ []) ∵
-        enter ! C Λ code.function (low-s ss ∷ slice_val x₀.ref_ptr (length x₀.now) ∷ slice_val x₁.ref_ptr (length x₁.now) ∷ v₀ ∷ slice_val x₂.ref_ptr (length x₂.now) ∷ []) _ $
+        enter ! C Λ code.function (low_s ss ∷ slice_val x₀.ref_ptr (length x₀.now) ∷ slice_val x₁.ref_ptr (length x₁.now) ∷ v₀ ∷ slice_val x₂.ref_ptr (length x₂.now) ∷ []) _ $
         alloc1 ! (λ l₀. alloc1 ! (λ l₁. alloc1 ! (λ l₂. alloc1 ! (λ l₃. alloc1 ! (λ l₄. alloc1 ! (λ l₅. alloc1 ! (λ l₆. alloc1 ! (λ l₇. alloc1 ! (λ l₈. alloc1 ! (λ l₉. alloc1 ! (λ l₁₀. alloc1 ! (λ l₁₁. alloc1 ! (λ l₁₂. alloc0 ! $ params1 ! $
-        pass1 ! (init ! 22 refl (typed-s 𝓛 ss (low-s ss) gs)) $ pass1 ! (init ! 20 refl (tt, (tt, (record { fits = room₀.0 }, tt)))) $ pass1 ! (init ! 18 refl (tt, (tt, (record { fits = room₁.0 }, tt)))) $ pass1 ! (init ! 16 refl (typed-run 𝓛 ys v₀ gr)) $ pass1 ! (init ! 14 refl (tt, (tt, (record { fits = room₂.0 }, tt)))) $ pass0 ! $
+        pass1 ! (init ! 22 refl (typed_s 𝓛 ss (low_s ss) gs)) $ pass1 ! (init ! 20 refl (tt, (tt, (record { fits = room₀.0 }, tt)))) $ pass1 ! (init ! 18 refl (tt, (tt, (record { fits = room₁.0 }, tt)))) $ pass1 ! (init ! 16 refl (typed_run 𝓛 ys v₀ gr)) $ pass1 ! (init ! 14 refl (tt, (tt, (record { fits = room₂.0 }, tt)))) $ pass0 ! $
         move ! (27 ∷ []) $ fsplit ! $ move ! (1 ∷ []) $ fsplit ! $ move ! (1 ∷ []) $ fsplit ! $ move ! (1 ∷ []) $ fsplit ! $ move ! (1 ∷ []) $ fsplit ! $
         move ! (32 ∷ []) $ split ! $ move ! (1 ∷ []) $ split ! $ move ! (1 ∷ []) $ split ! $ move ! (1 ∷ 5 ∷ 6 ∷ 9 ∷ []) $ drop ! $ drop ! $ drop ! $ drop ! $
         -- [logs' token; classes'; values'; logs; classes; values; _12 at 6; …; _0 at 30; …]
-        sets ! (of_opd ! (var ! 22 refl)) 18 refl (typed-run 𝓛 ys v₀ gr) $
+        sets ! (of_opd ! (var ! 22 refl)) 18 refl (typed_run 𝓛 ys v₀ gr) $
         sets ! (addr ! (from ! (stop !))) 14 refl (tt, tt) $
         sets ! (agg ! (and_then ! (var ! 14 refl) (and_then ! (lit ! tt) (no_more !)))) 12 refl (tt, (tt, (record { fits = room.0 }, tt))) $
         sets ! (addr ! (from ! (fld ! refl (hop ! (look_in ! 20 (sub ! 0 refl (whole !))) (stop !))))) 10 refl (tt, tt) $
@@ -156,22 +156,22 @@ module _ {M : Type 1} {𝓤 : Ura M} (𝓛 : Logic 𝓤) (mem : Memory → SProp
         -- what is Copy is copied, and one copy goes to `lock_records::set_up`
         move ! (4 ∷ []) $ use1 𝓛 (‵ Classes ⊛ ‵ Classes) ((shr_slice_copy 𝓛 (named 0) κ₁ u8).twice x₁ (shr_slice_vals x₁)) $ split ! $
         move ! (6 ∷ []) $ use1 𝓛 (‵ Values ⊛ ‵ Values) ((shr_slice_copy 𝓛 (named 0) κ₀ u32).twice x₀ (shr_slice_vals x₀)) $ split ! $ move ! (0 ∷ 2 ∷ 7 ∷ 6 ∷ 5 ∷ 4 ∷ []) $ group ! 6 $
-        owned ! (Array R 2) (Is (Array R 2)) (makes-run 𝓛) ys (v₀ ∷ []) gr $ move ! (16 ∷ 0 ∷ 1 ∷ []) $
+        owned ! (Array R 2) (Is (Array R 2)) (makes_run 𝓛) ys (v₀ ∷ []) gr $ move ! (16 ∷ 0 ∷ 1 ∷ []) $
         -- [the local; what the array owns; what else is asked; values; classes; _12 at 5; …]
-        lent-array ! fm (SetUp 𝓛 mem run) known R tt vals tells 2 l₆ 0 ys v₀ room gives (to l₆) (λ _. goes l₆) (gets l₆)
+        lent_array ! fm (SetUp 𝓛 mem run) known R tt vals tells 2 l₆ 0 ys v₀ room gives (to l₆) (λ _. goes l₆) (gets l₆)
         (λ ν δ i j. (and_then ! (var ! 25 refl) (and_then ! (var ! 23 refl) (and_then ! (var ! 21 refl) (and_then ! (var ! 10 refl) (and_then ! (var ! 6 refl) (no_more !))))))) (λ v zs u pu. move ! (2 ∷ []) $ pick ! (λ p. learn ! (λ f. split ! $
-        peeks ! Ra (Is Ra) (shows 𝓛 Ra) p.0 (v ∷ []) (λ pa. land ! (from ! (stop !)) (init ! 16 refl (typed-a 𝓛 p.0 v pa)) $
+        peeks ! Ra (Is Ra) (shows 𝓛 Ra) p.0 (v ∷ []) (λ pa. land ! (from ! (stop !)) (init ! 16 refl (typed_a 𝓛 p.0 v pa)) $
         -- [the reply; what else is left; the local at 2; what the array owns; values; classes; _12 at 6; …]
-        sets ! (of_opd ! (var ! 2 refl)) 6 refl (typed-run 𝓛 zs u pu) $
-        sets ! (agg ! (and_then ! (var ! 16 refl) (and_then ! (var ! 6 refl) (no_more !)))) 29 refl (typed-x 𝓛 (record { reply = p.0; locks = zs }) (vstruct (of_list (v ∷ u ∷ []))) (run-reply-is p.0 v pa zs u pu)) $
+        sets ! (of_opd ! (var ! 2 refl)) 6 refl (typed_run 𝓛 zs u pu) $
+        sets ! (agg ! (and_then ! (var ! 16 refl) (and_then ! (var ! 6 refl) (no_more !)))) 29 refl (typed_x 𝓛 (record { reply = p.0; locks = zs }) (vstruct (of_list (v ∷ u ∷ []))) (run_reply_is p.0 v pa zs u pu)) $
         returns ! (look ! 29 refl) $ move ! (0 ∷ 1 ∷ 3 ∷ 4 ∷ 5 ∷ 6 ∷ 7 ∷ 8 ∷ 9 ∷ 10 ∷ 11 ∷ 12 ∷ 13 ∷ 14 ∷ 15 ∷ 16 ∷ 17 ∷ 2 ∷ []) $ leave ! 5 (full _ ∷ full _ ∷ full _ ∷ full _ ∷ full _ ∷ full _ ∷ full _ ∷ full _ ∷ full _ ∷ full _ ∷ full _ ∷ full _ ∷ full _ ∷ []) refl $ keep ! (0 ∷ 1 ∷ 4 ∷ 3 ∷ []) $ by ! (exits p v pa zs u pu f))))))))))))))))))
 
-module _ {M : Type 1} {𝓤 : Ura M} (𝓛 : Logic 𝓤) (mem : Memory → SProp 𝓤) (run : Routine → Fun 𝓤) (𝓣 : Tables 𝓤 𝓛.H) (known : Triple 𝓤 (𝓣.C #lock-records·set-up) (SetUp 𝓛 mem run)) where
+module _ {M : Type 1} {𝓤 : Ura M} (𝓛 : Logic 𝓤) (mem : Memory → SProp 𝓤) (run : Routine → Fun 𝓤) (𝓣 : Tables 𝓤 𝓛.H) (known : Triple 𝓤 (𝓣.C #lock-records·set_up_lem) (SetUp 𝓛 mem run)) where
   open 𝓛 use {H}
 
   walks : Walks 𝓛 set-up-on.ended stayed (WpFn 𝓤 H 𝓣.C 𝓣.Λ code.function) (set-up-on.clauses 𝓛 mem run)
-  walks = walked 𝓛 set-up-on.ended stayed (set-up-on.clauses 𝓛 mem run) (WpFn 𝓤 H 𝓣.C 𝓣.Λ code.function) (λ κs. (λ (k : Sessions). low-s k ∷ [], (shr_slice_vals, (shr_slice_vals, (array_vals vals, (shr_slice_vals, tt))))))
-      (λ κs. (tells-s, (shr_slice_Tells (named 0) κs.0 u32, (shr_slice_Tells (named 1) κs.1.0 u8, (Array-Tells R vals tells 2, (mut_slice_Tells (named 2) κs.1.1.0 u32, tt))))))
+  walks = walked 𝓛 set-up-on.ended stayed (set-up-on.clauses 𝓛 mem run) (WpFn 𝓤 H 𝓣.C 𝓣.Λ code.function) (λ κs. (λ (k : Sessions). low_s k ∷ [], (shr_slice_vals, (shr_slice_vals, (array_vals vals, (shr_slice_vals, tt))))))
+      (λ κs. (tells_s, (shr_slice_Tells (named 0) κs.0 u32, (shr_slice_Tells (named 1) κs.1.0 u8, (Array-Tells R vals tells 2, (mut_slice_Tells (named 2) κs.1.1.0 u32, tt))))))
       (λ κs qs bounds a g are. via 𝓤 _ (fst∗ 𝓤 _ (emp 𝓤))
       (walk 𝓛 mem run κs.0 κs.1.0 κs.1.1.0 qs.0 qs.1.0 qs.1.1.0 a.0 a.1.0 a.1.1.0 a.1.1.1.0 a.1.1.1.1.0
       are.0 are.1.0.0.1 are.1.1.0.0.1 are.1.1.1.0 are.1.1.1.1.0.0.1 𝓣.C 𝓣.Λ (fm_of 𝓤 H 𝓛.laws 𝓣) known))
@@ -186,4 +186,4 @@ set-up-on-spec 𝓤 𝓛 𝓜 𝓡 =
     entered 𝓤 𝓛.H (triple_of 𝓛 set-up-on.signature (set-up-on.spec 𝓛 𝓜.mem 𝓡.run))
     (tables 𝓤 𝓛.H 𝓜 𝓡 code.env).C (tables 𝓤 𝓛.H 𝓜 𝓡 code.env).Λ #lock-records-check·set-up-on code.function (code.unfolded 𝓤 𝓛.H 𝓜 𝓡)
     (meets 𝓛 𝓜.mem 𝓡.run (tables_of 𝓤 𝓛.H 𝓜 (tables 𝓤 𝓛.H 𝓜 𝓡 code.env))
-    (cited 𝓤 𝓛.H (SetUp 𝓛 𝓜.mem 𝓡.run) 𝓜 𝓡 code.env #lock-records·set-up set-up-def.routine code.calls-lock-records::set-up (set-up-thm.met 𝓤 𝓛 𝓜 𝓡)))
+    (cited 𝓤 𝓛.H (SetUp 𝓛 𝓜.mem 𝓡.run) 𝓜 𝓡 code.env #lock-records·set_up_lem set-up-def.routine code.calls-lock-records::set_up_lem (set-up-thm.met 𝓤 𝓛 𝓜 𝓡)))

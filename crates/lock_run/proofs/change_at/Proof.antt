@@ -44,11 +44,11 @@ use denote.Exit.{yes}
 use Rattle.records.specs.declared.Lock.{Lock}
 use Rattle.model.specs.Buffers.{free}
 use Rattle.run_changes.specs.declared.Change.{Change}
-use Rattle.run_changes.specs.Run.{SessionFits, changeOf, changedAt}
+use Rattle.run_changes.specs.Run.{SessionFits, change_of, changed_at}
 use Rattle.run_changes.proofs.Change.TheLaws as C'
 use Rattle.lock_run.proofs.Leave.{full, leave}
 use Rattle.run_changes.proofs.Changes.{set_past}
-use Rattle.lock_run.proofs.Row.{R, low, vals, tells, makes, typed, typed_at, RC, low-c, tells-c, makes-c, typed-c, place-fits}
+use Rattle.lock_run.proofs.Row.{R, low, vals, tells, makes, typed, typed_at, RC, low_c, tells_c, makes_c, typed_c, place_fits}
 use Rattle.records.specs.contracts.Lock as T
 use Rattle.records.proofs.Lock.TheLaws as T'
 use Rattle.run_changes.specs.contracts.changed as changed
@@ -72,10 +72,10 @@ module _ {M : Type 1} {𝓤 : Ura M} (𝓛 : Logic 𝓤) (mem : Memory → SProp
   abbrev Changed : Contract 𝓤
   Changed = triple_of 𝓛 changed.signature (changed.spec 𝓛 mem run)
 
-  made_of : (e : Lock) (d : Change) (r : Lock) → ent 𝓤 (ensured 𝓛 changed.ended (changed.clauses 𝓛 mem run) tt (e, (d, tt)) tt r) (fact 𝓤 (r ≡ changeOf d e))
-  made_of e d r = ex_e 𝓤 _ (λ ws. snd∗ 𝓤 (sem 𝓛 (lasts changed.ended tt (e, (d, tt)) ws)) (fact 𝓤 (r ≡ changeOf d e)))
+  made_of : (e : Lock) (d : Change) (r : Lock) → ent 𝓤 (ensured 𝓛 changed.ended (changed.clauses 𝓛 mem run) tt (e, (d, tt)) tt r) (fact 𝓤 (r ≡ change_of d e))
+  made_of e d r = ex_e 𝓤 _ (λ ws. snd∗ 𝓤 (sem 𝓛 (lasts changed.ended tt (e, (d, tt)) ws)) (fact 𝓤 (r ≡ change_of d e)))
 
-module _ {M : Type 1} {𝓤 : Ura M} (𝓛 : Logic 𝓤) (mem : Memory → SProp 𝓤) (run : Routine → Fun 𝓤) (κ : Lft) (q : Share) (b o : ℕ) (γ : GName) (ys : List Lock) (c : ℕ) (d : Change) (gc : c < 2 ^ 64) (gd : Is RC d (low-c d ∷ [])) (ok : SessionFits d) where
+module _ {M : Type 1} {𝓤 : Ura M} (𝓛 : Logic 𝓤) (mem : Memory → SProp 𝓤) (run : Routine → Fun 𝓤) (κ : Lft) (q : Share) (b o : ℕ) (γ : GName) (ys : List Lock) (c : ℕ) (d : Change) (gc : c < 2 ^ 64) (gd : Is RC d (low_c d ∷ [])) (ok : SessionFits d) where
   open 𝓛 use {H}
 
   abbrev x : List Lock → MutBor (List Lock)
@@ -91,7 +91,7 @@ module _ {M : Type 1} {𝓤 : Ura M} (𝓛 : Logic 𝓤) (mem : Memory → SProp
   a = (x ys, (c, (d, tt)))
 
   abbrev at : Vals change-at.signature (κ, tt)
-  at = (s ∷ [], (vint w64 c ∷ [], (low-c d ∷ [], tt)))
+  at = (s ∷ [], (vint w64 c ∷ [], (low_c d ∷ [], tt)))
 
   abbrev e : Lock
   e = get_or ys c free
@@ -101,27 +101,27 @@ module _ {M : Type 1} {𝓤 : Ura M} (𝓛 : Logic 𝓤) (mem : Memory → SProp
 
   -- what `changed`'s triple binds outside, and what it asks
   abbrev to : (Changed 𝓛 mem run).Ghost
-  to = ((tt, tt, tt, (e, (d, tt)), (low e ∷ [], (low-c d ∷ [], tt))), tt)
+  to = ((tt, tt, tt, (e, (d, tt)), (low e ∷ [], (low_c d ∷ [], tt))), tt)
 
   goes : Is R e (vals e) → ent 𝓤 (emp 𝓤) ((Changed 𝓛 mem run).pre to)
-  goes g = qed 𝓛 [] ∵ says ! ok $ nothing ! $ owned ! RC (Is RC) (makes-c 𝓛) d (low-c d ∷ []) gd $ fjoin ! $ owned ! R (Is R) (makes 𝓛) e (low e ∷ []) g $ fjoin ! $ nothing ! $ frame ! $ done !
+  goes g = qed 𝓛 [] ∵ says ! ok $ nothing ! $ owned ! RC (Is RC) (makes_c 𝓛) d (low_c d ∷ []) gd $ fjoin ! $ owned ! R (Is R) (makes 𝓛) e (low e ∷ []) g $ fjoin ! $ nothing ! $ frame ! $ done !
 
   -- at exit the list is ws, which is the one that the clause says
-  exits : (ws : List Lock) → ws ≡ changedAt d c ys → length ws ≡ length ys → Room R (length ys) → ent 𝓤 (⋆ 𝓛 (‵ (fobs γ ((coded_holeys R).code (heres R ws))) ∷ ‵ (fbor κ (Held R (length ws) b o γ)) ∷ ‵ (flft κ q) ∷ [])) (Post vunit)
+  exits : (ws : List Lock) → ws ≡ changed_at d c ys → length ws ≡ length ys → Room R (length ys) → ent 𝓤 (⋆ 𝓛 (‵ (fobs γ ((coded_holeys R).code (heres R ws))) ∷ ‵ (fbor κ (Held R (length ws) b o γ)) ∷ ‵ (flft κ q) ∷ [])) (Post vunit)
   exits ws is len room =
       qed 𝓛 (‵ (fobs γ ((coded_holeys R).code (heres R ws))) ∷ ‵ (fbor κ (Held R (length ws) b o γ)) ∷ ‵ (flft κ q) ∷ []) ∵
       suffices ! _ (ends_at 𝓛 change-at.ended stayed (change-at.clauses 𝓛 mem run) (((κ, tt), (q, tt), tt, a, at), tt) vunit tt (ws, (tt, (tt, tt))) (len, (tt, (tt, tt)))) $ says ! is $
       nothing ! $ move ! (3 ∷ 0 ∷ []) $ join ! $ frame ! $
       fjoin ! $ pure_i ! (mut_slice_at R (x ws) (s ∷ [])) (tt, (tt, tt)) (ap (λ (m : ℕ). slice_val (b, o) m ∷ []) (sym len), subst (Room R) (sym len) room) $ fjoin ! $
-      nothing ! $ owned ! RC (Is RC) (makes-c 𝓛) d (low-c d ∷ []) gd $ fjoin ! $ owned ! usize (Is usize) (uint_Makes 𝓛 w64) c _ (refl, gc) $ fjoin ! $
+      nothing ! $ owned ! RC (Is RC) (makes_c 𝓛) d (low_c d ∷ []) gd $ fjoin ! $ owned ! usize (Is usize) (uint_Makes 𝓛 w64) c _ (refl, gc) $ fjoin ! $
       move ! (1 ∷ 0 ∷ []) $ fjoin ! $ feq_i ! (List Val) (vunit ∷ []) (vunit ∷ []) refl $ move ! (1 ∷ 0 ∷ []) $ done !
 
   module _ (C : Calls 𝓤 H) (Λ : Loops 𝓤 H) (fm : FmC 𝓤 H 𝓛.laws C) (known : Triple 𝓤 (C #run-changes·changed) (Changed 𝓛 mem run)) where
-    walk : Room R (length ys) → ent 𝓤 (on_entry 𝓛 change-at.signature (κ, tt) (q, tt) a at) (WpFn 𝓤 H C Λ code.function (s ∷ vint w64 c ∷ low-c d ∷ []) Post)
+    walk : Room R (length ys) → ent 𝓤 (on_entry 𝓛 change-at.signature (κ, tt) (q, tt) a at) (WpFn 𝓤 H C Λ code.function (s ∷ vint w64 c ∷ low_c d ∷ []) Post)
     walk room =
-        qed 𝓛 ((‵ (flft κ q) ⊛ ‵ ftrue) ∷ ‵ (owns (MutSlice (named 0) κ R ∷ usize ∷ RC ∷ []) a at) ∷ []) ∵ enter ! C Λ code.function (s ∷ vint w64 c ∷ low-c d ∷ []) _ $
+        qed 𝓛 ((‵ (flft κ q) ⊛ ‵ ftrue) ∷ ‵ (owns (MutSlice (named 0) κ R ∷ usize ∷ RC ∷ []) a at) ∷ []) ∵ enter ! C Λ code.function (s ∷ vint w64 c ∷ low_c d ∷ []) _ $
         alloc1 ! (λ l₀. alloc1 ! (λ l₁. alloc1 ! (λ l₂. alloc1 ! (λ l₃. alloc1 ! (λ l₄. alloc1 ! (λ l₅. alloc1 ! (λ l₆. alloc1 ! (λ l₇. alloc1 ! (λ l₈. alloc1 ! (λ l₉. alloc1 ! (λ l₁₀. alloc1 ! (λ l₁₁. alloc0 ! $ params1 ! $
-        pass1 ! (init ! 20 refl (tt, (tt, (record { fits = room.0 }, tt)))) $ pass1 ! (init ! 18 refl (tt, record { fits = gc })) $ pass1 ! (init ! 16 refl (typed-c 𝓛 d (low-c d) gd)) $ pass0 ! $
+        pass1 ! (init ! 20 refl (tt, (tt, (record { fits = room.0 }, tt)))) $ pass1 ! (init ! 18 refl (tt, record { fits = gc })) $ pass1 ! (init ! 16 refl (typed_c 𝓛 d (low_c d) gd)) $ pass0 ! $
         let En : Env 𝓤 H = (ty_unit, l₀) ∷ (slice, l₁) ∷ (ty_int w64, l₂) ∷ (C'.mir, l₃) ∷ (ty_int w64, l₄) ∷ (ty_bool, l₅) ∷ (T'.mir, l₆) ∷ (ty_int w64, l₇) ∷ (ty_ptr, l₈) ∷ (T'.mir, l₉) ∷ (ty_int w64, l₁₀) ∷ (ty_ptr, l₁₁) ∷ [] in
         -- [_11; …; _0; …; the token; what the parameters own]
         assigns ! (of_opd ! (load ! (from ! (fld ! refl (stop !))) (look_in ! 20 (sub ! 1 refl (whole !))))) (from ! (stop !)) (init ! 14 refl (tt, record { fits = room.0 })) $
@@ -130,7 +130,7 @@ module _ {M : Type 1} {𝓤 : Ura M} (𝓛 : Logic 𝓤) (mem : Memory → SProp
         move ! (25 ∷ []) $ fsplit ! $ fsplit ! $ move ! (1 ∷ []) $ fsplit ! $ move ! (28 ∷ []) $ split ! $ move ! (2 ∷ 3 ∷ 0 ∷ []) $
         first ! $ branches ! (load ! (from ! (stop !)) (look ! 18 refl))
         (λ below. let l = ltb→lt c (length ys) below in
-        assigns ! (bin ! (load ! (from ! (stop !)) (look ! 24 refl)) (lit ! tt) (record { fits = place-fits c (length ys) l room.1 })) (from ! (stop !)) (init ! 14 refl (tt, record { fits = place-fits c (length ys) l room.1 })) $
+        assigns ! (bin ! (load ! (from ! (stop !)) (look ! 24 refl)) (lit ! tt) (record { fits = place_fits c (length ys) l room.1 })) (from ! (stop !)) (init ! 14 refl (tt, record { fits = place_fits c (length ys) l room.1 })) $
         assigns ! (bin ! (load ! (from ! (fld ! refl (stop !))) (look_in ! 26 (sub ! 0 refl (whole !)))) (load ! (from ! (stop !)) (look ! 14 refl)) tt) (from ! (stop !)) (init ! 12 refl (tt, tt)) $
         rewrite ! 12 (λ (p : ℕ). ‵ (fat full_share ty_ptr l₈ 0 (vptr b p))) (sym (place_is 4 o c)) refl $
         opens_slice ! tt R ys b o $ elem_out ! R (Is R) (shows 𝓛 R) vals tells full_share ys c free b o l (λ g.
@@ -140,11 +140,11 @@ module _ {M : Type 1} {𝓤 : Ura M} (𝓛 : Logic 𝓤) (mem : Memory → SProp
         use0 𝓛 (raw ((Changed 𝓛 mem run).pre to)) (goes g) $
         calls_at ! fm (Changed 𝓛 mem run) known to (and_then ! (load ! (from ! (stop !)) (look ! 14 refl)) (and_then ! (load ! (from ! (stop !)) (look ! 26 refl)) (no_more !))) (λ v.
         use1 𝓛 (later (some (λ (r : Lock). (‵ ftrue ⊛ ‵ (R.own r (v ∷ []))) ⊛ raw (ensured 𝓛 changed.ended (changed.clauses 𝓛 mem run) tt (e, (d, tt)) tt r)))) (id⊢ 𝓤 _) $ await ! tt $ pick ! (λ r.
-        split ! $ move ! (1 ∷ []) $ use1 𝓛 (raw (fact 𝓤 (r ≡ changeOf d e))) (made_of 𝓛 mem run e d r) $ heard ! (r ≡ changeOf d e) (λ is. split ! $ drop ! $
+        split ! $ move ! (1 ∷ []) $ use1 𝓛 (raw (fact 𝓤 (r ≡ change_of d e))) (made_of 𝓛 mem run e d r) $ heard ! (r ≡ change_of d e) (λ is. split ! $ drop ! $
         peeks ! R (Is R) (shows 𝓛 R) r (v ∷ []) (λ p. land ! (from ! (stop !)) (init ! 20 refl (typed_at 𝓛 r v p)) $
         -- what was owned of the old lock goes: [what r owns; locks[c]; the others; the open borrow; …; _11 at 9; …; _0 at 31; …]
         move ! (2 ∷ []) $ drop ! $
-        assigns ! (bin ! (load ! (from ! (stop !)) (look ! 27 refl)) (lit ! tt) (record { fits = place-fits c (length ys) l room.1 })) (from ! (stop !)) (init ! 11 refl (tt, record { fits = place-fits c (length ys) l room.1 })) $
+        assigns ! (bin ! (load ! (from ! (stop !)) (look ! 27 refl)) (lit ! tt) (record { fits = place_fits c (length ys) l room.1 })) (from ! (stop !)) (init ! 11 refl (tt, record { fits = place_fits c (length ys) l room.1 })) $
         assigns ! (bin ! (load ! (from ! (fld ! refl (stop !))) (look_in ! 29 (sub ! 0 refl (whole !)))) (load ! (from ! (stop !)) (look ! 11 refl)) tt) (from ! (stop !)) (init ! 9 refl (tt, tt)) $
         rewrite ! 9 (λ (p' : ℕ). ‵ (fat full_share ty_ptr l₁₁ 0 (vptr b p'))) (sym (place_is 4 o c)) refl $
         assigns_last ! (of_opd ! (load ! (from ! (stop !)) (look ! 19 refl))) (from ! (hop ! (look ! 9 refl) (stop !))) (store_raw ! 1 refl (typed_at 𝓛 r v p)) $
@@ -156,13 +156,13 @@ module _ {M : Type 1} {𝓤 : Ura M} (𝓛 : Logic 𝓤) (mem : Memory → SProp
         (λ past. skips ! $ exec ! C Λ En pieces.t-4 (at_ret En Post) $
         assigns ! (of_opd ! (unit_lit !)) (from ! (stop !)) (init ! 28 refl (tt, tt)) $
         returns ! (look ! 28 refl) $ leave ! 6 (full _ ∷ full _ ∷ full _ ∷ full _ ∷ full _ ∷ full _ ∷ []) refl $
-        keep ! (0 ∷ 1 ∷ 2 ∷ []) $ by ! (exits ys (sym (set_past ys c (changeOf d e) (nltb→le c (length ys) past))) refl room))))))))))))))
+        keep ! (0 ∷ 1 ∷ 2 ∷ []) $ by ! (exits ys (sym (set_past ys c (change_of d e) (nltb→le c (length ys) past))) refl room))))))))))))))
 
 module _ {M : Type 1} {𝓤 : Ura M} (𝓛 : Logic 𝓤) (mem : Memory → SProp 𝓤) (run : Routine → Fun 𝓤) where
   open 𝓛 use {H}
 
   walks : (C : Calls 𝓤 H) (Λ : Loops 𝓤 H) → FmC 𝓤 H 𝓛.laws C → Triple 𝓤 (C #run-changes·changed) (Changed 𝓛 mem run) → Walks 𝓛 change-at.ended stayed (WpFn 𝓤 H C Λ code.function) (change-at.clauses 𝓛 mem run)
-  walks C Λ fm known = walked 𝓛 change-at.ended stayed (change-at.clauses 𝓛 mem run) (WpFn 𝓤 H C Λ code.function) (λ κs. (mut_slice_vals, (uint_vals w64, (λ (k : Change). low-c k ∷ [], tt)))) (λ κs. (mut_slice_Tells (named 0) κs.0 R, (uint_Tells w64, (tells-c, tt))))
+  walks C Λ fm known = walked 𝓛 change-at.ended stayed (change-at.clauses 𝓛 mem run) (WpFn 𝓤 H C Λ code.function) (λ κs. (mut_slice_vals, (uint_vals w64, (λ (k : Change). low_c k ∷ [], tt)))) (λ κs. (mut_slice_Tells (named 0) κs.0 R, (uint_Tells w64, (tells_c, tt))))
       (λ κs qs bounds a g are. needs 𝓤 _ _ (λ ok.
       walk 𝓛 mem run κs.0 qs.0 a.0.ref_ptr.0 a.0.ref_ptr.1 a.0.ghost_name a.0.now a.1.0 a.1.1.0 are.1.0.1 are.1.1.0 ok C Λ fm known are.0.0.1))
 

@@ -39,7 +39,7 @@ use denote.Exit.{yes}
 use Rattle.records.specs.declared.Lock.{Lock}
 use Rattle.model.specs.Buffers.{free}
 use Rattle.lock_run.proofs.Leave.{full, leave}
-use Rattle.lock_run.proofs.Row.{R, low, vals, tells, makes, copy, typed, free-is, place-fits}
+use Rattle.lock_run.proofs.Row.{R, low, vals, tells, makes, copy, typed, free_is, place_fits}
 use Rattle.records.specs.contracts.Lock as T
 use Rattle.records.proofs.Lock.TheLaws as T'
 use Rattle.lock_run.specs.contracts.lock_at.Key.{name as #lock-run·lock-at}
@@ -94,7 +94,7 @@ module _ {M : Type 1} {𝓤 : Ura M} (𝓛 : Logic 𝓤) (mem : Memory → SProp
         assigns ! (bin ! (load ! (from ! (stop !)) (look ! 12 refl)) (load ! (from ! (stop !)) (look ! 10 refl)) tt) (from ! (stop !)) (init ! 8 refl (tt, tt)) $
         first ! $ branches ! (load ! (from ! (stop !)) (look ! 8 refl))
         (λ below. let l = ltb→lt c (length ys) below in
-        assigns ! (bin ! (load ! (from ! (stop !)) (look ! 12 refl)) (lit ! tt) (record { fits = place-fits c (length ys) l room.1 })) (from ! (stop !)) (init ! 4 refl (tt, record { fits = place-fits c (length ys) l room.1 })) $
+        assigns ! (bin ! (load ! (from ! (stop !)) (look ! 12 refl)) (lit ! tt) (record { fits = place_fits c (length ys) l room.1 })) (from ! (stop !)) (init ! 4 refl (tt, record { fits = place_fits c (length ys) l room.1 })) $
         assigns ! (bin ! (load ! (from ! (fld ! refl (stop !))) (look_in ! 14 (sub ! 0 refl (whole !)))) (load ! (from ! (stop !)) (look ! 4 refl)) tt) (from ! (stop !)) (init ! 2 refl (tt, tt)) $
         rewrite ! 2 (λ (p : ℕ). ‵ (fat full_share ty_ptr l₇ 0 (vptr b p))) (sym (place_is 4 o c)) refl $
         -- the reference is Copy: one copy of what it owns is kept for the exit, and the other is looked into
@@ -109,12 +109,12 @@ module _ {M : Type 1} {𝓤 : Ura M} (𝓛 : Logic 𝓤) (mem : Memory → SProp
         assigns ! (of_opd ! (load ! (from ! (stop !)) (look ! 11 refl))) (from ! (stop !)) (init ! 21 refl (typed 𝓛 e g)) $
         returns ! (look ! 21 refl) $ leave ! 5 (full _ ∷ full _ ∷ full _ ∷ full _ ∷ full _ ∷ full _ ∷ full _ ∷ full _ ∷ full _ ∷ []) refl $
         move ! (4 ∷ []) $ fsplit ! $ keep ! (2 ∷ 5 ∷ 0 ∷ []) $ by ! (exits e refl g))))
-        (λ past. assigns_last ! (agg ! (and_then ! (lit ! tt) (and_then ! (lit ! tt) (and_then ! (lit ! tt) (no_more !))))) (from ! (stop !)) (init ! 6 refl (typed 𝓛 free free-is)) $ exec ! C Λ En pieces.t-4 (at_ret En Post) $
-        assigns ! (of_opd ! (load ! (from ! (stop !)) (look ! 6 refl))) (from ! (stop !)) (init ! 16 refl (typed 𝓛 free free-is)) $
+        (λ past. assigns_last ! (agg ! (and_then ! (lit ! tt) (and_then ! (lit ! tt) (and_then ! (lit ! tt) (no_more !))))) (from ! (stop !)) (init ! 6 refl (typed 𝓛 free free_is)) $ exec ! C Λ En pieces.t-4 (at_ret En Post) $
+        assigns ! (of_opd ! (load ! (from ! (stop !)) (look ! 6 refl))) (from ! (stop !)) (init ! 16 refl (typed 𝓛 free free_is)) $
         returns ! (look ! 16 refl) $ forget ! 6 refl $ forget ! 8 refl $ forget ! 10 refl $ forget ! 12 refl $ forget ! 14 refl $ forget ! 16 refl $
         move ! (16 ∷ 17 ∷ []) $ free1 ! $ move ! (14 ∷ 15 ∷ []) $ free1 ! $ move ! (12 ∷ 13 ∷ []) $ free1 ! $ move ! (10 ∷ 11 ∷ []) $ free1 ! $ move ! (8 ∷ 9 ∷ []) $ free1 ! $
         move ! (6 ∷ 7 ∷ []) $ free1 ! $ move ! (4 ∷ 5 ∷ []) $ free1 ! $ move ! (2 ∷ 3 ∷ []) $ free1 ! $ free1 ! $ free0 ! $
-        split ! $ move ! (2 ∷ []) $ fsplit ! $ move ! (1 ∷ []) $ fsplit ! $ keep ! (3 ∷ 2 ∷ 0 ∷ []) $ by ! (exits free (sym (get_or-eq_default ys free (nltb→le c (length ys) past))) free-is)))))))))))
+        split ! $ move ! (2 ∷ []) $ fsplit ! $ move ! (1 ∷ []) $ fsplit ! $ keep ! (3 ∷ 2 ∷ 0 ∷ []) $ by ! (exits free (sym (get_or-eq_default ys free (nltb→le c (length ys) past))) free_is)))))))))))
 
 module _ {M : Type 1} {𝓤 : Ura M} (𝓛 : Logic 𝓤) (mem : Memory → SProp 𝓤) (run : Routine → Fun 𝓤) where
   open 𝓛 use {H}

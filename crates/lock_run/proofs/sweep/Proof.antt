@@ -45,12 +45,12 @@ use denote.Triple.Walked.{says, needs, Stays, stay_none, stay_slice, stay_none_s
 use denote.Exit.{yes}
 use Rattle.records.specs.declared.Lock.{Lock}
 use Rattle.run_changes.specs.declared.Change.{Change}
-use Rattle.run_changes.specs.Run.{countOf, cell_of, changedAt, swept, ChangeFits}
-use Rattle.lock_run.proofs.Row.{R, RC, low-c, tells-c, makes-c, typed-c, session-fits}
+use Rattle.run_changes.specs.Run.{count_of, cell_of, changed_at, swept, ChangeFits}
+use Rattle.lock_run.proofs.Row.{R, RC, low_c, tells_c, makes_c, typed_c, session_fits}
 use Rattle.lock_run.proofs.Leave.{full, bare, leave}
 use Rattle.lock_run.proofs.Short.{var, sets, relends}
-use Rattle.lock_run.proofs.Lent.{ref-at, lent}
-use Rattle.lock_run.proofs.Calls.{ChangeAt, ch-to, ch-gives, ch-goes, ch-gets}
+use Rattle.lock_run.proofs.Lent.{ref_at, lent}
+use Rattle.lock_run.proofs.Calls.{ChangeAt, ch-to, ch-gives, ch_goes, ch_gets}
 use Rattle.run_changes.specs.contracts.count_of as count_of
 use Rattle.run_changes.proofs.count_of.Symbol as count-of-def
 use Rattle.run_changes.proofs.count_of.Symbol.{name as #run-changes·count-of}
@@ -122,8 +122,8 @@ module _ {M : Type 1} {𝓤 : Ura M} (𝓛 : Logic 𝓤) (mem : Memory → SProp
   abbrev CountOf : Contract 𝓤
   CountOf = triple_of 𝓛 count_of.signature (count_of.spec 𝓛 mem run)
 
-  count-says : (d : Change) (r : ℕ) → ent 𝓤 (ensured 𝓛 count_of.ended (count_of.clauses 𝓛 mem run) tt (d, tt) tt r) (fact 𝓤 (r ≡ countOf d))
-  count-says d r = ex_e 𝓤 _ (λ ws. snd∗ 𝓤 (sem 𝓛 (lasts count_of.ended tt (d, tt) ws)) (fact 𝓤 (r ≡ countOf d)))
+  count-says : (d : Change) (r : ℕ) → ent 𝓤 (ensured 𝓛 count_of.ended (count_of.clauses 𝓛 mem run) tt (d, tt) tt r) (fact 𝓤 (r ≡ count_of d))
+  count-says d r = ex_e 𝓤 _ (λ ws. snd∗ 𝓤 (sem 𝓛 (lasts count_of.ended tt (d, tt) ws)) (fact 𝓤 (r ≡ count_of d)))
 
   abbrev CellOf : Contract 𝓤
   CellOf = triple_of 𝓛 cell-of.signature (cell-of.spec 𝓛 mem run)
@@ -133,7 +133,7 @@ module _ {M : Type 1} {𝓤 : Ura M} (𝓛 : Logic 𝓤) (mem : Memory → SProp
 
 module _ {M : Type 1} {𝓤 : Ura M} (𝓛 : Logic 𝓤) (mem : Memory → SProp 𝓤) (run : Routine → Fun 𝓤)
     (κ : Lft) (q : Share) (b o : ℕ) (γ : GName) (ys : List Lock) (b₂ o₂ : ℕ) (γ₂ : GName) (logs : List ℕ) (d : Change)
-    (room : Room R (length ys)) (room₂ : Room u32 (length logs)) (gd : Is RC d (low-c d ∷ [])) (ok : ChangeFits logs d) where
+    (room : Room R (length ys)) (room₂ : Room u32 (length logs)) (gd : Is RC d (low_c d ∷ [])) (ok : ChangeFits logs d) where
   open 𝓛 use {H}
 
   abbrev n : ℕ
@@ -146,13 +146,13 @@ module _ {M : Type 1} {𝓤 : Ura M} (𝓛 : Logic 𝓤) (mem : Memory → SProp
   s₂ = slice_val (b₂, o₂) (length logs)
 
   abbrev m : Val
-  m = low-c d
+  m = low_c d
 
   abbrev Arg : Type 0
   Arg = Bor (List Lock) × (Bor (List ℕ) × (Change × Unit {0}))
 
   abbrev a : Arg
-  a = (ref-at b o γ ys, (ref-at b₂ o₂ γ₂ logs, (d, tt)))
+  a = (ref_at b o γ ys, (ref_at b₂ o₂ γ₂ logs, (d, tt)))
 
   abbrev at : Vals sweep.signature (κ, tt)
   at = (s ∷ [], (s₂ ∷ [], (m ∷ [], tt)))
@@ -161,36 +161,36 @@ module _ {M : Type 1} {𝓤 : Ura M} (𝓛 : Logic 𝓤) (mem : Memory → SProp
   Post = (walk_of 𝓛 sweep.ended stayed (sweep.clauses 𝓛 mem run)).post (((κ, tt), (q, tt), tt, a, at), tt)
 
   abbrev Locks : List Lock → Fml
-  Locks zs = (MutSlice (named 0) κ R).own_val (ref-at b o γ zs) (s ∷ [])
+  Locks zs = (MutSlice (named 0) κ R).own_val (ref_at b o γ zs) (s ∷ [])
 
   abbrev Logs : Fml
-  Logs = (ShrSlice (named 0) κ u32).own_val (ref-at b₂ o₂ γ₂ logs) (s₂ ∷ [])
+  Logs = (ShrSlice (named 0) κ u32).own_val (ref_at b₂ o₂ γ₂ logs) (s₂ ∷ [])
 
   -- `count_of`
   abbrev to : (CountOf 𝓛 mem run).Ghost
   to = ((tt, tt, tt, (d, tt), (m ∷ [], tt)), tt)
 
   goes : ent 𝓤 (emp 𝓤) ((CountOf 𝓛 mem run).pre to)
-  goes = qed 𝓛 [] ∵ nothing ! $ owned ! RC (Is RC) (makes-c 𝓛) d (m ∷ []) gd $ fjoin ! $ nothing ! $ join ! $ frame ! $ done !
+  goes = qed 𝓛 [] ∵ nothing ! $ owned ! RC (Is RC) (makes_c 𝓛) d (m ∷ []) gd $ fjoin ! $ nothing ! $ join ! $ frame ! $ done !
 
   -- `cell_of`, at i
   abbrev to_cell : ℕ → (CellOf 𝓛 mem run).Ghost
-  to_cell i = (((κ, tt), (q, tt), tt, (ref-at b₂ o₂ γ₂ logs, (d, (i, tt))), (s₂ ∷ [], (m ∷ [], (vint w64 i ∷ [], tt)))), tt)
+  to_cell i = (((κ, tt), (q, tt), tt, (ref_at b₂ o₂ γ₂ logs, (d, (i, tt))), (s₂ ∷ [], (m ∷ [], (vint w64 i ∷ [], tt)))), tt)
 
-  goes-cell : (i : ℕ) → i < 2 ^ 64 → i < countOf d → ent 𝓤 (⋆ 𝓛 (‵ Logs ∷ ‵ (flft κ q) ∷ [])) ((CellOf 𝓛 mem run).pre (to_cell i))
+  goes-cell : (i : ℕ) → i < 2 ^ 64 → i < count_of d → ent 𝓤 (⋆ 𝓛 (‵ Logs ∷ ‵ (flft κ q) ∷ [])) ((CellOf 𝓛 mem run).pre (to_cell i))
   goes-cell i gi less =
       qed 𝓛 (‵ Logs ∷ ‵ (flft κ q) ∷ []) ∵ says ! (ok, less) $ nothing ! $ move ! (2 ∷ 0 ∷ []) $ join ! $ frame ! $
-      nothing ! $ owned ! usize (Is usize) (uint_Makes 𝓛 w64) i _ (refl, gi) $ fjoin ! $ owned ! RC (Is RC) (makes-c 𝓛) d (m ∷ []) gd $ fjoin ! $ move ! (1 ∷ 0 ∷ []) $ fjoin ! $ done !
+      nothing ! $ owned ! usize (Is usize) (uint_Makes 𝓛 w64) i _ (refl, gi) $ fjoin ! $ owned ! RC (Is RC) (makes_c 𝓛) d (m ∷ []) gd $ fjoin ! $ move ! (1 ∷ 0 ∷ []) $ fjoin ! $ done !
 
-  exits : (zs : List Lock) → length zs ≡ n → zs ≡ swept logs d (countOf d) ys → ent 𝓤 (⋆ 𝓛 (‵ (Locks zs) ∷ ‵ (flft κ q) ∷ ‵ Logs ∷ [])) (Post vunit)
+  exits : (zs : List Lock) → length zs ≡ n → zs ≡ swept logs d (count_of d) ys → ent 𝓤 (⋆ 𝓛 (‵ (Locks zs) ∷ ‵ (flft κ q) ∷ ‵ Logs ∷ [])) (Post vunit)
   exits zs len is =
       qed 𝓛 (‵ (Locks zs) ∷ ‵ (flft κ q) ∷ ‵ Logs ∷ []) ∵
       suffices ! _ (ends_at 𝓛 sweep.ended stayed (sweep.clauses 𝓛 mem run) (((κ, tt), (q, tt), tt, a, at), tt) vunit tt (zs, (tt, (tt, tt))) (len, (tt, (tt, tt)))) $ says ! is $
       nothing ! $ move ! (2 ∷ 0 ∷ []) $ join ! $ frame ! $
-      nothing ! $ owned ! RC (Is RC) (makes-c 𝓛) d (m ∷ []) gd $ fjoin ! $ move ! (2 ∷ 0 ∷ []) $ fjoin ! $ move ! (1 ∷ 0 ∷ []) $ fjoin ! $
+      nothing ! $ owned ! RC (Is RC) (makes_c 𝓛) d (m ∷ []) gd $ fjoin ! $ move ! (2 ∷ 0 ∷ []) $ fjoin ! $ move ! (1 ∷ 0 ∷ []) $ fjoin ! $
       feq_i ! (List Val) (vunit ∷ []) (vunit ∷ []) refl $ move ! (1 ∷ 0 ∷ []) $ done !
 
-  module _ (t : ℕ) (t-is : t ≡ countOf d) (gt : t < 2 ^ 64) where
+  module _ (t : ℕ) (t-is : t ≡ count_of d) (gt : t < 2 ^ 64) where
     record State : Type 0 where
       pub i : ℕ
       pub zs : List Lock
@@ -205,11 +205,11 @@ module _ {M : Type 1} {𝓤 : Ura M} (𝓛 : Logic 𝓤) (mem : Memory → SProp
     Nearer-wf = InvImage.wf (λ (u : State). t - u.i) lt-wf_rel.wf
 
     -- one turn more
-    one-turn : (i r : ℕ) (us zs : List Lock) → us ≡ swept logs d i ys → r ≡ cell_of logs d i → zs ≡ changedAt d r us → zs ≡ swept logs d (i + 1) ys
+    one-turn : (i r : ℕ) (us zs : List Lock) → us ≡ swept logs d i ys → r ≡ cell_of logs d i → zs ≡ changed_at d r us → zs ≡ swept logs d (i + 1) ys
     unfolding swept
-    one-turn i r us zs is r-is z-is = z-is ∙ ap (λ (k : ℕ). changedAt d k us) r-is ∙ ap (λ (z : List Lock). changedAt d (cell_of logs d i) z) is ∙ ap (λ (k : ℕ). swept logs d k ys) (one_more i)
+    one-turn i r us zs is r-is z-is = z-is ∙ ap (λ (k : ℕ). changed_at d k us) r-is ∙ ap (λ (z : List Lock). changed_at d (cell_of logs d i) z) is ∙ ap (λ (k : ℕ). swept logs d k ys) (one_more i)
 
-    abbrev next : (u : State) → u.i < t → (r : ℕ) → r ≡ cell_of logs d u.i → (zs : List Lock) → length zs ≡ n → zs ≡ changedAt d r u.zs → State
+    abbrev next : (u : State) → u.i < t → (r : ℕ) → r ≡ cell_of logs d u.i → (zs : List Lock) → length zs ≡ n → zs ≡ changed_at d r u.zs → State
     next u l r r-is zs len z-is = record { i = u.i + 1; zs = zs; upto = add-one-le l; len = len; is = one-turn u.i r u.zs zs u.is r-is z-is }
 
     module _ (𝓣 : Tables 𝓤 H) (known-cell : Triple 𝓤 (𝓣.C #run-changes·cell-of) (CellOf 𝓛 mem run)) (known : Triple 𝓤 (𝓣.C #lock-run·change-at) (ChangeAt 𝓛 mem run)) (l₀ l₁ l₂ l₃ l₄ l₅ l₆ l₇ l₈ l₉ l₁₀ : ℕ) where
@@ -238,18 +238,18 @@ module _ {M : Type 1} {𝓤 : Ura M} (𝓛 : Logic 𝓤) (mem : Memory → SProp
           first ! $ branches ! (var ! 9 refl)
           (λ less. let l = ltb→lt u.i t less in skips ! $ exec ! C Λ En more (any_q (IsTurn u)) $
           -- logs is Copy: one copy of what it owns goes to `cell_of`, with the token
-          move ! (2 ∷ []) $ use1 𝓛 (‵ Logs ⊛ ‵ Logs) ((shr_slice_copy 𝓛 (named 0) κ u32).twice (ref-at b₂ o₂ γ₂ logs) (s₂ ∷ [])) $ split ! $ move ! (0 ∷ 3 ∷ []) $
+          move ! (2 ∷ []) $ use1 𝓛 (‵ Logs ⊛ ‵ Logs) ((shr_slice_copy 𝓛 (named 0) κ u32).twice (ref_at b₂ o₂ γ₂ logs) (s₂ ∷ [])) $ split ! $ move ! (0 ∷ 3 ∷ []) $
           use2 𝓛 (raw ((CellOf 𝓛 mem run).pre (to_cell u.i))) (goes-cell u.i (fits_below u.i t l gt) (subst (λ (k : ℕ). u.i < k) t-is l)) $
           -- [what `cell_of` asks; logs; locks; _10 at 3; …]
           calls_at ! (fm_of 𝓤 H 𝓛.laws 𝓣) (CellOf 𝓛 mem run) known-cell (to_cell u.i) (and_then ! (var ! 19 refl) (and_then ! (var ! 17 refl) (and_then ! (var ! 13 refl) (no_more !)))) (λ w.
-          use1 𝓛 (later (some (λ (r : ℕ). ((‵ (flft κ q) ⊛ ‵ ftrue) ⊛ ‵ (usize.own_val r (w ∷ []))) ⊛ raw (ensured 𝓛 cell-of.ended (cell-of.clauses 𝓛 mem run) (κ, tt) (ref-at b₂ o₂ γ₂ logs, (d, (u.i, tt))) tt r)))) (id⊢ 𝓤 _) $ await ! tt $ pick ! (λ r.
-          split ! $ move ! (1 ∷ []) $ use1 𝓛 (raw (fact 𝓤 (r ≡ cell_of logs d u.i))) (cell-says 𝓛 mem run κ (ref-at b₂ o₂ γ₂ logs) d u.i r) $ heard ! (r ≡ cell_of logs d u.i) (λ r-is. split ! $ move ! (1 ∷ []) $
+          use1 𝓛 (later (some (λ (r : ℕ). ((‵ (flft κ q) ⊛ ‵ ftrue) ⊛ ‵ (usize.own_val r (w ∷ []))) ⊛ raw (ensured 𝓛 cell-of.ended (cell-of.clauses 𝓛 mem run) (κ, tt) (ref_at b₂ o₂ γ₂ logs, (d, (u.i, tt))) tt r)))) (id⊢ 𝓤 _) $ await ! tt $ pick ! (λ r.
+          split ! $ move ! (1 ∷ []) $ use1 𝓛 (raw (fact 𝓤 (r ≡ cell_of logs d u.i))) (cell-says 𝓛 mem run κ (ref_at b₂ o₂ γ₂ logs) d u.i r) $ heard ! (r ≡ cell_of logs d u.i) (λ r-is. split ! $ move ! (1 ∷ []) $
           peeks ! usize (Is usize) (shows 𝓛 usize) r (w ∷ []) (λ pr. land ! (from ! (stop !)) (init ! 12 refl ((uint_Lawful 𝓛 w64).typed r _ pr).0) $ drop ! $ split ! $
           -- [the token; true; logs; locks; _10 at 4; …]
           rewrite ! 12 (λ (v : Val). ‵ (fat full_share word l₆ 0 v)) (ap only pr.0) refl $ move ! (3 ∷ 0 ∷ 1 ∷ []) $
           relends ! 22 refl refl 6 refl (tt, tt) refl refl 4 refl (tt, (tt, (record { fits = room.0 }, tt))) $
-          lent ! (fm_of 𝓤 H 𝓛.laws 𝓣) (ChangeAt 𝓛 mem run) known R κ q b o n γ u.zs u.len room (ch-gives 𝓛 mem run b o n u.zs r pr.1 d gd (session-fits logs d ok)) (ch-to 𝓛 mem run b o n u.zs r pr.1 d gd (session-fits logs d ok))
-          (ch-goes 𝓛 mem run b o n u.zs r pr.1 d gd (session-fits logs d ok)) (ch-gets 𝓛 mem run b o n u.zs r pr.1 d gd (session-fits logs d ok) u.len)
+          lent ! (fm_of 𝓤 H 𝓛.laws 𝓣) (ChangeAt 𝓛 mem run) known R κ q b o n γ u.zs u.len room (ch-gives 𝓛 mem run b o n u.zs r pr.1 d gd (session_fits logs d ok)) (ch-to 𝓛 mem run b o n u.zs r pr.1 d gd (session_fits logs d ok))
+          (ch_goes 𝓛 mem run b o n u.zs r pr.1 d gd (session_fits logs d ok)) (ch_gets 𝓛 mem run b o n u.zs r pr.1 d gd (session_fits logs d ok) u.len)
           -- under the two entries that the step puts in front: [·; ·; logs; _10 at 3; …]
           (λ ν δ i j. and_then ! (var ! 3 refl) (and_then ! (var ! 11 refl) (and_then ! (var ! 17 refl) (no_more !)))) (λ v zs len. move ! (2 ∷ []) $ learn ! (λ z-is. peeks ! unit (Is unit) (shows 𝓛 unit) tt (v ∷ []) (λ pu.
           land ! (from ! (stop !)) (init ! 8 refl ((Nothing-Lawful 𝓛).typed tt (v ∷ []) pu).0) $ drop ! $
@@ -267,13 +267,13 @@ module _ {M : Type 1} {𝓤 : Ura M} (𝓛 : Logic 𝓤) (mem : Memory → SProp
   walk 𝓣 known-count known-cell known =
       qed 𝓛 ((‵ (flft κ q) ⊛ ‵ ftrue) ∷ ‵ (owns (MutSlice (named 0) κ R ∷ ShrSlice (named 0) κ u32 ∷ RC ∷ []) a at) ∷ []) ∵ enter ! 𝓣.C 𝓣.Λ code.function (s ∷ s₂ ∷ m ∷ []) _ $
       alloc1 ! (λ l₀. alloc1 ! (λ l₁. alloc1 ! (λ l₂. alloc1 ! (λ l₃. alloc1 ! (λ l₄. alloc1 ! (λ l₅. alloc1 ! (λ l₆. alloc1 ! (λ l₇. alloc1 ! (λ l₈. alloc1 ! (λ l₉. alloc1 ! (λ l₁₀. alloc0 ! $ params1 ! $
-      pass1 ! (init ! 18 refl (tt, (tt, (record { fits = room.0 }, tt)))) $ pass1 ! (init ! 16 refl (tt, (tt, (record { fits = room₂.0 }, tt)))) $ pass1 ! (init ! 14 refl (typed-c 𝓛 d m gd)) $ pass0 ! $
+      pass1 ! (init ! 18 refl (tt, (tt, (record { fits = room.0 }, tt)))) $ pass1 ! (init ! 16 refl (tt, (tt, (record { fits = room₂.0 }, tt)))) $ pass1 ! (init ! 14 refl (typed_c 𝓛 d m gd)) $ pass0 ! $
       move ! (23 ∷ []) $ fsplit ! $ move ! (1 ∷ []) $ fsplit ! $ move ! (25 ∷ []) $ split ! $ move ! (4 ∷ 0 ∷ 2 ∷ []) $
       -- [locks; the token; logs; true; change's; _10 at 5; …; _0 at 25; …]
       use0 𝓛 (raw ((CountOf 𝓛 mem run).pre to)) goes $
       calls_at ! (fm_of 𝓤 H 𝓛.laws 𝓣) (CountOf 𝓛 mem run) known-count to (and_then ! (var ! 20 refl) (no_more !)) (λ w.
       use1 𝓛 (later (some (λ (r : ℕ). (‵ ftrue ⊛ ‵ (usize.own_val r (w ∷ []))) ⊛ raw (ensured 𝓛 count_of.ended (count_of.clauses 𝓛 mem run) tt (d, tt) tt r)))) (id⊢ 𝓤 _) $ await ! tt $ pick ! (λ t.
-      split ! $ move ! (1 ∷ []) $ use1 𝓛 (raw (fact 𝓤 (t ≡ countOf d))) (count-says 𝓛 mem run d t) $ heard ! (t ≡ countOf d) (λ t-is. split ! $ drop ! $
+      split ! $ move ! (1 ∷ []) $ use1 𝓛 (raw (fact 𝓤 (t ≡ count_of d))) (count-says 𝓛 mem run d t) $ heard ! (t ≡ count_of d) (λ t-is. split ! $ drop ! $
       peeks ! usize (Is usize) (shows 𝓛 usize) t (w ∷ []) (λ pt. land ! (from ! (stop !)) (init ! 18 refl ((uint_Lawful 𝓛 w64).typed t _ pt).0) $ drop ! $
       rewrite ! 17 (λ (v : Val). ‵ (fat full_share word l₄ 0 v)) (ap only pt.0) refl $
       sets ! (of_opd ! (lit ! tt)) 15 refl (tt, record { fits = lit< tt }) $
@@ -286,8 +286,8 @@ module _ {M : Type 1} {𝓤 : Ura M} (𝓛 : Logic 𝓤) (mem : Memory → SProp
   open 𝓛 use {H}
 
   walks : Walks 𝓛 sweep.ended stayed (WpFn 𝓤 H 𝓣.C 𝓣.Λ code.function) (sweep.clauses 𝓛 mem run)
-  walks = walked 𝓛 sweep.ended stayed (sweep.clauses 𝓛 mem run) (WpFn 𝓤 H 𝓣.C 𝓣.Λ code.function) (λ κs. (shr_slice_vals, (shr_slice_vals, (λ (k : Change). low-c k ∷ [], tt))))
-      (λ κs. (mut_slice_Tells (named 0) κs.0 R, (shr_slice_Tells (named 0) κs.0 u32, (tells-c, tt))))
+  walks = walked 𝓛 sweep.ended stayed (sweep.clauses 𝓛 mem run) (WpFn 𝓤 H 𝓣.C 𝓣.Λ code.function) (λ κs. (shr_slice_vals, (shr_slice_vals, (λ (k : Change). low_c k ∷ [], tt))))
+      (λ κs. (mut_slice_Tells (named 0) κs.0 R, (shr_slice_Tells (named 0) κs.0 u32, (tells_c, tt))))
       (λ κs qs bounds a g are. needs 𝓤 _ _ (λ ok.
       walk 𝓛 mem run κs.0 qs.0 a.0.ref_ptr.0 a.0.ref_ptr.1 a.0.ghost_name a.0.now a.1.0.ref_ptr.0 a.1.0.ref_ptr.1 a.1.0.ghost_name a.1.0.now a.1.1.0 are.0.0.1 are.1.0.0.1 are.1.1.0 ok 𝓣 known-count known-cell known))
 

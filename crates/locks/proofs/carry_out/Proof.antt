@@ -1,11 +1,11 @@
 -- One cell's lock and rolling back, one after the other, are the change.
 use mathlib.Core.Path.{sym, ◌∙◌}
-use Rattle.locks.proofs.Changes.{one-fits, in_two}
+use Rattle.locks.proofs.Changes.{one_fits, in_two}
 use Rattle.locks.proofs.carry_out.Statement.{statement}
 use Rattle.locks.proofs.carry_out.Tie as tie
 
 change-one-requires : tie.Need-change-one-requires
-change-one-requires c κs = let s = c.before.before.before.before.before.before.before in (s.requires.0, one-fits _ _ _ _ _ s.requires.1, s.requires.2, s.requires.3)
+change-one-requires c κs = let s = c.before.before.before.before.before.before.before in (s.requires.0, one_fits _ _ _ _ _ s.requires.1, s.requires.2, s.requires.3)
 
 change-withdraw-requires : tie.Need-change-withdraw-requires
 change-withdraw-requires c κs = let s = c.before.before.before.before.before.before.before.before.before.before.before.before.before.before.before.before.before in (rw c.before.before.before.before.before.before.before.before.before.change-one.auto.1.0 s.requires.1, c.before.before.before.before.before.before.before.before.before.change-one.auto.1.1.0 ∙ s.requires.2 ∙ sym c.before.before.before.before.before.before.before.before.before.change-one.auto.1.0, c.before.before.before.before.before.before.before.before.before.change-one.auto.1.1.1.0 ∙ s.requires.3 ∙ sym c.before.before.before.before.before.before.before.before.before.change-one.auto.1.0)

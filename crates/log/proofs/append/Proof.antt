@@ -2,7 +2,7 @@
 use native.Mathlib.Omega.{arith}
 use lib.ListN.{length-set}
 use borrow.Author.Rules.{rules}
-use Rattle.log.proofs.Searches.{append-stores}
+use Rattle.log.proofs.Searches.{append_stores}
 use Rattle.log.proofs.append.Statement.{statement}
 use Rattle.log.proofs.append.Tie as tie
 
@@ -13,7 +13,7 @@ slice-write-log-3 : tie.Need-slice-write-log-3
 slice-write-log-3 c = simp length-set (omega arith)
 
 returns : tie.Need-returns
-returns c = append-stores _ _ _ _
+returns c = append_stores _ _ _ _
 
 pub append-spec : {M : Type 1} → statement M
 append-spec =

@@ -1,7 +1,7 @@
 -- Entry k's cell is the word at 4 × k.
 use mathlib.Core.Path.{sym}
 use borrow.Author.Rules.{rules}
-use Rattle.log.proofs.Searches.{cell-word}
+use Rattle.log.proofs.Searches.{cell_word}
 use Rattle.log.proofs.cell_at.Statement.{statement}
 use Rattle.log.proofs.cell_at.Tie as tie
 
@@ -15,7 +15,7 @@ shared-slice-read-result : tie.Need-shared-slice-read-result
 shared-slice-read-result c = search rules
 
 returns : tie.Need-returns
-returns c = sym (cell-word _ _)
+returns c = sym (cell_word _ _)
 
 pub cell-at-spec : {M : Type 1} → statement M
 cell-at-spec = tie.close (tie.spec mul-result mul-result-2 shared-slice-read-result returns)

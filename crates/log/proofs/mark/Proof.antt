@@ -1,11 +1,11 @@
 -- The store is that of the definition.
 use borrow.Author.Rules.{rules}
-use Rattle.log.proofs.Searches.{mark-stores}
+use Rattle.log.proofs.Searches.{mark_stores}
 use Rattle.log.proofs.mark.Statement.{statement}
 use Rattle.log.proofs.mark.Tie as tie
 
 returns : tie.Need-returns
-returns c = mark-stores _ _
+returns c = mark_stores _ _
 
 pub mark_spec : {M : Type 1} → statement M
 mark_spec =

@@ -2,7 +2,7 @@
 use mathlib.Core.Path.{◌≡◌}
 use Prim.Native.Nat.{ℕ, ◌+◌, ◌*◌, ◌-◌}
 use native.Mathlib.Omega.{arith}
-use Rattle.model.specs.Buffers.{logIn}
+use Rattle.model.specs.Buffers.{log_in}
 use borrow.Author.Rules.{rules}
 use Rattle.log.proofs.of_session.Statement.{statement}
 use Rattle.log.proofs.of_session.Tie as tie
@@ -11,7 +11,7 @@ width : (s : ℕ) → 128 * s + 128 - 128 * s ≡ 128
 width s = omega arith
 
 returns : tie.Need-returns
-unfolding logIn
+unfolding log_in
 returns c = rw (width _)
 
 pub of-session-spec : {M : Type 1} → statement M

@@ -2,7 +2,7 @@
 use native.Mathlib.Omega.{arith}
 use lib.ListN.{length-set}
 use borrow.Author.Rules.{rules}
-use Rattle.log.proofs.Searches.{update-stores}
+use Rattle.log.proofs.Searches.{update_stores}
 use Rattle.log.proofs.update.Statement.{statement}
 use Rattle.log.proofs.update.Tie as tie
 
@@ -10,7 +10,7 @@ slice-write-log-2 : tie.Need-slice-write-log-2
 slice-write-log-2 c = simp length-set (omega arith)
 
 returns : tie.Need-returns
-returns c = update-stores _ _ _
+returns c = update_stores _ _ _
 
 pub update-spec : {M : Type 1} → statement M
 update-spec =

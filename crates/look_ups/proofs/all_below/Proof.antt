@@ -6,7 +6,7 @@ use native.Mathlib.Numerals.{add-one}
 use native.Mathlib.Omega.{arith}
 use Rattle.model.specs.Buffers.{cell_at}
 use Rattle.model.specs.Search.{below}
-use Rattle.log.proofs.Searches.{below-stop, below_more}
+use Rattle.log.proofs.Searches.{below_stop, below_more}
 use Rattle.look_ups.proofs.all_below.Statement.{statement}
 use Rattle.look_ups.proofs.all_below.Tie as tie
 
@@ -24,7 +24,7 @@ cell-at-requires : tie.Need-cell-at-requires invariant-loop decreases-loop
 cell-at-requires c κs = omega arith
 
 returns : tie.Need-returns invariant-loop decreases-loop
-returns c = sym (below-stop _ (cell_at _) c.before.before.before.loop.i _ (rw (← c.before.Cell-at.ensures) c.if1.true) c.before.before.loop-test.true)
+returns c = sym (below_stop _ (cell_at _) c.before.before.before.loop.i _ (rw (← c.before.Cell-at.ensures) c.if1.true) c.before.before.loop-test.true)
 
 add-i : tie.Need-overflow-add-i invariant-loop decreases-loop
 add-i c = omega arith

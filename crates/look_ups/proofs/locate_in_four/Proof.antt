@@ -3,8 +3,8 @@ use Prim.Native.Nat.{◌+◌}
 use mathlib.Core.Option.{none}
 use mathlib.Core.Path.{◌≡◌, refl, sym, ◌∙◌}
 use native.Mathlib.Omega.{arith}
-use Rattle.model.specs.Buffers.{slotIn}
-use Rattle.log.proofs.Searches.{slot-past, located_here, located-nowhere}
+use Rattle.model.specs.Buffers.{slot_in}
+use Rattle.log.proofs.Searches.{slot_past, located_here, located_nowhere}
 use Rattle.look_ups.proofs.locate_in_four.Statement.{statement}
 use Rattle.look_ups.proofs.locate_in_four.Tie as tie
 
@@ -13,26 +13,26 @@ use Rattle.look_ups.proofs.locate_in_four.Tie as tie
 abbrev start₁ : tie.Else1 → tie.Start
 start₁ c = c.before.before.before
 
-free₁ : (c : tie.Else1) → slotIn (start₁ c).args.log.now ((start₁ c).args.i + 1) (start₁ c).args.cell ≡ none
-free₁ c = slot-past _ _ _ (start₁ c).requires.1 (λ e. c.if1.false (c.before.Cell-at.ensures ∙ e)) refl
+free₁ : (c : tie.Else1) → slot_in (start₁ c).args.log.now ((start₁ c).args.i + 1) (start₁ c).args.cell ≡ none
+free₁ c = slot_past _ _ _ (start₁ c).requires.1 (λ e. c.if1.false (c.before.Cell-at.ensures ∙ e)) refl
 
 abbrev start₂ : tie.Else2 → tie.Start
 start₂ c = start₁ c.before.before
 
-free₂ : (c : tie.Else2) → slotIn (start₂ c).args.log.now ((start₂ c).args.i + 2) (start₂ c).args.cell ≡ none
-free₂ c = slot-past _ _ _ (free₁ c.before.before) (λ e. c.if2.false (c.before.cell-at2.ensures ∙ e)) (omega arith)
+free₂ : (c : tie.Else2) → slot_in (start₂ c).args.log.now ((start₂ c).args.i + 2) (start₂ c).args.cell ≡ none
+free₂ c = slot_past _ _ _ (free₁ c.before.before) (λ e. c.if2.false (c.before.cell-at2.ensures ∙ e)) (omega arith)
 
 abbrev start₃ : tie.Else3 → tie.Start
 start₃ c = start₂ c.before.before
 
-free₃ : (c : tie.Else3) → slotIn (start₃ c).args.log.now ((start₃ c).args.i + 3) (start₃ c).args.cell ≡ none
-free₃ c = slot-past _ _ _ (free₂ c.before.before) (λ e. c.if3.false (c.before.cell-at3.ensures ∙ e)) (omega arith)
+free₃ : (c : tie.Else3) → slot_in (start₃ c).args.log.now ((start₃ c).args.i + 3) (start₃ c).args.cell ≡ none
+free₃ c = slot_past _ _ _ (free₂ c.before.before) (λ e. c.if3.false (c.before.cell-at3.ensures ∙ e)) (omega arith)
 
 abbrev start₄ : tie.Else4 → tie.Start
 start₄ c = start₃ c.before.before
 
-free₄ : (c : tie.Else4) → slotIn (start₄ c).args.log.now ((start₄ c).args.i + 4) (start₄ c).args.cell ≡ none
-free₄ c = slot-past _ _ _ (free₃ c.before.before) (λ e. c.if4.false (c.before.cell-at4.ensures ∙ e)) (omega arith)
+free₄ : (c : tie.Else4) → slot_in (start₄ c).args.log.now ((start₄ c).args.i + 4) (start₄ c).args.cell ≡ none
+free₄ c = slot_past _ _ _ (free₃ c.before.before) (λ e. c.if4.false (c.before.cell-at4.ensures ∙ e)) (omega arith)
 
 -- ---- the needs
 
@@ -82,7 +82,7 @@ add-t6 : tie.Need-overflow-add-t6
 add-t6 c = omega arith
 
 returns-5 : tie.Need-returns-5
-returns-5 c = located-nowhere _ _ _ (free₄ c)
+returns-5 c = located_nowhere _ _ _ (free₄ c)
 
 pub locate-in-four-spec : {M : Type 1} → statement M
 locate-in-four-spec =

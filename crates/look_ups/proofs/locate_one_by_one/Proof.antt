@@ -3,19 +3,19 @@ use Prim.Native.Nat.{◌≤◌, ◌-◌}
 use mathlib.Core.Option.{none}
 use mathlib.Core.Path.{◌≡◌, refl, sym, ◌∙◌}
 use native.Mathlib.Omega.{arith}
-use Rattle.model.specs.Buffers.{slotIn}
-use Rattle.log.proofs.Searches.{slot-start, slot-past, located_here, located-nowhere}
+use Rattle.model.specs.Buffers.{slot_in}
+use Rattle.log.proofs.Searches.{slot_start, slot_past, located_here, located_nowhere}
 use Rattle.look_ups.proofs.locate_one_by_one.Statement.{statement}
 use Rattle.look_ups.proofs.locate_one_by_one.Tie as tie
 
 abbrev invariant-loop : tie.invariant-loop
-invariant-loop log count cell i₀ i = (i ≤ count) × (slotIn log i cell ≡ none)
+invariant-loop log count cell i₀ i = (i ≤ count) × (slot_in log i cell ≡ none)
 
 abbrev decreases-loop : tie.decreases-loop
 decreases-loop log count cell i₀ i = count - i
 
 loop-holds : tie.Need-loop-init invariant-loop decreases-loop
-loop-holds c = (omega arith, slot-start _ _)
+loop-holds c = (omega arith, slot_start _ _)
 
 cell-at-requires : tie.Need-cell-at-requires invariant-loop decreases-loop
 cell-at-requires c κs = omega arith
@@ -32,12 +32,12 @@ loop-less : tie.Need-loop-smaller invariant-loop decreases-loop
 loop-less c = omega arith
 
 loop-again : tie.Need-loop-preserved invariant-loop decreases-loop
-loop-again c = (omega arith, slot-past _ _ _ c.before.before.before.loop.invariant.1 (λ e. c.if1.false (c.before.Cell-at.ensures ∙ e)) refl)
+loop-again c = (omega arith, slot_past _ _ _ c.before.before.before.loop.invariant.1 (λ e. c.if1.false (c.before.Cell-at.ensures ∙ e)) refl)
 
 returns-2 : tie.Need-returns-2 invariant-loop decreases-loop
 returns-2 c =
     let e : c.before.loop.i ≡ c.before.before.before.args.count = omega arith in
-    located-nowhere _ _ _ (rw e at c.before.loop.invariant.1)
+    located_nowhere _ _ _ (rw e at c.before.loop.invariant.1)
 
 pub locate-one-by-one-spec : {M : Type 1} → statement M
 locate-one-by-one-spec =

@@ -1,11 +1,11 @@
--- Each return is a way through `holdPlan`: the tests' number, the cell outside, known, or new.
+-- Each return is a way through `hold_plan`: the tests' number, the cell outside, known, or new.
 use mathlib.Core.Path.{sym, ◌∙◌}
 use native.Mathlib.Omega.{arith}
 use borrow.Author.Tests.{not-true, not-false}
-use Rattle.model.specs.Plans.{holdPlan}
-use Rattle.log.proofs.Searches.{known-within, unknown-past}
-use Rattle.refusals.proofs.Ways.{run-refused, few, room, inside, outside}
-use Rattle.plans.proofs.Ways.{hold-known, hold-new}
+use Rattle.model.specs.Plans.{hold_plan}
+use Rattle.log.proofs.Searches.{known_within, unknown_past}
+use Rattle.refusals.proofs.Ways.{run_refused, few, room, inside, outside}
+use Rattle.plans.proofs.Ways.{hold_known, hold_new}
 use borrow.Author.Rules.{rules}
 use Rattle.plans.proofs.hold_plan.Statement.{statement}
 use Rattle.plans.proofs.hold_plan.Tie as tie
@@ -14,30 +14,30 @@ running-refusal-requires : tie.Need-running-refusal-requires
 running-refusal-requires c κs = (c.before.before.before.before.requires.0, c.before.before.before.before.requires.1, sym c.before.runs.ensures ∙ not-true _ c.if1.true)
 
 returns : tie.Need-returns
-unfolding holdPlan
-returns c = run-refused _ _ _ _ c.before.before.runs.ensures (not-true _ c.before.if1.true) _ c.running-refusal.ensures _
+unfolding hold_plan
+returns c = run_refused _ _ _ _ c.before.before.runs.ensures (not-true _ c.before.if1.true) _ c.running-refusal.ensures _
 
 returns-2 : tie.Need-returns-2
-unfolding holdPlan
+unfolding hold_plan
 returns-2 c = outside _ _ _ _ c.before.before.runs.ensures (not-false _ c.before.if1.false) _ _ c.if2.true
 
 locate-requires : tie.Need-locate-requires
 locate-requires c κs = room _ _ _ _ c.before.before.runs.ensures (not-false _ c.before.if1.false) c.before.before.before.before.before.requires.0
 
 current-requires : tie.Need-current-requires
-current-requires c κs = inside _ _ _ _ c.before.before.before.before.runs.ensures (not-false _ c.before.before.before.if1.false) c.before.before.before.before.before.before.before.requires.0 _ (known-within _ _ _ _ _ c.before.locate.ensures c.if3.true)
+current-requires c κs = inside _ _ _ _ c.before.before.before.before.runs.ensures (not-false _ c.before.before.before.if1.false) c.before.before.before.before.before.before.before.requires.0 _ (known_within _ _ _ _ _ c.before.locate.ensures c.if3.true)
 
 cast-t13 : tie.Need-overflow-cast-t13
 cast-t13 c =
-    let l = known-within _ _ _ _ _ c.before.locate.ensures c.if3.true in
+    let l = known_within _ _ _ _ _ c.before.locate.ensures c.if3.true in
     let m = few _ _ _ _ c.before.before.before.before.runs.ensures (not-false _ c.before.before.before.if1.false) in
     record { fits = omega (arith, l, m) }
 
 returns-3 : tie.Need-returns-3
-returns-3 c = hold-known _ _ _ _ c.before.before.before.before.before.runs.ensures (not-false _ c.before.before.before.before.if1.false) _ _ c.before.before.before.if2.false _ c.before.before.locate.ensures.slot_is (known-within _ _ _ _ _ c.before.before.locate.ensures c.before.if3.true) _ c.current.ensures
+returns-3 c = hold_known _ _ _ _ c.before.before.before.before.before.runs.ensures (not-false _ c.before.before.before.before.if1.false) _ _ c.before.before.before.if2.false _ c.before.before.locate.ensures.slot_is (known_within _ _ _ _ _ c.before.before.locate.ensures c.before.if3.true) _ c.current.ensures
 
 returns-4 : tie.Need-returns-4
-returns-4 c = hold-new _ _ _ _ c.before.before.before.before.before.runs.ensures (not-false _ c.before.before.before.before.if1.false) _ _ c.before.before.before.if2.false _ c.before.before.locate.ensures.slot_is (unknown-past _ _ _ _ _ c.before.before.locate.ensures c.before.if3.false) _ c.new-cell.ensures
+returns-4 c = hold_new _ _ _ _ c.before.before.before.before.before.runs.ensures (not-false _ c.before.before.before.before.if1.false) _ _ c.before.before.before.if2.false _ c.before.before.locate.ensures.slot_is (unknown_past _ _ _ _ _ c.before.before.locate.ensures c.before.if3.false) _ c.new-cell.ensures
 
 pub hold-plan-spec : {M : Type 1} → statement M
 hold-plan-spec =

@@ -1,12 +1,12 @@
 -- `run_changes::cell_of` meets its contract: one arm for each change.
-use Rattle.run_changes.proofs.Cells.{withdraw-fits, leave_fits}
+use Rattle.run_changes.proofs.Cells.{withdraw_fits, leave_fits}
 use Rattle.run_changes.specs.Run.{cell_of}
 use borrow.Author.Rules.{rules}
 use Rattle.run_changes.proofs.cell_of.Statement.{statement}
 use Rattle.run_changes.proofs.cell_of.Tie as tie
 
 entry-cell-requires : tie.Need-entry-cell-requires
-entry-cell-requires c κs = withdraw-fits c.before.before.before.before.args.logs.now c.before.before.before.before.args.change _ _ c.before.before.before.before.args.i c.before.change5.given.1 c.before.before.before.before.requires.0 c.before.before.before.before.requires.1
+entry-cell-requires c κs = withdraw_fits c.before.before.before.before.args.logs.now c.before.before.before.before.args.change _ _ c.before.before.before.before.args.i c.before.change5.given.1 c.before.before.before.before.requires.0 c.before.before.before.before.requires.1
 
 unpublished-cell-requires : tie.Need-unpublished-cell-requires
 unpublished-cell-requires c κs = leave_fits c.before.before.before.before.args.logs.now c.before.before.before.before.args.change _ _ c.before.before.before.before.args.i c.before.change6.given.1 c.before.before.before.before.requires.0 c.before.before.before.before.requires.1

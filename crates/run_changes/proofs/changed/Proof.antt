@@ -1,5 +1,5 @@
 -- `run_changes::changed` meets its contract: one arm for each change, by the function of crate `locks` that makes it.
-use Rattle.run_changes.specs.Run.{changeOf}
+use Rattle.run_changes.specs.Run.{change_of}
 use borrow.Author.Rules.{rules}
 use Rattle.run_changes.proofs.changed.Statement.{statement}
 use Rattle.run_changes.proofs.changed.Tie as tie
@@ -17,35 +17,35 @@ left-requires : tie.Need-left-requires
 left-requires c κs = rw c.before.change6.given.1 at c.before.before.before.requires
 
 returns : tie.Need-returns
-unfolding changeOf
+unfolding change_of
 returns c = search rules
 
 returns-2 : tie.Need-returns-2
-unfolding changeOf
+unfolding change_of
 returns-2 c = rw c.before.before.change.given.1 c.joined.ensures
 
 returns-3 : tie.Need-returns-3
-unfolding changeOf
+unfolding change_of
 returns-3 c = rw c.before.before.change2.given.1 c.claimed.ensures
 
 returns-4 : tie.Need-returns-4
-unfolding changeOf
+unfolding change_of
 returns-4 c = rw c.before.before.change3.given.1 c.acquired.ensures
 
 returns-5 : tie.Need-returns-5
-unfolding changeOf
+unfolding change_of
 returns-5 c = rw c.before.before.change4.given.1 c.vacated.ensures
 
 returns-6 : tie.Need-returns-6
-unfolding changeOf
+unfolding change_of
 returns-6 c = rw c.before.before.change5.given.1 c.withdrawn.ensures
 
 returns-7 : tie.Need-returns-7
-unfolding changeOf
+unfolding change_of
 returns-7 c = rw c.before.before.change6.given.1 c.left.ensures
 
 returns-8 : tie.Need-returns-8
-unfolding changeOf
+unfolding change_of
 returns-8 c = rw c.enum-told2.given.1
 
 pub changed-spec : {M : Type 1} → statement M

@@ -1,17 +1,17 @@
 -- Refused by 7 or 1, or the turn of `turns::write`, by what the table decides, put back.
 use lib.ListN.{length}
-use Rattle.run_turns.proofs.OnRun.{low, words, few, classed, log-fits}
-use Rattle.run_turns.proofs.ByTable.{write-7, write-refuses, write-decided, writes}
+use Rattle.run_turns.proofs.OnRun.{low, words, few, classed, log_fits}
+use Rattle.run_turns.proofs.ByTable.{write_7, write_refuses, write_decided, writes}
 use native.Mathlib.Omega.{arith}
 use borrow.Author.Rules.{rules}
 use Rattle.run_turns.proofs.write_turn.Statement.{statement}
 use Rattle.run_turns.proofs.write_turn.Tie as tie
 
 returns : tie.Need-returns
-returns c = let a = c.before.before.before.before.before.before.args in write-7 a.caps.now a.values.now a.classes.now a.logs.now a.t1 a.locks a.l a.session a.cell a.value c.before.if1.true _ c.only-answer.ensures
+returns c = let a = c.before.before.before.before.before.before.args in write_7 a.caps.now a.values.now a.classes.now a.logs.now a.t1 a.locks a.l a.session a.cell a.value c.before.if1.true _ c.only-answer.ensures
 
 returns-2 : tie.Need-returns-2
-returns-2 c = let a = c.before.before.before.before.before.before.before.before.args in write-refuses a.caps.now a.values.now a.classes.now a.logs.now a.t1 a.locks a.l a.session a.cell a.value c.before.before.before.if1.false _ c.before.before.admit.ensures c.before.if2.true _ c.only-answer2.ensures
+returns-2 c = let a = c.before.before.before.before.before.before.before.before.args in write_refuses a.caps.now a.values.now a.classes.now a.logs.now a.t1 a.locks a.l a.session a.cell a.value c.before.before.before.if1.false _ c.before.before.admit.ensures c.before.if2.true _ c.only-answer2.ensures
 
 element-copy-out-x : tie.Need-element-copy-out-x
 element-copy-out-x c = let a = c.before.before.before.before.before.before.before.args in low (length a.values.now) (length a.classes.now) a.locks a.logs.now a.session _ c.before.admit.ensures c.if2.false
@@ -20,10 +20,10 @@ of-session-requires : tie.Need-of-session-requires
 of-session-requires c κs = let a = c.before.before.before.before.before.before.before.before.before.args in (low (length a.values.now) (length a.classes.now) a.locks a.logs.now a.session _ c.before.before.before.admit.ensures c.before.before.if2.false, words (length a.values.now) (length a.classes.now) a.locks a.logs.now a.session _ c.before.before.before.admit.ensures c.before.before.if2.false)
 
 write-plan-by-requires : tie.Need-write-plan-by-requires
-write-plan-by-requires c κs = let a = c.before.before.before.before.before.before.before.before.before.before.args in let f = log-fits (length a.values.now) (length a.classes.now) a.locks a.logs.now a.session _ c.before.before.before.before.admit.ensures c.before.before.before.if2.false _ c.of-session.ensures in (c.before.before.before.before.before.if1.false, f.0, let n = few (length a.values.now) (length a.classes.now) a.locks a.logs.now a.session _ c.before.before.before.before.admit.ensures c.before.before.before.if2.false in let k = classed (length a.values.now) (length a.classes.now) a.locks a.logs.now a.session _ c.before.before.before.before.admit.ensures c.before.before.before.if2.false in omega arith)
+write-plan-by-requires c κs = let a = c.before.before.before.before.before.before.before.before.before.before.args in let f = log_fits (length a.values.now) (length a.classes.now) a.locks a.logs.now a.session _ c.before.before.before.before.admit.ensures c.before.before.before.if2.false _ c.of-session.ensures in (c.before.before.before.before.before.if1.false, f.0, let n = few (length a.values.now) (length a.classes.now) a.locks a.logs.now a.session _ c.before.before.before.before.admit.ensures c.before.before.before.if2.false in let k = classed (length a.values.now) (length a.classes.now) a.locks a.logs.now a.session _ c.before.before.before.before.admit.ensures c.before.before.before.if2.false in omega arith)
 
 write-requires : tie.Need-write-requires
-write-requires c κs = let a = c.before.before.before.before.before.before.before.before.before.before.before.before.args in (low (length a.values.now) (length a.classes.now) a.locks a.logs.now a.session _ c.before.before.before.before.before.before.admit.ensures c.before.before.before.before.before.if2.false, words (length a.values.now) (length a.classes.now) a.locks a.logs.now a.session _ c.before.before.before.before.before.before.admit.ensures c.before.before.before.before.before.if2.false, write-decided a.caps.now a.values.now a.classes.now a.logs.now a.t1 a.locks a.l a.session a.cell a.value c.before.before.before.before.before.before.before.if1.false _ c.before.before.before.before.before.before.admit.ensures c.before.before.before.before.before.if2.false _ c.before.before.of-session.ensures _ c.before.write-plan-by.ensures)
+write-requires c κs = let a = c.before.before.before.before.before.before.before.before.before.before.before.before.args in (low (length a.values.now) (length a.classes.now) a.locks a.logs.now a.session _ c.before.before.before.before.before.before.admit.ensures c.before.before.before.before.before.if2.false, words (length a.values.now) (length a.classes.now) a.locks a.logs.now a.session _ c.before.before.before.before.before.before.admit.ensures c.before.before.before.before.before.if2.false, write_decided a.caps.now a.values.now a.classes.now a.logs.now a.t1 a.locks a.l a.session a.cell a.value c.before.before.before.before.before.before.before.if1.false _ c.before.before.before.before.before.before.admit.ensures c.before.before.before.before.before.if2.false _ c.before.before.of-session.ensures _ c.before.write-plan-by.ensures)
 
 element-set-from-y : tie.Need-element-set-from-y
 element-set-from-y c = let a = c.before.before.before.before.before.before.before.before.before.before.before.before.before.before.before.before.args in low (length a.values.now) (length a.classes.now) a.locks a.logs.now a.session _ c.before.before.before.before.before.before.before.before.before.before.admit.ensures c.before.before.before.before.before.before.before.before.before.if2.false

@@ -5,7 +5,7 @@ use mathlib.Core.List.{◌++◌}
 use native.Mathlib.Omega.{arith}
 use borrow.Author.Rules.{rules}
 use lib.ListN.{length-set, length, drop, replicate}
-use Rattle.log.proofs.Fills.{fill-again, fill_end}
+use Rattle.log.proofs.Fills.{fill_again, fill_end}
 use Rattle.set_up.proofs.fill_bytes.Statement.{statement}
 use Rattle.set_up.proofs.fill_bytes.Tie as tie
 
@@ -22,7 +22,7 @@ loop-again : tie.Need-loop-preserved invariant-loop decreases-loop
 loop-again c =
     let v = c.before.loop.invariant in
     let h = c.loop-test.true in
-    (omega arith, simp length-set v.1, fill-again _ _ _ _ v.2 (omega arith))
+    (omega arith, simp length-set v.1, fill_again _ _ _ _ v.2 (omega arith))
 
 returns : tie.Need-returns invariant-loop decreases-loop
 returns c =

@@ -2,22 +2,22 @@
 use mathlib.Core.Path.{refl, ap, ◌∙◌}
 use borrow.Author.Tests.{not-true, not-false}
 use Rattle.model.specs.Buffers.{Buffers}
-use Rattle.refusals.proofs.Lengths.{Admitted, admitted-by}
-use Rattle.contracts.specs.Lent.{buffersOf}
+use Rattle.refusals.proofs.Lengths.{Admitted, admitted_by}
+use Rattle.contracts.specs.Lent.{buffers_of}
 use Rattle.model.specs.Plans.{plan}
 use Rattle.records.specs.declared.Call.TheVariants.{Hold}
-use Rattle.locks.specs.Changes.{dropOf}
-use Rattle.turns.proofs.Forms.{even, log-fits, undropped, hold-planned, hold-drops-none, change-is, can-carry, replies, turned_down}
+use Rattle.locks.specs.Changes.{drop_of}
+use Rattle.turns.proofs.Forms.{even, log_fits, undropped, hold_planned, hold_drops_none, change_is, can_carry, replies, turned_down}
 use borrow.Author.Rules.{rules}
 use Rattle.store.proofs.hold.Statement.{statement}
 use Rattle.store.proofs.hold.Tie as tie
 
 -- the buffers at the entry, and what is known past 7 and 1
 abbrev lent : tie.Start → Buffers
-lent c = buffersOf c.args.values.now c.args.classes.now c.args.readers.now c.args.claimants.now c.args.exclusives.now c.args.logs.now
+lent c = buffers_of c.args.values.now c.args.classes.now c.args.readers.now c.args.claimants.now c.args.exclusives.now c.args.logs.now
 
 fits : (c : tie.Else1) → Admitted (lent c.before.before.before.before.before.before.before.before) c.before.before.before.before.before.before.before.before.args.session
-fits c = admitted-by (lent c.before.before.before.before.before.before.before.before) _ _ c.before.admits.ensures (not-false _ c.if1.false)
+fits c = admitted_by (lent c.before.before.before.before.before.before.before.before) _ _ c.before.admits.ensures (not-false _ c.if1.false)
 
 returns : tie.Need-returns
 returns c = turned_down (lent c.before.before.before.before.before.before.before.before.before.before) _ _ c.before.before.before.admits.ensures (not-true _ c.before.before.if1.true) _ c.before.admit.ensures (Hold _ _) refl _ _ c.refused.ensures
@@ -26,7 +26,7 @@ of-session-requires : tie.Need-of-session-requires
 of-session-requires c κs = ((fits c.before).low, (fits c.before).lengths.logs)
 
 hold-plan-requires : tie.Need-hold-plan-requires
-hold-plan-requires c κs = log-fits _ _ (fits c.before.before) _ c.of-session.ensures
+hold-plan-requires c κs = log_fits _ _ (fits c.before.before) _ c.of-session.ensures
 
 lock-for-requires : tie.Need-lock-for-requires
 lock-for-requires c κs = even _ _ (fits c.before.before.before.before.before.before)
@@ -39,7 +39,7 @@ of-session-requires-2 c κs = ((fits c.before.before.before.before.before.before
 
 carry-out-requires : tie.Need-carry-out-requires
 unfolding plan
-carry-out-requires c κs = can-carry (Hold _ _) (lent c.before.before.before.before.before.before.before.before.before.before.before.before.before.before.before.before.before.before.before.before.before.before.before.before.before) _ _ refl (fits c.before.before.before.before.before.before.before.before.before.before.before.before.before.before.before.before.before) _ (hold-planned _ _ _ _ (lent c.before.before.before.before.before.before.before.before.before.before.before.before.before.before.before.before.before.before.before.before.before.before.before.before.before).locks _ _ (rw c.before.before.before.before.before.before.before.before.before.before.before.before.before.before.before.of-session.ensures at c.before.before.before.before.before.before.before.before.before.before.before.before.before.before.hold-plan.ensures) c.before.before.before.before.before.before.before.before.before.before.lock-for.ensures) _ _ _ c.before.before.before.before.before.before.before.before.hold.ensures _ c.before.before.before.of-session2.ensures
+carry-out-requires c κs = can_carry (Hold _ _) (lent c.before.before.before.before.before.before.before.before.before.before.before.before.before.before.before.before.before.before.before.before.before.before.before.before.before) _ _ refl (fits c.before.before.before.before.before.before.before.before.before.before.before.before.before.before.before.before.before) _ (hold_planned _ _ _ _ (lent c.before.before.before.before.before.before.before.before.before.before.before.before.before.before.before.before.before.before.before.before.before.before.before.before.before).locks _ _ (rw c.before.before.before.before.before.before.before.before.before.before.before.before.before.before.before.of-session.ensures at c.before.before.before.before.before.before.before.before.before.before.before.before.before.before.hold-plan.ensures) c.before.before.before.before.before.before.before.before.before.before.lock-for.ensures) _ _ _ c.before.before.before.before.before.before.before.before.hold.ensures _ c.before.before.before.of-session2.ensures
 
 same_length : tie.Need-same-length
 same_length c = c.before.before.before.before.before.before.before.carry-out.auto.1.1.1.0
@@ -55,7 +55,7 @@ same-length-4 c = c.before.before.before.before.before.before.before.before.befo
 
 returns-2 : tie.Need-returns-2
 unfolding plan
-returns-2 c = replies (Hold _ _) (lent c.before.before.before.before.before.before.before.before.before.before.before.before.before.before.before.before.before.before.before.before.before.before.before.before.before.before.before.before.before.before.before.before.before) _ _ refl (fits c.before.before.before.before.before.before.before.before.before.before.before.before.before.before.before.before.before.before.before.before.before.before.before.before.before) _ (hold-planned _ _ _ _ (lent c.before.before.before.before.before.before.before.before.before.before.before.before.before.before.before.before.before.before.before.before.before.before.before.before.before.before.before.before.before.before.before.before.before).locks _ _ (rw c.before.before.before.before.before.before.before.before.before.before.before.before.before.before.before.before.before.before.before.before.before.before.before.of-session.ensures at c.before.before.before.before.before.before.before.before.before.before.before.before.before.before.before.before.before.before.before.before.before.before.hold-plan.ensures) c.before.before.before.before.before.before.before.before.before.before.before.before.before.before.before.before.before.before.lock-for.ensures) _ _ _ c.before.before.before.before.before.before.before.before.before.before.before.before.before.before.before.before.hold.ensures _ c.before.before.before.before.before.before.before.before.before.before.before.of-session2.ensures _ (undropped _ _ _ _ _ (ap dropOf (change-is (Hold _ _) (lent c.before.before.before.before.before.before.before.before.before.before.before.before.before.before.before.before.before.before.before.before.before.before.before.before.before.before.before.before.before.before.before.before.before) _ _ refl (fits c.before.before.before.before.before.before.before.before.before.before.before.before.before.before.before.before.before.before.before.before.before.before.before.before.before) _ (hold-planned _ _ _ _ (lent c.before.before.before.before.before.before.before.before.before.before.before.before.before.before.before.before.before.before.before.before.before.before.before.before.before.before.before.before.before.before.before.before.before).locks _ _ (rw c.before.before.before.before.before.before.before.before.before.before.before.before.before.before.before.before.before.before.before.before.before.before.before.of-session.ensures at c.before.before.before.before.before.before.before.before.before.before.before.before.before.before.before.before.before.before.before.before.before.before.hold-plan.ensures) c.before.before.before.before.before.before.before.before.before.before.before.before.before.before.before.before.before.before.lock-for.ensures) _ _ _ c.before.before.before.before.before.before.before.before.before.before.before.before.before.before.before.before.hold.ensures) ∙ hold-drops-none _ _ _ _ _ _) _ c.before.before.before.before.before.before.before.carry-out.ensures) _ c.replied.ensures
+returns-2 c = replies (Hold _ _) (lent c.before.before.before.before.before.before.before.before.before.before.before.before.before.before.before.before.before.before.before.before.before.before.before.before.before.before.before.before.before.before.before.before.before) _ _ refl (fits c.before.before.before.before.before.before.before.before.before.before.before.before.before.before.before.before.before.before.before.before.before.before.before.before.before) _ (hold_planned _ _ _ _ (lent c.before.before.before.before.before.before.before.before.before.before.before.before.before.before.before.before.before.before.before.before.before.before.before.before.before.before.before.before.before.before.before.before.before).locks _ _ (rw c.before.before.before.before.before.before.before.before.before.before.before.before.before.before.before.before.before.before.before.before.before.before.before.of-session.ensures at c.before.before.before.before.before.before.before.before.before.before.before.before.before.before.before.before.before.before.before.before.before.before.hold-plan.ensures) c.before.before.before.before.before.before.before.before.before.before.before.before.before.before.before.before.before.before.lock-for.ensures) _ _ _ c.before.before.before.before.before.before.before.before.before.before.before.before.before.before.before.before.hold.ensures _ c.before.before.before.before.before.before.before.before.before.before.before.of-session2.ensures _ (undropped _ _ _ _ _ (ap drop_of (change_is (Hold _ _) (lent c.before.before.before.before.before.before.before.before.before.before.before.before.before.before.before.before.before.before.before.before.before.before.before.before.before.before.before.before.before.before.before.before.before) _ _ refl (fits c.before.before.before.before.before.before.before.before.before.before.before.before.before.before.before.before.before.before.before.before.before.before.before.before.before) _ (hold_planned _ _ _ _ (lent c.before.before.before.before.before.before.before.before.before.before.before.before.before.before.before.before.before.before.before.before.before.before.before.before.before.before.before.before.before.before.before.before.before).locks _ _ (rw c.before.before.before.before.before.before.before.before.before.before.before.before.before.before.before.before.before.before.before.before.before.before.before.of-session.ensures at c.before.before.before.before.before.before.before.before.before.before.before.before.before.before.before.before.before.before.before.before.before.before.hold-plan.ensures) c.before.before.before.before.before.before.before.before.before.before.before.before.before.before.before.before.before.before.lock-for.ensures) _ _ _ c.before.before.before.before.before.before.before.before.before.before.before.before.before.before.before.before.hold.ensures) ∙ hold_drops_none _ _ _ _ _ _) _ c.before.before.before.before.before.before.before.carry-out.ensures) _ c.replied.ensures
 
 pub hold-spec : {M : Type 1} → statement M
 hold-spec =

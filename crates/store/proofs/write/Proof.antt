@@ -1,26 +1,26 @@
 -- `store::write` meets its contract: 7 and 1 are the model's; past them the turn is, with the lock looked up for it, and the change of the locks.
 use mathlib.Core.Path.{refl, ap, ◌∙◌}
 use borrow.Author.Tests.{not-true, not-false}
-use Rattle.model.specs.Buffers.{Buffers, ourCaps}
-use Rattle.refusals.proofs.Lengths.{Admitted, admitted-by}
-use Rattle.contracts.specs.Lent.{buffersOf}
+use Rattle.model.specs.Buffers.{Buffers, our_caps}
+use Rattle.refusals.proofs.Lengths.{Admitted, admitted_by}
+use Rattle.contracts.specs.Lent.{buffers_of}
 use Rattle.model.specs.Plans.{plan}
 use Rattle.records.specs.declared.Call.TheVariants.{Write}
-use Rattle.locks.specs.Changes.{dropOf}
-use Rattle.turns.proofs.Forms.{even, log-fits, undropped, write-planned, write-drops-none, change-is, can-carry, replies, turned_down}
+use Rattle.locks.specs.Changes.{drop_of}
+use Rattle.turns.proofs.Forms.{even, log_fits, undropped, write_planned, write_drops_none, change_is, can_carry, replies, turned_down}
 use borrow.Author.Rules.{rules}
 use Rattle.store.proofs.write.Statement.{statement}
 use Rattle.store.proofs.write.Tie as tie
 
 -- the buffers at the entry, and what is known past 7 and 1
 abbrev lent : tie.Start → Buffers
-lent c = buffersOf c.args.values.now c.args.classes.now c.args.readers.now c.args.claimants.now c.args.exclusives.now c.args.logs.now
+lent c = buffers_of c.args.values.now c.args.classes.now c.args.readers.now c.args.claimants.now c.args.exclusives.now c.args.logs.now
 
 abbrev start : tie.Else1 → tie.Start
 start c = c.before.before.before.before.before.before.before.before
 
 fits : (c : tie.Else1) → Admitted (lent (start c)) (start c).args.session
-fits c = admitted-by (lent (start c)) _ _ c.before.admits.ensures (not-false _ c.if1.false)
+fits c = admitted_by (lent (start c)) _ _ c.before.admits.ensures (not-false _ c.if1.false)
 
 returns : tie.Need-returns
 returns c = turned_down (lent c.before.before.before.before.before.before.before.before.before.before) _ _ c.before.before.before.admits.ensures (not-true _ c.before.before.if1.true) _ c.before.admit.ensures (Write _ _ _) refl _ _ c.refused.ensures
@@ -29,20 +29,20 @@ of-session-requires : tie.Need-of-session-requires
 of-session-requires c κs = ((fits c.before).low, (fits c.before).lengths.logs)
 
 write-plan-requires : tie.Need-write-plan-requires
-write-plan-requires c κs = let z = fits c.before.before in ((log-fits _ _ z _ c.of-session.ensures).0, rw z.lengths.classes z.lengths.few)
+write-plan-requires c κs = let z = fits c.before.before in ((log_fits _ _ z _ c.of-session.ensures).0, rw z.lengths.classes z.lengths.few)
 
 lock-for-requires : tie.Need-lock-for-requires
 lock-for-requires c κs = even _ _ (fits c.before.before.before.before.before.before)
 
 write-requires : tie.Need-write-requires
-write-requires c κs = let z = fits c.before.before.before.before.before.before.before.before in (z.low, z.lengths.logs, record { caps = ourCaps; classes = c.before.before.before.before.before.before.before.before.before.before.before.before.before.before.before.before.args.classes.now; is = (rw (c.before.before.before.before.before.before.of-session.ensures, (fits c.before.before.before.before.before.before.before.before).lengths.classes) at c.before.before.before.before.before.write-plan.ensures) })
+write-requires c κs = let z = fits c.before.before.before.before.before.before.before.before in (z.low, z.lengths.logs, record { caps = our_caps; classes = c.before.before.before.before.before.before.before.before.before.before.before.before.before.before.before.before.args.classes.now; is = (rw (c.before.before.before.before.before.before.of-session.ensures, (fits c.before.before.before.before.before.before.before.before).lengths.classes) at c.before.before.before.before.before.write-plan.ensures) })
 
 of-session-requires-2 : tie.Need-of-session-requires-2
 of-session-requires-2 c κs = ((fits c.before.before.before.before.before.before.before.before.before.before.before.before.before).low, c.before.before.before.before.write.auto.1.0 ∙ (fits c.before.before.before.before.before.before.before.before.before.before.before.before.before).lengths.logs)
 
 carry-out-requires : tie.Need-carry-out-requires
 unfolding plan
-carry-out-requires c κs = can-carry (Write _ _ c.before.before.before.before.before.before.before.before.before.before.before.before.before.before.before.before.before.before.before.before.before.before.before.before.before.args.value) (lent c.before.before.before.before.before.before.before.before.before.before.before.before.before.before.before.before.before.before.before.before.before.before.before.before.before) _ _ refl (fits c.before.before.before.before.before.before.before.before.before.before.before.before.before.before.before.before.before) _ (write-planned _ _ _ _ (lent c.before.before.before.before.before.before.before.before.before.before.before.before.before.before.before.before.before.before.before.before.before.before.before.before.before).locks _ ourCaps c.before.before.before.before.before.before.before.before.before.before.before.before.before.before.before.before.before.before.before.before.before.before.before.before.before.args.classes.now c.before.before.before.before.before.before.before.before.before.before.before.before.before.before.before.before.before.before.before.before.before.before.before.before.before.args.value _ (rw (c.before.before.before.before.before.before.before.before.before.before.before.before.before.before.before.of-session.ensures, (fits c.before.before.before.before.before.before.before.before.before.before.before.before.before.before.before.before.before).lengths.classes) at c.before.before.before.before.before.before.before.before.before.before.before.before.before.before.write-plan.ensures) c.before.before.before.before.before.before.before.before.before.before.lock-for.ensures) _ _ _ (c.before.before.before.before.before.before.before.before.write.ensures ourCaps c.before.before.before.before.before.before.before.before.before.before.before.before.before.before.before.before.before.before.before.before.before.before.before.before.before.args.classes.now (rw (c.before.before.before.before.before.before.before.before.before.before.before.before.before.before.before.of-session.ensures, (fits c.before.before.before.before.before.before.before.before.before.before.before.before.before.before.before.before.before).lengths.classes) at c.before.before.before.before.before.before.before.before.before.before.before.before.before.before.write-plan.ensures)) _ c.before.before.before.of-session2.ensures
+carry-out-requires c κs = can_carry (Write _ _ c.before.before.before.before.before.before.before.before.before.before.before.before.before.before.before.before.before.before.before.before.before.before.before.before.before.args.value) (lent c.before.before.before.before.before.before.before.before.before.before.before.before.before.before.before.before.before.before.before.before.before.before.before.before.before) _ _ refl (fits c.before.before.before.before.before.before.before.before.before.before.before.before.before.before.before.before.before) _ (write_planned _ _ _ _ (lent c.before.before.before.before.before.before.before.before.before.before.before.before.before.before.before.before.before.before.before.before.before.before.before.before.before).locks _ our_caps c.before.before.before.before.before.before.before.before.before.before.before.before.before.before.before.before.before.before.before.before.before.before.before.before.before.args.classes.now c.before.before.before.before.before.before.before.before.before.before.before.before.before.before.before.before.before.before.before.before.before.before.before.before.before.args.value _ (rw (c.before.before.before.before.before.before.before.before.before.before.before.before.before.before.before.of-session.ensures, (fits c.before.before.before.before.before.before.before.before.before.before.before.before.before.before.before.before.before).lengths.classes) at c.before.before.before.before.before.before.before.before.before.before.before.before.before.before.write-plan.ensures) c.before.before.before.before.before.before.before.before.before.before.lock-for.ensures) _ _ _ (c.before.before.before.before.before.before.before.before.write.ensures our_caps c.before.before.before.before.before.before.before.before.before.before.before.before.before.before.before.before.before.before.before.before.before.before.before.before.before.args.classes.now (rw (c.before.before.before.before.before.before.before.before.before.before.before.before.before.before.before.of-session.ensures, (fits c.before.before.before.before.before.before.before.before.before.before.before.before.before.before.before.before.before).lengths.classes) at c.before.before.before.before.before.before.before.before.before.before.before.before.before.before.write-plan.ensures)) _ c.before.before.before.of-session2.ensures
 
 same_length : tie.Need-same-length
 same_length c = c.before.before.before.before.before.before.before.carry-out.auto.1.1.1.0
@@ -58,7 +58,7 @@ same-length-4 c = c.before.before.before.before.before.before.before.before.befo
 
 returns-2 : tie.Need-returns-2
 unfolding plan
-returns-2 c = replies (Write _ _ c.before.before.before.before.before.before.before.before.before.before.before.before.before.before.before.before.before.before.before.before.before.before.before.before.before.before.before.before.before.before.before.before.before.args.value) (lent c.before.before.before.before.before.before.before.before.before.before.before.before.before.before.before.before.before.before.before.before.before.before.before.before.before.before.before.before.before.before.before.before.before) _ _ refl (fits c.before.before.before.before.before.before.before.before.before.before.before.before.before.before.before.before.before.before.before.before.before.before.before.before.before) _ (write-planned _ _ _ _ (lent c.before.before.before.before.before.before.before.before.before.before.before.before.before.before.before.before.before.before.before.before.before.before.before.before.before.before.before.before.before.before.before.before.before).locks _ ourCaps c.before.before.before.before.before.before.before.before.before.before.before.before.before.before.before.before.before.before.before.before.before.before.before.before.before.before.before.before.before.before.before.before.before.args.classes.now c.before.before.before.before.before.before.before.before.before.before.before.before.before.before.before.before.before.before.before.before.before.before.before.before.before.before.before.before.before.before.before.before.before.args.value _ (rw (c.before.before.before.before.before.before.before.before.before.before.before.before.before.before.before.before.before.before.before.before.before.before.before.of-session.ensures, (fits c.before.before.before.before.before.before.before.before.before.before.before.before.before.before.before.before.before.before.before.before.before.before.before.before.before).lengths.classes) at c.before.before.before.before.before.before.before.before.before.before.before.before.before.before.before.before.before.before.before.before.before.before.write-plan.ensures) c.before.before.before.before.before.before.before.before.before.before.before.before.before.before.before.before.before.before.lock-for.ensures) _ _ _ (c.before.before.before.before.before.before.before.before.before.before.before.before.before.before.before.before.write.ensures ourCaps c.before.before.before.before.before.before.before.before.before.before.before.before.before.before.before.before.before.before.before.before.before.before.before.before.before.before.before.before.before.before.before.before.before.args.classes.now (rw (c.before.before.before.before.before.before.before.before.before.before.before.before.before.before.before.before.before.before.before.before.before.before.before.of-session.ensures, (fits c.before.before.before.before.before.before.before.before.before.before.before.before.before.before.before.before.before.before.before.before.before.before.before.before.before).lengths.classes) at c.before.before.before.before.before.before.before.before.before.before.before.before.before.before.before.before.before.before.before.before.before.before.write-plan.ensures)) _ c.before.before.before.before.before.before.before.before.before.before.before.of-session2.ensures _ (undropped _ _ _ _ _ (ap dropOf (change-is (Write _ _ c.before.before.before.before.before.before.before.before.before.before.before.before.before.before.before.before.before.before.before.before.before.before.before.before.before.before.before.before.before.before.before.before.before.args.value) (lent c.before.before.before.before.before.before.before.before.before.before.before.before.before.before.before.before.before.before.before.before.before.before.before.before.before.before.before.before.before.before.before.before.before) _ _ refl (fits c.before.before.before.before.before.before.before.before.before.before.before.before.before.before.before.before.before.before.before.before.before.before.before.before.before) _ (write-planned _ _ _ _ (lent c.before.before.before.before.before.before.before.before.before.before.before.before.before.before.before.before.before.before.before.before.before.before.before.before.before.before.before.before.before.before.before.before.before).locks _ ourCaps c.before.before.before.before.before.before.before.before.before.before.before.before.before.before.before.before.before.before.before.before.before.before.before.before.before.before.before.before.before.before.before.before.before.args.classes.now c.before.before.before.before.before.before.before.before.before.before.before.before.before.before.before.before.before.before.before.before.before.before.before.before.before.before.before.before.before.before.before.before.before.args.value _ (rw (c.before.before.before.before.before.before.before.before.before.before.before.before.before.before.before.before.before.before.before.before.before.before.before.of-session.ensures, (fits c.before.before.before.before.before.before.before.before.before.before.before.before.before.before.before.before.before.before.before.before.before.before.before.before.before).lengths.classes) at c.before.before.before.before.before.before.before.before.before.before.before.before.before.before.before.before.before.before.before.before.before.before.write-plan.ensures) c.before.before.before.before.before.before.before.before.before.before.before.before.before.before.before.before.before.before.lock-for.ensures) _ _ _ (c.before.before.before.before.before.before.before.before.before.before.before.before.before.before.before.before.write.ensures ourCaps c.before.before.before.before.before.before.before.before.before.before.before.before.before.before.before.before.before.before.before.before.before.before.before.before.before.before.before.before.before.before.before.before.before.args.classes.now (rw (c.before.before.before.before.before.before.before.before.before.before.before.before.before.before.before.before.before.before.before.before.before.before.before.of-session.ensures, (fits c.before.before.before.before.before.before.before.before.before.before.before.before.before.before.before.before.before.before.before.before.before.before.before.before.before).lengths.classes) at c.before.before.before.before.before.before.before.before.before.before.before.before.before.before.before.before.before.before.before.before.before.before.write-plan.ensures))) ∙ write-drops-none _ _ _ _ _ _ c.before.before.before.before.before.before.before.before.before.before.before.before.before.before.before.before.before.before.before.before.before.before.before.before.before.before.before.before.before.before.before.before.before.args.value ourCaps c.before.before.before.before.before.before.before.before.before.before.before.before.before.before.before.before.before.before.before.before.before.before.before.before.before.before.before.before.before.before.before.before.before.args.classes.now) _ c.before.before.before.before.before.before.before.carry-out.ensures) _ c.replied.ensures
+returns-2 c = replies (Write _ _ c.before.before.before.before.before.before.before.before.before.before.before.before.before.before.before.before.before.before.before.before.before.before.before.before.before.before.before.before.before.before.before.before.before.args.value) (lent c.before.before.before.before.before.before.before.before.before.before.before.before.before.before.before.before.before.before.before.before.before.before.before.before.before.before.before.before.before.before.before.before.before) _ _ refl (fits c.before.before.before.before.before.before.before.before.before.before.before.before.before.before.before.before.before.before.before.before.before.before.before.before.before) _ (write_planned _ _ _ _ (lent c.before.before.before.before.before.before.before.before.before.before.before.before.before.before.before.before.before.before.before.before.before.before.before.before.before.before.before.before.before.before.before.before.before).locks _ our_caps c.before.before.before.before.before.before.before.before.before.before.before.before.before.before.before.before.before.before.before.before.before.before.before.before.before.before.before.before.before.before.before.before.before.args.classes.now c.before.before.before.before.before.before.before.before.before.before.before.before.before.before.before.before.before.before.before.before.before.before.before.before.before.before.before.before.before.before.before.before.before.args.value _ (rw (c.before.before.before.before.before.before.before.before.before.before.before.before.before.before.before.before.before.before.before.before.before.before.before.of-session.ensures, (fits c.before.before.before.before.before.before.before.before.before.before.before.before.before.before.before.before.before.before.before.before.before.before.before.before.before).lengths.classes) at c.before.before.before.before.before.before.before.before.before.before.before.before.before.before.before.before.before.before.before.before.before.before.write-plan.ensures) c.before.before.before.before.before.before.before.before.before.before.before.before.before.before.before.before.before.before.lock-for.ensures) _ _ _ (c.before.before.before.before.before.before.before.before.before.before.before.before.before.before.before.before.write.ensures our_caps c.before.before.before.before.before.before.before.before.before.before.before.before.before.before.before.before.before.before.before.before.before.before.before.before.before.before.before.before.before.before.before.before.before.args.classes.now (rw (c.before.before.before.before.before.before.before.before.before.before.before.before.before.before.before.before.before.before.before.before.before.before.before.of-session.ensures, (fits c.before.before.before.before.before.before.before.before.before.before.before.before.before.before.before.before.before.before.before.before.before.before.before.before.before).lengths.classes) at c.before.before.before.before.before.before.before.before.before.before.before.before.before.before.before.before.before.before.before.before.before.before.write-plan.ensures)) _ c.before.before.before.before.before.before.before.before.before.before.before.of-session2.ensures _ (undropped _ _ _ _ _ (ap drop_of (change_is (Write _ _ c.before.before.before.before.before.before.before.before.before.before.before.before.before.before.before.before.before.before.before.before.before.before.before.before.before.before.before.before.before.before.before.before.before.args.value) (lent c.before.before.before.before.before.before.before.before.before.before.before.before.before.before.before.before.before.before.before.before.before.before.before.before.before.before.before.before.before.before.before.before.before) _ _ refl (fits c.before.before.before.before.before.before.before.before.before.before.before.before.before.before.before.before.before.before.before.before.before.before.before.before.before) _ (write_planned _ _ _ _ (lent c.before.before.before.before.before.before.before.before.before.before.before.before.before.before.before.before.before.before.before.before.before.before.before.before.before.before.before.before.before.before.before.before.before).locks _ our_caps c.before.before.before.before.before.before.before.before.before.before.before.before.before.before.before.before.before.before.before.before.before.before.before.before.before.before.before.before.before.before.before.before.before.args.classes.now c.before.before.before.before.before.before.before.before.before.before.before.before.before.before.before.before.before.before.before.before.before.before.before.before.before.before.before.before.before.before.before.before.before.args.value _ (rw (c.before.before.before.before.before.before.before.before.before.before.before.before.before.before.before.before.before.before.before.before.before.before.before.of-session.ensures, (fits c.before.before.before.before.before.before.before.before.before.before.before.before.before.before.before.before.before.before.before.before.before.before.before.before.before).lengths.classes) at c.before.before.before.before.before.before.before.before.before.before.before.before.before.before.before.before.before.before.before.before.before.before.write-plan.ensures) c.before.before.before.before.before.before.before.before.before.before.before.before.before.before.before.before.before.before.lock-for.ensures) _ _ _ (c.before.before.before.before.before.before.before.before.before.before.before.before.before.before.before.before.write.ensures our_caps c.before.before.before.before.before.before.before.before.before.before.before.before.before.before.before.before.before.before.before.before.before.before.before.before.before.before.before.before.before.before.before.before.before.args.classes.now (rw (c.before.before.before.before.before.before.before.before.before.before.before.before.before.before.before.before.before.before.before.before.before.before.before.of-session.ensures, (fits c.before.before.before.before.before.before.before.before.before.before.before.before.before.before.before.before.before.before.before.before.before.before.before.before.before).lengths.classes) at c.before.before.before.before.before.before.before.before.before.before.before.before.before.before.before.before.before.before.before.before.before.before.write-plan.ensures))) ∙ write_drops_none _ _ _ _ _ _ c.before.before.before.before.before.before.before.before.before.before.before.before.before.before.before.before.before.before.before.before.before.before.before.before.before.before.before.before.before.before.before.before.before.args.value our_caps c.before.before.before.before.before.before.before.before.before.before.before.before.before.before.before.before.before.before.before.before.before.before.before.before.before.before.before.before.before.before.before.before.before.args.classes.now) _ c.before.before.before.before.before.before.before.carry-out.ensures) _ c.replied.ensures
 
 pub write_spec : {M : Type 1} → statement M
 write_spec =

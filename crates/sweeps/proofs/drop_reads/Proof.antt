@@ -5,9 +5,9 @@ use mathlib.Core.List.{List}
 use native.Mathlib.Omega.{arith}
 use lib.ListN.{length}
 use Rattle.model.specs.Buffers.{cell_at}
-use Rattle.model.proofs.Laws.{below-is}
+use Rattle.model.proofs.Laws.{below_is}
 use Rattle.sweeps.specs.Sweeps.{DroppedSoFar}
-use Rattle.sweeps.proofs.Sweeps.{Marks, drop_more, marks-none, marks-more}
+use Rattle.sweeps.proofs.Sweeps.{Marks, drop_more, marks_none, marks_more}
 use Rattle.sweeps.proofs.drop_reads.Statement.{statement}
 use Rattle.sweeps.proofs.drop_reads.Tie as tie
 
@@ -29,14 +29,14 @@ returns : tie.Need-returns invariant-loop decreases-loop
 returns c = rw c.if1.true at c.before.before.before.drop-unpublished.ensures.2
 
 loop-holds : tie.Need-loop-init invariant-loop decreases-loop
-loop-holds c = let d = c.before.before.before.drop-unpublished.ensures in (d.0, refl, λ R e w. w, marks-none _ _ d.1)
+loop-holds c = let d = c.before.before.before.drop-unpublished.ensures in (d.0, refl, λ R e w. w, marks_none _ _ d.1)
 
 drop-at-requires : tie.Need-drop-at-requires invariant-loop decreases-loop
 drop-at-requires c κs =
     let l = c.before.before.before.loop in
     let u = c.before.before.before.before.before.before.before in
     let a = u.before.before.before.before in
-    let lt = below-is _ (cell_at _) _ a.requires.0.cells l.i c.before.before.loop-test.true in
+    let lt = below_is _ (cell_at _) _ a.requires.0.cells l.i c.before.before.loop-test.true in
     (a.requires.0.session, omega arith, omega arith, omega (arith, l.invariant.1, u.drop-unpublished.auto.1.1.0))
 
 add-i : tie.Need-overflow-add-i invariant-loop decreases-loop
@@ -52,13 +52,13 @@ loop-again c =
     let a = u.before.before.before.before in
     let d = c.before.before.drop_at in
     let h = c.before.before.before.before.before.loop-test.true in
-    let lR = below-is _ (cell_at _) _ a.requires.0.cells l.i h in
+    let lR = below_is _ (cell_at _) _ a.requires.0.cells l.i h in
     let k = u.drop-unpublished.auto.1.1.0 in
     let lt : cell_at a.args.log.now l.i < 1024 = omega arith in (
       omega arith,
       d.auto.1.1.0 ∙ l.invariant.1,
       λ R e w. drop_more _ _ _ _ _ R _ h lt (omega arith) l.invariant.3 (l.invariant.2 R e w) _ d.ensures.1,
-      marks-more _ _ _ l.invariant.3 lt _ d.ensures.0,
+      marks_more _ _ _ l.invariant.3 lt _ d.ensures.0,
     )
 
 same-length-2 : tie.Need-same-length-2 invariant-loop decreases-loop

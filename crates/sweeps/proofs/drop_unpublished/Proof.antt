@@ -4,9 +4,9 @@ use mathlib.Core.Path.{refl, sym, ◌∙◌, ◌≡◌}
 use native.Mathlib.Omega.{arith}
 use lib.ListN.{length}
 use Rattle.model.specs.Buffers.{cell_at}
-use Rattle.model.proofs.Laws.{below-is}
+use Rattle.model.proofs.Laws.{below_is}
 use Rattle.sweeps.specs.Sweeps.{NonePublished, DroppedSoFar}
-use Rattle.sweeps.proofs.Sweeps.{drop-start, drop-unmarked, none_more}
+use Rattle.sweeps.proofs.Sweeps.{drop_start, drop_unmarked, none_more}
 use Rattle.sweeps.proofs.drop_unpublished.Statement.{statement}
 use Rattle.sweeps.proofs.drop_unpublished.Tie as tie
 
@@ -18,7 +18,7 @@ abbrev decreases-loop : tie.decreases-loop
 decreases-loop log count readers₀ session i₀ readers i = count - i
 
 loop-holds : tie.Need-loop-init invariant-loop decreases-loop
-loop-holds c = (omega arith, refl, λ j l. absurd (omega arith), drop-start _ _ _ _)
+loop-holds c = (omega arith, refl, λ j l. absurd (omega arith), drop_start _ _ _ _)
 
 publishes-requires : tie.Need-publishes-requires invariant-loop decreases-loop
 publishes-requires c κs = let a = c.before.before.before.before.requires.0.count in omega arith
@@ -39,7 +39,7 @@ leave-at-requires : tie.Need-leave-at-requires invariant-loop decreases-loop
 leave-at-requires c κs =
     let a = c.before.before.before.before.before.before.before.before in
     let l = c.before.before.before.before.before.loop in
-    let lt = below-is _ (cell_at _) _ a.requires.0.cells l.i c.before.before.before.before.loop-test.true in
+    let lt = below_is _ (cell_at _) _ a.requires.0.cells l.i c.before.before.before.before.loop-test.true in
     (a.requires.0.session, omega (arith, l.invariant.1, c.before.Cell-at.ensures))
 
 add-i : tie.Need-overflow-add-i invariant-loop decreases-loop
@@ -54,13 +54,13 @@ loop-again c =
     let l = t.before.before.before.loop in
     let h = t.before.before.loop-test.true in
     let a = t.before.before.before.before.before.before in
-    let lR = below-is _ (cell_at _) _ a.requires.0.cells l.i h in
+    let lR = below_is _ (cell_at _) _ a.requires.0.cells l.i h in
     let lt : cell_at a.args.log.now l.i < 1024 = omega arith in
     let p = sym t.before.publishes.ensures ∙ t.if1.false in (
       omega arith,
       c.before.before.leave-at.auto.0 ∙ l.invariant.1,
       none_more _ _ l.invariant.2 p,
-      drop-unmarked _ _ _ _ _ _ h lt lR l.invariant.2 p l.invariant.3 _ c.before.before.before.before.Cell-at.ensures _ c.before.before.leave-at.ensures,
+      drop_unmarked _ _ _ _ _ _ h lt lR l.invariant.2 p l.invariant.3 _ c.before.before.before.before.Cell-at.ensures _ c.before.before.leave-at.ensures,
     )
 
 same-length-2 : tie.Need-same-length-2 invariant-loop decreases-loop

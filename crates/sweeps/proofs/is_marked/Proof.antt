@@ -1,7 +1,7 @@
 -- The shifted word's lowest digit is the cell's (Digits).
 use borrow.Author.Rules.{rules}
 use Rattle.sweeps.specs.Sweeps.{marked}
-use Rattle.lock.proofs.Digits.{shift-tells}
+use Rattle.lock.proofs.Digits.{shift_tells}
 use Rattle.sweeps.proofs.is_marked.Statement.{statement}
 use Rattle.sweeps.proofs.is_marked.Tie as tie
 
@@ -22,7 +22,7 @@ shr-result c = search rules
 
 returns : tie.Need-returns
 unfolding marked
-returns c = shift-tells _ _
+returns c = shift_tells _ _
 
 pub is-marked-spec : {M : Type 1} → statement M
 is-marked-spec =

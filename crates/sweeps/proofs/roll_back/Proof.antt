@@ -4,23 +4,23 @@ use mathlib.Core.Path.{refl, ◌∙◌, ◌≡◌}
 use native.Mathlib.Omega.{arith}
 use lib.ListN.{length}
 use Rattle.model.specs.Buffers.{cell_at}
-use Rattle.model.specs.Effects.{rolledBack}
-use Rattle.model.proofs.Laws.{below-is}
-use Rattle.contracts.specs.Lent.{locksOf}
-use Rattle.sweeps.proofs.Sweeps.{roll-start, roll-more}
+use Rattle.model.specs.Effects.{rolled_back}
+use Rattle.model.proofs.Laws.{below_is}
+use Rattle.contracts.specs.Lent.{locks_of}
+use Rattle.sweeps.proofs.Sweeps.{roll_start, roll_more}
 use Rattle.sweeps.proofs.roll_back.Statement.{statement}
 use Rattle.sweeps.proofs.roll_back.Tie as tie
 
 abbrev invariant-loop : tie.invariant-loop
 invariant-loop log count readers₀ claimants₀ exclusives₀ session i₀ readers claimants exclusives i =
     (i ≤ count) × (length readers ≡ length readers₀) × (length claimants ≡ length claimants₀) × (length exclusives ≡ length exclusives₀)
-    × (locksOf readers claimants exclusives ≡ rolledBack log i session (locksOf readers₀ claimants₀ exclusives₀))
+    × (locks_of readers claimants exclusives ≡ rolled_back log i session (locks_of readers₀ claimants₀ exclusives₀))
 
 abbrev decreases-loop : tie.decreases-loop
 decreases-loop log count readers₀ claimants₀ exclusives₀ session i₀ readers claimants exclusives i = count - i
 
 loop-holds : tie.Need-loop-init invariant-loop decreases-loop
-loop-holds c = (omega arith, refl, refl, refl, roll-start _ _ _)
+loop-holds c = (omega arith, refl, refl, refl, roll_start _ _ _)
 
 cell-at-requires : tie.Need-cell-at-requires invariant-loop decreases-loop
 cell-at-requires c κs = omega (arith, c.before.before.before.before.before.before.requires.0.count)
@@ -29,7 +29,7 @@ withdraw-at-requires : tie.Need-withdraw-at-requires invariant-loop decreases-lo
 withdraw-at-requires c κs =
     let a = c.before.before.before.before.before.before.before.before.before.before in
     let l = c.before.before.before.before.before.loop in
-    let lt = below-is _ (cell_at _) _ a.requires.0.cells l.i c.before.before.before.before.loop-test.true in
+    let lt = below_is _ (cell_at _) _ a.requires.0.cells l.i c.before.before.before.before.loop-test.true in
     (a.requires.0.session, omega (arith, lt, c.before.before.before.Cell-at.ensures, l.invariant.1), omega (arith, l.invariant.1, l.invariant.2, a.requires.1), omega (arith, l.invariant.1, l.invariant.3, a.requires.2))
 
 add-i : tie.Need-overflow-add-i invariant-loop decreases-loop
@@ -46,7 +46,7 @@ loop-again c =
       w.auto.0 ∙ l.invariant.1,
       w.auto.1.0 ∙ l.invariant.2,
       w.auto.1.1.0 ∙ l.invariant.3,
-      roll-more _ _ _ _ _ _ _ c.before.before.before.before.before.before.before.before.before.before.Cell-at.ensures l.invariant.4 w.ensures,
+      roll_more _ _ _ _ _ _ _ c.before.before.before.before.before.before.before.before.before.before.Cell-at.ensures l.invariant.4 w.ensures,
     )
 
 same_length : tie.Need-same-length invariant-loop decreases-loop

@@ -4,13 +4,13 @@ use mathlib.Core.Bool.{false}
 use mathlib.Core.Path.{sym, ◌∙◌, ◌≡◌}
 use native.Mathlib.Omega.{arith}
 use Rattle.model.proofs.Tools.{same}
-use Rattle.log.specs.Slots.{firstPublishes}
-use Rattle.log.proofs.Targets.{any_here, any-nowhere}
+use Rattle.log.specs.Slots.{first_publishes}
+use Rattle.log.proofs.Targets.{any_here, any_nowhere}
 use Rattle.targets.proofs.any_publishes.Statement.{statement}
 use Rattle.targets.proofs.any_publishes.Tie as tie
 
 abbrev invariant-loop : tie.invariant-loop
-invariant-loop log count from i₀ i = (i ≤ count) × ((j : ℕ) → j < i → firstPublishes log j from ≡ false)
+invariant-loop log count from i₀ i = (i ≤ count) × ((j : ℕ) → j < i → first_publishes log j from ≡ false)
 
 abbrev decreases-loop : tie.decreases-loop
 decreases-loop log count from i₀ i = count - i
@@ -34,7 +34,7 @@ loop-again : tie.Need-loop-preserved invariant-loop decreases-loop
 loop-again c = (omega arith, λ j l. same j _ (λ e. rw e (sym c.before.first-publishes.ensures ∙ c.if1.false)) (λ n. c.before.before.before.loop.invariant.1 j (omega arith)))
 
 returns-2 : tie.Need-returns-2 invariant-loop decreases-loop
-returns-2 c = any-nowhere _ _ _ (λ j l. c.before.loop.invariant.1 j (omega arith))
+returns-2 c = any_nowhere _ _ _ (λ j l. c.before.loop.invariant.1 j (omega arith))
 
 pub any-publishes-spec : {M : Type 1} → statement M
 any-publishes-spec =

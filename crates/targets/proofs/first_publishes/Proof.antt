@@ -1,6 +1,6 @@
 -- An entry that publishes, of a cell not below `from`, is the first of its cell where the search among those before it ends at it.
 use borrow.Author.Rules.{rules}
-use Rattle.log.specs.Slots.{firstPublishes}
+use Rattle.log.specs.Slots.{first_publishes}
 use Rattle.log.proofs.Targets.{first_found}
 use Rattle.targets.proofs.first_publishes.Statement.{statement}
 use Rattle.targets.proofs.first_publishes.Tie as tie
@@ -20,7 +20,7 @@ returns c =
     first_found _ _ _ _ (rw t.before.Cell-at.ensures at c.find.ensures) (rw (← t.before.Cell-at.ensures, ← t.publishes.ensures) c.before.if1.true)
 
 returns-2 : tie.Need-returns-2
-unfolding firstPublishes
+unfolding first_publishes
 returns-2 c = let t = c.before in rw (← t.before.Cell-at.ensures, ← t.publishes.ensures, c.if1.false)
 
 pub first-publishes-spec : {M : Type 1} → statement M

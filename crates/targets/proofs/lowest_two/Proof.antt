@@ -2,7 +2,7 @@
 use Prim.Native.Nat.{◌≤◌, ◌-◌}
 use mathlib.Core.Path.{refl, ◌≡◌}
 use native.Mathlib.Omega.{arith}
-use Rattle.log.specs.Slots.{lowestPublishing, LowestTwo}
+use Rattle.log.specs.Slots.{lowest_publishing, LowestTwo}
 use Rattle.targets.proofs.lowest_two.Statement.{statement}
 use Rattle.targets.proofs.lowest_two.Tie as tie
 
@@ -13,8 +13,8 @@ abbrev decreases-loop : tie.decreases-loop
 decreases-loop log count n from i₀ best₀ i best = count - i
 
 loop-holds : tie.Need-loop-init invariant-loop decreases-loop
-unfolding lowestPublishing
-loop-holds c = (omega arith, record { low-is = refl; high_is = refl })
+unfolding lowest_publishing
+loop-holds c = (omega arith, record { low_is = refl; high_is = refl })
 
 lower-two-requires : tie.Need-lower-two-requires invariant-loop decreases-loop
 lower-two-requires c κs = omega arith

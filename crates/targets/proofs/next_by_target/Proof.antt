@@ -2,8 +2,8 @@
 use native.Mathlib.Numerals.{add-one}
 use native.Mathlib.Omega.{arith}
 use borrow.Author.Rules.{rules}
-use Rattle.model.proofs.Laws.{below-is}
-use Rattle.log.proofs.Twos.{next-none, next-some}
+use Rattle.model.proofs.Laws.{below_is}
+use Rattle.log.proofs.Twos.{next_none, next_some}
 use Rattle.targets.proofs.next_by_target.Statement.{statement}
 use Rattle.targets.proofs.next_by_target.Tie as tie
 
@@ -11,13 +11,13 @@ target-requires : tie.Need-target-requires
 target-requires c κs = search rules
 
 returns : tie.Need-returns
-returns c = next-none _ _ _ _ c.if1.true c.before.target.ensures
+returns c = next_none _ _ _ _ c.if1.true c.before.target.ensures
 
 cell-at-requires : tie.Need-cell-at-requires
 cell-at-requires c κs = search rules
 
 add-above : tie.Need-overflow-add-above
-add-above c = omega (arith, below-is _ _ _ c.before.before.before.before.requires.2 _ c.before.if1.false)
+add-above c = omega (arith, below_is _ _ _ c.before.before.before.before.requires.2 _ c.before.if1.false)
 
 any-publishes-requires : tie.Need-any-publishes-requires
 any-publishes-requires c κs = search rules
@@ -25,7 +25,7 @@ any-publishes-requires c κs = search rules
 returns-2 : tie.Need-returns-2
 returns-2 c =
     let t = c.before.before in
-    next-some _ _ _ _ _ t.if1.false t.before.target.ensures (rw (c.before.Cell-at.ensures, add-one) at c.any-publishes.ensures)
+    next_some _ _ _ _ _ t.if1.false t.before.target.ensures (rw (c.before.Cell-at.ensures, add-one) at c.any-publishes.ensures)
 
 pub next-by-target-spec : {M : Type 1} → statement M
 next-by-target-spec =

@@ -3,7 +3,7 @@ use mathlib.Core.Path.{sym, ◌∙◌}
 use native.Mathlib.Omega.{arith}
 use borrow.Author.Rules.{rules}
 use Rattle.log.proofs.Targets.{turn_inside}
-use Rattle.log.proofs.Twos.{two_none, two-last, two-more}
+use Rattle.log.proofs.Twos.{two_none, two_last, two_more}
 use Rattle.targets.proofs.next_two.Statement.{statement}
 use Rattle.targets.proofs.next_two.Tie as tie
 
@@ -17,12 +17,12 @@ find-requires : tie.Need-find-requires
 find-requires c κs = search rules
 
 publishes-requires : tie.Need-publishes-requires
-publishes-requires c κs = omega (arith, turn_inside _ _ _ _ _ c.before.before.lowest-two.ensures.low-is c.before.if1.false _ c.find.ensures)
+publishes-requires c κs = omega (arith, turn_inside _ _ _ _ _ c.before.before.lowest-two.ensures.low_is c.before.if1.false _ c.find.ensures)
 
 returns-2 : tie.Need-returns-2
 returns-2 c =
     let f = c.before.before.before in
-    two-last _ _ _ _ _ _ f.before.before.lowest-two.ensures f.before.if1.false _ f.find.ensures (sym c.before.before.publishes.ensures ∙ c.before.if2.true) f.before.before.before.before.requires.2 c.if3.true
+    two_last _ _ _ _ _ _ f.before.before.lowest-two.ensures f.before.if1.false _ f.find.ensures (sym c.before.before.publishes.ensures ∙ c.before.if2.true) f.before.before.before.before.requires.2 c.if3.true
 
 find-requires-2 : tie.Need-find-requires-2
 find-requires-2 c κs = search rules
@@ -36,7 +36,7 @@ returns-3 : tie.Need-returns-3
 returns-3 c =
     let g = c.before.before in
     let f = g.before.before.before.before in
-    two-more _ _ _ _ _ _ f.before.before.lowest-two.ensures f.before.if1.false _ f.find.ensures
+    two_more _ _ _ _ _ _ f.before.before.lowest-two.ensures f.before.if1.false _ f.find.ensures
     (sym g.before.before.before.publishes.ensures ∙ g.before.before.if2.true) g.before.if3.false _ g.find2.ensures
     (sym c.before.publishes2.ensures ∙ c.if4.true)
 

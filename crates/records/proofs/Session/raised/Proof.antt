@@ -1,4 +1,4 @@
--- Raising the phase by one is the model's `moveTo` at the next phase: one more is the successor.
+-- Raising the phase by one is the model's `move_to` at the next phase: one more is the successor.
 use native.Mathlib.Numerals.{add-one}
 use borrow.Author.Rules.{rules}
 use Rattle.records.proofs.Session.raised.Statement.{statement}

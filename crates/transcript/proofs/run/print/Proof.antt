@@ -4,8 +4,8 @@ use mathlib.Core.Path.{sym, ◌∙◌, ap, subst}
 use lib.Seq.{length-take-le}
 use Rattle.items.specs.Leading.{ReadCells}
 use Rattle.lines.specs.Output.{put}
-use Rattle.replay_text.proofs.Inputs.{size-text, too-many-text, leading-text}
-use Rattle.transcript.proofs.Starting.{taken-few, taken-both}
+use Rattle.replay_text.proofs.Inputs.{size_text, too_many_text, leading_text}
+use Rattle.transcript.proofs.Starting.{taken_few, taken_both}
 use borrow.Author.Rules.{rules}
 use Rattle.transcript.proofs.run.print.Statement.{statement}
 use Rattle.transcript.proofs.run.print.Tie as tie
@@ -13,7 +13,7 @@ use Rattle.transcript.proofs.run.print.Tie as tie
 returns : tie.Need-returns
 returns c =
     let line = c.before.before.put-size.ensures in
-    (line.0 ∙ ap (put _ _) (size-text _ c.before.before.before.before.if1.true), omega (arith, line.1))
+    (line.0 ∙ ap (put _ _) (size_text _ c.before.before.before.before.if1.true), omega (arith, line.1))
 
 read-cells-requires : tie.Need-read-cells-requires
 read-cells-requires c κs = search rules
@@ -22,7 +22,7 @@ returns-2 : tie.Need-returns-2
 returns-2 c =
     let line = c.before.before.put-set-up.ensures in
     let many = subst (ReadCells _ _ _) c.before.before.before.before.enum_told.given.1 c.before.before.before.before.before.before.before.before.read-cells.ensures in
-    (line.0 ∙ ap (put _ _) (too-many-text _ c.before.before.before.before.before.before.before.before.before.before.before.if1.false many), omega (arith, line.1))
+    (line.0 ∙ ap (put _ _) (too_many_text _ c.before.before.before.before.before.before.before.before.before.before.before.if1.false many), omega (arith, line.1))
 
 array-borrow-prefix-values : tie.Need-array-borrow-prefix-values
 array-borrow-prefix-values c =
@@ -47,13 +47,13 @@ slice-aggregate-run-cells-2 c =
 run-cells-requires : tie.Need-run-cells-requires
 run-cells-requires c κs =
     let read = subst (ReadCells _ _ _) c.before.before.before.before.found.given.1 c.before.before.before.before.before.before.before.before.read-cells.ensures in
-    (read.inside, c.before.before.before.before.before.before.before.before.before.before.before.if1.false, c.before.before.before.before.before.before.before.before.before.before.before.before.before.before.requires, taken-few _ _ read.few (omega arith), taken-both _ _ _ read.few (omega arith) (omega arith))
+    (read.inside, c.before.before.before.before.before.before.before.before.before.before.before.if1.false, c.before.before.before.before.before.before.before.before.before.before.before.before.before.before.requires, taken_few _ _ read.few (omega arith), taken_both _ _ _ read.few (omega arith) (omega arith))
 
 returns-3 : tie.Need-returns-3
 returns-3 c =
     let read = subst (ReadCells _ _ _) c.before.before.before.before.before.before.before.before.found.given.1 c.before.before.before.before.before.before.before.before.before.before.before.before.read-cells.ensures in
     let run = c.before.before.before.run-cells.ensures in
-    (run.0 ∙ ap (put _ _) (leading-text _ _ _ _ _ c.before.before.before.before.before.before.before.before.before.before.before.before.before.before.before.if1.false read), run.1)
+    (run.0 ∙ ap (put _ _) (leading_text _ _ _ _ _ c.before.before.before.before.before.before.before.before.before.before.before.before.before.before.before.if1.false read), run.1)
 
 pub print-spec : {M : Type 1} → statement M
 print-spec =

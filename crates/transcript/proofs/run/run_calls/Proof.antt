@@ -6,11 +6,11 @@ use mathlib.Core.Path.{◌≡◌, refl, sym, ◌∙◌, ap, subst}
 use lib.ListN.{length}
 use Rattle.model.specs.Buffers.{ours}
 use Rattle.contracts.specs.Lent.{store_of}
-use Rattle.items.specs.Items.{itemsAt, following}
+use Rattle.items.specs.Items.{items_at, following}
 use Rattle.lines.specs.Output.{put}
-use Rattle.items.proofs.Scanning.{Advances, advances, items-by}
-use Rattle.replay_text.specs.Transcript.{callsText}
-use Rattle.transcript.proofs.Turns.{turned-text, stops}
+use Rattle.items.proofs.Scanning.{Advances, advances, items_by}
+use Rattle.replay_text.specs.Transcript.{calls_text}
+use Rattle.transcript.proofs.Turns.{turned_text, stops}
 use borrow.Author.Rules.{rules}
 use Rattle.transcript.proofs.run.run_calls.Statement.{statement}
 use Rattle.transcript.proofs.run.run_calls.Tie as tie
@@ -26,8 +26,8 @@ invariant-loop input place₀ output₀ sessions₀ values₀ classes readers₀
     × (length claimants ≡ length claimants₀)
     × (length exclusives ≡ length exclusives₀)
     × (length logs ≡ length logs₀)
-    × (put output at (callsText ordinal (store_of ours values classes readers claimants exclusives logs sessions) (itemsAt input place))
-    ≡ put output₀ 0 (callsText 1 (store_of ours values₀ classes readers₀ claimants₀ exclusives₀ logs₀ sessions₀) (itemsAt input place₀)))
+    × (put output at (calls_text ordinal (store_of ours values classes readers claimants exclusives logs sessions) (items_at input place))
+    ≡ put output₀ 0 (calls_text 1 (store_of ours values₀ classes readers₀ claimants₀ exclusives₀ logs₀ sessions₀) (items_at input place₀)))
 
 abbrev decreases-loop : tie.decreases-loop
 decreases-loop input place₀ output₀ sessions₀ values₀ classes readers₀ claimants₀ exclusives₀ logs₀ ordinal₀ at₀ place output sessions values readers claimants exclusives logs ordinal at = length input - place
@@ -45,8 +45,8 @@ returns : tie.Need-returns invariant-loop decreases-loop
 returns c =
     let pre = c.before.before.before.before.before.before.before.before.before.before.before.before.before.before.before.before.requires in
     let inv = c.before.before.before.before.before.before.before.loop.invariant in
-    let here = items-by _ _ _ c.before.before.before.before.before.before.next-at.ensures in
-    let left = ap (callsText _ _) here ∙ stops _ _ _ _ _ c.before.before.before.before.before.match.keys2 in
+    let here = items_by _ _ _ c.before.before.before.before.before.before.next-at.ensures in
+    let left = ap (calls_text _ _) here ∙ stops _ _ _ _ _ c.before.before.before.before.before.match.keys2 in
     let end = c.before.before.put-end.ensures in
     (end.0 ∙ ap (put _ _) (sym left) ∙ inv.9, omega (arith, pre.1, inv.0, inv.1, inv.2, end.1))
 
@@ -77,7 +77,7 @@ loop-again c =
     let inv = c.before.before.before.before.before.before.before.before.before.before.before.before.before.before.before.before.before.before.before.before.before.before.before.before.before.loop.invariant in
     let seen = sym c.before.before.before.before.before.before.before.before.before.before.before.before.before.before.before.before.before.before.before.before.before.before.next.given.1 ∙ c.before.before.before.before.before.before.before.before.before.before.before.before.before.before.before.before.before.before.before.before.before.before.before.before.next-at.ensures in
     let step = subst (Advances _ _) (sym seen) (advances _ _) in
-    let here = items-by _ _ _ seen in
+    let here = items_by _ _ _ seen in
     let line = c.before.before.put-answer.ensures in (
       omega (arith, step.inside),
       omega (arith, inv.1, step.four),
@@ -88,7 +88,7 @@ loop-again c =
       search rules,
       search rules,
       search rules,
-      turned-text _ _ _ _ _ _ (c.before.before.before.before.before.before.before.before.before.before.before.before.before.before.before.step.ensures ours) line.0 ∙ ap (put _ _) (ap (callsText _ _) (sym here)) ∙ inv.9,
+      turned_text _ _ _ _ _ _ (c.before.before.before.before.before.before.before.before.before.before.before.before.before.before.before.step.ensures ours) line.0 ∙ ap (put _ _) (ap (calls_text _ _) (sym here)) ∙ inv.9,
     )
 
 pub run-calls-spec : {M : Type 1} → statement M

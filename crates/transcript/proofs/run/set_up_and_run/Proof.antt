@@ -2,7 +2,7 @@
 use native.Mathlib.Omega.{arith}
 use mathlib.Core.Path.{◌∙◌, ap}
 use Rattle.lines.specs.Output.{put}
-use Rattle.transcript.proofs.Starting.{refused-text, accepted-text}
+use Rattle.transcript.proofs.Starting.{refused_text, accepted_text}
 use borrow.Author.Rules.{rules}
 use Rattle.transcript.proofs.run.set_up_and_run.Statement.{statement}
 use Rattle.transcript.proofs.run.set_up_and_run.Tie as tie
@@ -13,7 +13,7 @@ put-set-up-requires c κs = omega (arith, c.before.before.before.before.before.b
 returns : tie.Need-returns
 returns c =
     let line = c.before.before.put-set-up.ensures in
-    (line.0 ∙ ap (put _ _) (refused-text _ _ _ _ _ _ _ c.before.before.before.before.before.before.before.before.before.before.before.before.before.before.before.before.before.before.before.before.before.before.before.before.before.before.before.before.before.before.requires.1 c.before.before.before.before.before.before.before.before.before.before.before.before.before.before.before.set-up.ensures _ _ c.before.before.before.before.before.number.ensures c.before.before.before.before.if1.true), omega (arith, line.1))
+    (line.0 ∙ ap (put _ _) (refused_text _ _ _ _ _ _ _ c.before.before.before.before.before.before.before.before.before.before.before.before.before.before.before.before.before.before.before.before.before.before.before.before.before.before.before.before.before.before.requires.1 c.before.before.before.before.before.before.before.before.before.before.before.before.before.before.before.set_up_lem.ensures _ _ c.before.before.before.before.before.number.ensures c.before.before.before.before.if1.true), omega (arith, line.1))
 
 run-calls-requires : tie.Need-run-calls-requires
 run-calls-requires c κs =
@@ -23,7 +23,7 @@ run-calls-requires c κs =
 returns-2 : tie.Need-returns-2
 returns-2 c =
     let run = c.before.before.before.before.before.before.before.before.before.before.before.before.run-calls.ensures in
-    (run.0 ∙ ap (put _ _) (accepted-text _ _ _ _ _ _ _ c.before.before.before.before.before.before.before.before.before.before.before.before.before.before.before.before.before.before.before.before.before.before.before.before.before.before.before.before.before.before.before.before.before.before.before.before.before.before.before.before.before.before.before.before.before.requires.1 c.before.before.before.before.before.before.before.before.before.before.before.before.before.before.before.before.before.before.before.before.before.before.before.before.before.before.before.before.before.before.set-up.ensures _ _ c.before.before.before.before.before.before.before.before.before.before.before.before.before.before.before.before.before.before.before.before.number.ensures c.before.before.before.before.before.before.before.before.before.before.before.before.before.before.before.before.before.before.before.if1.false), run.1)
+    (run.0 ∙ ap (put _ _) (accepted_text _ _ _ _ _ _ _ c.before.before.before.before.before.before.before.before.before.before.before.before.before.before.before.before.before.before.before.before.before.before.before.before.before.before.before.before.before.before.before.before.before.before.before.before.before.before.before.before.before.before.before.before.before.requires.1 c.before.before.before.before.before.before.before.before.before.before.before.before.before.before.before.before.before.before.before.before.before.before.before.before.before.before.before.before.before.before.set_up_lem.ensures _ _ c.before.before.before.before.before.before.before.before.before.before.before.before.before.before.before.before.before.before.before.before.number.ensures c.before.before.before.before.before.before.before.before.before.before.before.before.before.before.before.before.before.before.before.if1.false), run.1)
 
 pub set-up-and-run-spec : {M : Type 1} → statement M
 set-up-and-run-spec =
