@@ -1,4 +1,6 @@
 // Advance: the entry that is due, then the turn, with the lock of its cell by value. What becomes of the locks is handed back.
+#![tactic(auto)]
+
 ghost use Rattle.std.specs.Prelude.{◌≡◌, not, ◌&&◌, ◌<◌, ◌≤◌, eqb, length};
 ghost use Rattle.model.specs.InTheWay.{TellsOthers};
 ghost use Rattle.model.specs.Plans.{claimed};
@@ -9,7 +11,7 @@ ghost use Rattle.advance.specs.Pieces.{due_on, due_cell, DueFits, advance_on, du
 use records::{Answer, Change, Lock, Session, Turn};
 
 // The entry that an advance handles, with whether a cell that publishes is left above its cell; or the refusal.
-#[derive(Drop)]
+#[derive(Clone, Copy)]
 pub enum Due {
     Refused(u8),
     Slot(u32, bool),
@@ -61,7 +63,7 @@ fn loses(l: Lock, session: u8) -> bool
 }
 
 // A handled cell's record and answer.
-#[derive(Drop)]
+#[derive(Clone, Copy)]
 pub struct Handled {
     pub session: Session,
     pub answer: Answer,

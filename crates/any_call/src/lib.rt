@@ -1,4 +1,6 @@
 // Any call's turn, by the lock of the one cell that it may need, on its session's log and on the logs of all.
+#![tactic(auto)]
+
 ghost use Rattle.std.specs.Prelude.{◌≡◌, ◌<◌, ◌≤◌, length};
 ghost use Rattle.model.specs.Buffers.{log_in};
 ghost use Rattle.model.specs.Plans.{peek_plan};

@@ -1,4 +1,6 @@
 // The calls for C: the fields, and each call of the store with the record of its session passed in and handed back by value, the answer as two numbers beside it; many reads; and a load of caps.
+#![tactic(auto)]
+
 mod fields;
 
 ghost use Rattle.records.specs.declared.Call.TheVariants.{Begin, Read, Write, Seal, Advance, Abandon, Peek, Hold};

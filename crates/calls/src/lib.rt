@@ -1,5 +1,7 @@
 // The calls but advance, each as a function that knows neither sixteen records nor how locks are kept: its turn, with the one lock that it needs by value. What becomes
 // of the locks is handed back.
+#![tactic(auto)]
+
 ghost use Rattle.std.specs.Prelude.{◌≡◌, ◌||◌, ◌≤◌, eqb, length};
 ghost use Rattle.model.specs.Buffers.{free};
 ghost use Rattle.model.specs.Plans.{guard, read_plan, hold_plan, seal_plan};

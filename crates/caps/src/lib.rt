@@ -1,4 +1,6 @@
 // Caps: ours, and a table of the caller's own, judged and put in the place of another.
+#![tactic(auto)]
+
 ghost use Rattle.std.specs.Prelude.{◌≡◌, ◌<◌, length};
 ghost use Rattle.model.specs.Buffers.{our_caps, cap, passes, all_fit};
 ghost use Rattle.model.specs.Load.{all_classed};

@@ -1,4 +1,6 @@
 // Reads of cells on one session's log, past the tests of 7, 1, 9 and 2, and the test of a list and its target (document 02, Paper 1).
+#![tactic(auto)]
+
 ghost use Rattle.std.specs.Prelude.{◌≡◌, true, ◌*◌, ◌<◌, ◌≤◌, length};
 ghost use Rattle.model.specs.Search.{below};
 ghost use Rattle.model.specs.Buffers.{cell_at, slot_in};
@@ -71,7 +73,7 @@ fn enter(
 }
 
 // What a read came to: its number, the value with 101, and how many entries the log has.
-#[derive(Drop)]
+#[derive(Clone, Copy)]
 struct CellReply {
     number: u32,
     value: u32,
@@ -133,7 +135,7 @@ fn read_cell(
 // ---- the reads
 
 // What they came to: the last answer's number, how many values were obtained, and how many entries the log has.
-#[derive(Drop)]
+#[derive(Clone, Copy)]
 pub struct CellsReply {
     pub number: u32,
     pub count: usize,

@@ -1,5 +1,7 @@
 // The call fields of document 01, section "Call fields", and hold's (document 02, Paper 4): the reader and the writer of one field, and the types that
 // they speak of. Crate c_api has the same two for C.
+#![tactic(auto)]
+
 mod tags;
 
 ghost use Rattle.std.specs.Prelude.{◌≡◌, ◌+◌, ◌≤◌, length};
@@ -8,7 +10,7 @@ ghost use Rattle.field.specs.Table.{Proper};
 ghost use Rattle.field.specs.Field.{call_at, reading_at, body_of, write_reply, writing};
 
 // What a field is.
-#[derive(Drop)]
+#[derive(Clone, Copy)]
 pub enum Kind {
     Begin,
     Read,
@@ -22,7 +24,7 @@ pub enum Kind {
 
 // What a tag says of its field: the kind, the body's length, and the bytes that each number takes in the body. A number that the tag does
 // not carry takes 0. The numbers stand in the order of this struct.
-#[derive(Drop)]
+#[derive(Clone, Copy)]
 pub struct Layout {
     pub kind: Kind,
     pub length: usize,
@@ -33,14 +35,14 @@ pub struct Layout {
 }
 
 // A tag's layout, where the tag has one.
-#[derive(Drop)]
+#[derive(Clone, Copy)]
 pub enum TagLayout {
     Known(Layout),
     Unknown,
 }
 
 // A call, or a starting cell, as numbers. `value` is document 01's figure.
-#[derive(Drop)]
+#[derive(Clone, Copy)]
 pub struct Call {
     pub tag: u8,
     pub session: u8,
@@ -51,7 +53,7 @@ pub struct Call {
 
 // What stands at a place: a field with its numbers and its length in bytes; the end, where no byte is left; or a refusal's number and the
 // place of the field's first byte.
-#[derive(Drop)]
+#[derive(Clone, Copy)]
 pub enum Reading {
     Field {
         kind: Kind,
@@ -63,7 +65,7 @@ pub enum Reading {
 }
 
 // The writer's answer: the number, and the field's length or, with a refusal, 0.
-#[derive(Drop)]
+#[derive(Clone, Copy)]
 pub struct Written {
     pub number: u8,
     pub length: usize,

@@ -1,4 +1,6 @@
 // The reader and the writer of a field by numbers and byte slices, and no enum: what is read is left in numbers that the caller lends.
+#![tactic(auto)]
+
 ghost use Rattle.std.specs.Prelude.{◌≡◌};
 ghost use Rattle.field.specs.Field.{call, reading_at, write_reply, writing};
 ghost use Rattle.field.specs.Exported.{lent, read_reply, handing};

@@ -1,4 +1,6 @@
 // The replay's input (document 01, "Call fields"): what stands at a place of it, and the starting cells that lead it.
+#![tactic(auto)]
+
 ghost use Rattle.std.specs.Prelude.{◌≡◌, ◌+◌, ◌≤◌, length};
 ghost use Rattle.field.specs.Field.{reading_at};
 ghost use Rattle.items.specs.Items.{next_of_field, next_of};
@@ -8,7 +10,7 @@ use field::{Kind, Reading};
 use records::Call;
 
 // What stands at a place of the input: a starting cell or a call, with the field's length; the end; or the number with which a field is refused.
-#[derive(Drop)]
+#[derive(Clone, Copy)]
 pub enum Next {
     Cell {
         class: u8,
@@ -26,7 +28,7 @@ pub enum Next {
 }
 
 // How many starting cells lead the input, and the place of the field that closes them; or that there are more than 1,024.
-#[derive(Drop)]
+#[derive(Clone, Copy)]
 pub enum Cells {
     Found { count: usize, place: usize },
     TooMany,

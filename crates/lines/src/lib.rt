@@ -1,4 +1,6 @@
 // The replay's output (document 01, "Call fields"): its lines. Each writer puts a text at a place of the output and answers the place after it.
+#![tactic(auto)]
+
 ghost use Rattle.std.specs.Prelude.{◌≡◌, ◌∷◌, [], ◌++◌, ◌+◌, ◌*◌, ◌≤◌, ◌<◌, length};
 ghost use Rattle.replay_text.specs.Decimal.{decimal};
 ghost use Rattle.replay_text.specs.Lines.{word, space, newline, size_line, set_up_line, field_line, cell_line, answer_line, cell_lines};

@@ -1,5 +1,7 @@
 // Any call of a list, on the records of all sixteen sessions and the locks as number slices: for the replay, and for code that has a `Call` in hand.
 // It takes the turn of the call by its kind (crate any_call), and carries its change out as the calls on one record do (crate store).
+#![tactic(auto)]
+
 ghost use Rattle.contracts.specs.Lent.{Takes};
 
 use records::{Answer, Call, Reply, Sessions};

@@ -1,4 +1,6 @@
 // Little-endian numbers in byte slices. Each takes all of its bytes or none: without bytes it reads as 0, and writing it changes nothing.
+#![tactic(auto)]
+
 ghost use Rattle.std.specs.Prelude.{◌≡◌, ◌+◌, ◌≤◌, ◌<◌, length};
 ghost use Rattle.std.proofs.lemmas.List.Edits.{sets};
 ghost use Rattle.little_endian.specs.LittleEndian.{number_at, bytes_of, Whole};

@@ -1,4 +1,6 @@
 // A table of caps loaded in the place of the one in force (document 02, Paper 5): one function for every form of the locks, told the lengths of locks and logs.
+#![tactic(auto)]
+
 ghost use Rattle.std.specs.Prelude.{◌≡◌, length};
 ghost use Rattle.model.specs.Load.{all_idle};
 ghost use Rattle.loads.specs.Loads.{table_refusal, LoadsCaps};

@@ -1,4 +1,6 @@
 // One lock by value, and its reader set (document 01, "What the caller lends", Locks): whatever way locks are kept, they change by these.
+#![tactic(auto)]
+
 ghost use Rattle.std.specs.Prelude.{◌≡◌, ◌<◌, eqb};
 ghost use Rattle.model.specs.Readers.{with_reader, without_reader, other_readers};
 ghost use Rattle.model.specs.Buffers.{join, leave, vacate, withdraw, claim, acquire};

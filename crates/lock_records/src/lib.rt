@@ -1,6 +1,8 @@
 // The calls on locks that the caller lends as one run of records (document 01, "What the caller lends", Locks).
 // A call on the run reads one lock, takes its turn with that lock by value (crate run_turns), and carries out on the run the change that comes back
 // (crate lock_run).
+#![tactic(auto)]
+
 ghost use Rattle.records.specs.declared.Call.TheVariants.{Write};
 ghost use Rattle.lock_records.specs.Lent.{Takes, TakesBy, SetsUp, SetsUpBy, Loads, HandsBack};
 

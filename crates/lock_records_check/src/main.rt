@@ -1,6 +1,8 @@
 // Runs document 01's listing, a short mixed list, one with values written back, one with holds and one with waits on number slices (crates set_up and lists) and on a run of lock records (crate lock_records). Compared are
 // set-up's answers and records, and after each call the answers, the records, and every value, lock and log word.
 // It writes each list as the replay does, with a line for a peek's number too; last, whether the two forms agreed throughout.
+#![tactic(auto)]
+
 ghost use Rattle.lock_records.specs.Lent.{TakesRun, SetsUpRun};
 
 use libc::STDOUT_FILENO;
@@ -9,7 +11,7 @@ use records::{Call, Lock, Reply, Session, Sessions};
 // ---- calls on a run that is an array by value, so that whoever calls them is covered
 
 // A reply, and the run as it was left.
-#[derive(Drop)]
+#[derive(Clone, Copy)]
 struct RunReply {
     reply: Reply,
     locks: [Lock; 2],
@@ -195,7 +197,7 @@ fn print_cells(values: &[u32; 2]) {
 // ---- a list on both forms
 
 // What set-up or a call has left on both forms, and whether all has been the same so far.
-#[derive(Drop)]
+#[derive(Clone, Copy)]
 struct Both {
     slices: Reply,
     records: RunReply,

@@ -1,4 +1,6 @@
 // The run of lock records that the caller lends (document 01, "What the caller lends", Locks): one lock read, one changed, and a change carried out.
+#![tactic(auto)]
+
 ghost use Rattle.std.specs.Prelude.{◌≡◌};
 ghost use Rattle.run_changes.specs.Run.{lock_in, changed_at, swept_by, SessionFits, ChangeFits};
 

@@ -1,4 +1,6 @@
 // The locks of all cells on three lent slices (document 01, "What the caller lends", Locks): the lock that a call needs, and a change of the locks carried out.
+#![tactic(auto)]
+
 ghost use Rattle.std.specs.Prelude.{◌≡◌, [], ◌<◌, length};
 ghost use Rattle.model.specs.Buffers.{lock_at};
 ghost use Rattle.contracts.specs.Lent.{locks_before};

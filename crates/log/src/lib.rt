@@ -1,5 +1,7 @@
 // One session's log: 128 words, 32 entries of four words (document 01, "What the caller lends", Logs).
 // Entries are looked at where they lie; contracts are the model's definitions.
+#![tactic(auto)]
+
 ghost use Rattle.std.specs.Prelude.{◌≡◌, ◌+◌, ◌*◌, ◌<◌, length, replicate};
 ghost use Rattle.model.specs.Buffers.{log_in, cell_at, entry_at, publishes, appended, updated, marked};
 

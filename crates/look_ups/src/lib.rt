@@ -1,4 +1,6 @@
 // A cell looked up among the entries of one session's log, and the entries' cells tested.
+#![tactic(auto)]
+
 ghost use Rattle.std.specs.Prelude.{◌≡◌, true, ◌+◌, ◌*◌, ◌≤◌, length};
 ghost use Rattle.std.proofs.Math.Option.{none};
 ghost use Rattle.model.specs.Search.{below};
@@ -6,7 +8,7 @@ ghost use Rattle.model.specs.Buffers.{cell_at, slot_in};
 ghost use Rattle.log.specs.Slots.{found, Locates};
 
 // Where a cell stands in a log: whether one of the entries has it, and the place of the first that does; the count where none has.
-#[derive(Drop)]
+#[derive(Clone, Copy)]
 pub struct Location {
     pub known: bool,
     pub slot: usize,

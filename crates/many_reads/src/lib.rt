@@ -1,5 +1,7 @@
 // Many reads in one call (document 02, Paper 1), on number slices that the caller lends. The tests of 7, 1, 9 and 2, which each of the single reads would make,
 // are made once: they pass again after every read answered 101.
+#![tactic(auto)]
+
 ghost use Rattle.std.specs.Prelude.{◌≡◌, ◌≤◌, length};
 ghost use Rattle.model.specs.Buffers.{log_in};
 ghost use Rattle.cell_reads.specs.Cells.{Fits};

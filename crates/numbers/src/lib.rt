@@ -1,4 +1,6 @@
 // What C is told, in numbers: a reply as document 01's number and value beside the record, and the index of the log's word that a peek is shown. It touches no buffer.
+#![tactic(auto)]
+
 ghost use Rattle.std.specs.Prelude.{◌≡◌, true};
 ghost use Rattle.numbers.specs.Answers.{numbersOf, refusalOf, ofBegin, ofRead, ofSeal};
 ghost use Rattle.numbers.specs.Places.{ShownAt};
@@ -7,7 +9,7 @@ use records::{Answer, Session, SessionReply, Sessions};
 
 // A call's answer as document 01's number and value, and the record that it hands back.
 #[repr(C)]
-#[derive(Drop)]
+#[derive(Clone, Copy)]
 pub struct NumberReply {
     pub number: u32,
     pub value: u32,
@@ -16,7 +18,7 @@ pub struct NumberReply {
 
 // The answer of set-up and of a load, and the sixteen records.
 #[repr(C)]
-#[derive(Drop)]
+#[derive(Clone, Copy)]
 pub struct SetUpReply {
     pub number: u32,
     pub value: u32,

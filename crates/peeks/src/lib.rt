@@ -1,4 +1,6 @@
 // A peek on number slices that the caller lends (document 01, "The steps"): what it decides, the part that it hands back, and its number.
+#![tactic(auto)]
+
 ghost use Rattle.records.specs.declared.Call.TheVariants.{Peek};
 ghost use Rattle.contracts.specs.Lent.{TakesOne, PeekPlans, HandsBack};
 

@@ -1,5 +1,7 @@
 // What a read, a hold, a write and a peek decide from the session's log and record, before a lock is looked at, as if nobody were claimant: refusals 9, 2, 3, 8, 4,
 // then 14 or 5.
+#![tactic(auto)]
+
 ghost use Rattle.std.specs.Prelude.{◌≡◌, ◌≤◌, length};
 ghost use Rattle.model.specs.Buffers.{free, our_caps};
 ghost use Rattle.model.specs.Plans.{new_cell, read_plan, hold_plan, write_capped, write_plan, peek_plan};

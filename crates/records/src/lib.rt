@@ -1,5 +1,7 @@
 // The types of the store: what a session keeps between calls, a lock, a call, what a call decides and what it answers; a record's methods, an answer's numbers and how a turn ends.
 // The definitions over them, document 01's steps and demand 3, are in crate model.
+#![tactic(auto)]
+
 ghost use Rattle.std.specs.Prelude.{◌≡◌, suc, ◌<◌, replicate};
 ghost use Rattle.records.specs.declared.Answer.TheVariants.{Refused};
 ghost use Rattle.records.specs.declared.Change.TheVariants.{Keep, Join, Withdraw};
@@ -7,7 +9,7 @@ ghost use Rattle.records.specs.Records.{idle, running, with_entry, with_entries,
 
 // A session's record: phase (0 idle, 1 running, 2 promoting, 3 publishing, 4 releasing), entry count, next cell.
 #[repr(C)]
-#[derive(Drop)]
+#[derive(Clone, Copy)]
 pub struct Session {
     pub phase: u8,
     pub count: u8,
@@ -16,13 +18,13 @@ pub struct Session {
 
 // The records of the sixteen sessions, which the caller keeps: a call takes that of its session and hands it back, set-up all sixteen.
 #[repr(C)]
-#[derive(Drop)]
+#[derive(Clone, Copy)]
 pub struct Sessions {
     pub records: [Session; 16],
 }
 
 // A cell's lock: the reader set (bit s for session s), the claimant (16 is nobody) and the writer mark.
-#[derive(Drop)]
+#[derive(Clone, Copy)]
 pub struct Lock {
     pub readers: u16,
     pub claimant: u8,
@@ -30,7 +32,7 @@ pub struct Lock {
 }
 
 // A call on the store.
-#[derive(Drop)]
+#[derive(Clone, Copy)]
 pub enum Call {
     Begin(u8),
     Read(u8, u32),
@@ -61,7 +63,7 @@ impl Call {
 }
 
 // What a call answers.
-#[derive(Drop)]
+#[derive(Clone, Copy)]
 pub enum Answer {
     Done,
     Value(u32),
@@ -106,7 +108,7 @@ impl Answer {
 }
 
 // What a call decides before it changes anything; `plan_effect` in model/specs/Effects.antt says what each answers and leaves.
-#[derive(Drop)]
+#[derive(Clone, Copy)]
 pub enum Plan {
     // the number of a refusal
     Refuse(u8),
@@ -140,7 +142,7 @@ pub enum Plan {
 }
 
 // What becomes of the locks when a plan is carried out: nothing; one cell's changes; or those of the session's entries do.
-#[derive(Drop)]
+#[derive(Clone, Copy)]
 pub enum Change {
     Keep,
     Join(u32),
@@ -154,7 +156,7 @@ pub enum Change {
 }
 
 // A call carried out on its session's log and record: what it answers, the record in its next phase, and what becomes of the locks.
-#[derive(Drop)]
+#[derive(Clone, Copy)]
 pub struct Turn {
     pub answer: Answer,
     pub session: Session,
@@ -162,7 +164,7 @@ pub struct Turn {
 }
 
 // A call's answer and the record that it hands back.
-#[derive(Drop)]
+#[derive(Clone, Copy)]
 pub struct SessionReply {
     pub answer: Answer,
     pub session: Session,
@@ -170,7 +172,7 @@ pub struct SessionReply {
 
 // What many reads reply: the last answer's number, how many values were obtained, and the record.
 #[repr(C)]
-#[derive(Drop)]
+#[derive(Clone, Copy)]
 pub struct ReadManyReply {
     pub number: u32,
     pub count: u32,
@@ -178,7 +180,7 @@ pub struct ReadManyReply {
 }
 
 // A call's answer and the records that it hands back.
-#[derive(Drop)]
+#[derive(Clone, Copy)]
 pub struct Reply {
     pub answer: Answer,
     pub sessions: Sessions,

@@ -1,4 +1,6 @@
 // Refusals 7, 1, 9 and 2, which every call tests first, in this order.
+#![tactic(auto)]
+
 ghost use Rattle.std.specs.Prelude.{◌≡◌, false, ◌≤◌, eqb, length};
 ghost use Rattle.model.specs.Buffers.{lengths_match};
 ghost use Rattle.model.specs.Plans.{entries_fit, record_fits};

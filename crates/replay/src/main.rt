@@ -1,5 +1,7 @@
 // The replay program of document 01, "Call fields": standard input, up to one byte more than it may have, through `transcript::replay`, to standard
 // output. All memory is on the stack, and fixed.
+#![tactic(auto)]
+
 use libc::{STDIN_FILENO, STDOUT_FILENO};
 use transcript::Printed;
 

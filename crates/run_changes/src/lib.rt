@@ -1,5 +1,7 @@
 // A change of the run of lock records, lock by lock: how many locks it changes, which cell's lock is the i-th, and what becomes of it.
 // It touches no run: it reads the logs, and takes a lock by value.
+#![tactic(auto)]
+
 ghost use Rattle.std.specs.Prelude.{◌≡◌, ◌<◌, ◌≤◌, length};
 ghost use Rattle.model.specs.Buffers.{log_in, cell_at};
 ghost use Rattle.run_changes.specs.declared.Change.TheVariants.{Leave};
@@ -8,7 +10,7 @@ ghost use Rattle.run_changes.specs.Run.{count_of, cell_of, change_of, SessionFit
 use records::Lock;
 
 // What a call does to the locks: the session, with a cell or with the number of its entries; or the number of all cells.
-#[derive(Drop)]
+#[derive(Clone, Copy)]
 pub enum Change {
     Keep,
     Join(u8, u32),

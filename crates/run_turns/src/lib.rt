@@ -1,5 +1,7 @@
 // What a call does but for the run of lock records: of the run it is told how many locks there are, and one lock by value; it hands back the change to
 // be carried out on the run.
+#![tactic(auto)]
+
 ghost use Rattle.std.specs.Prelude.{◌≡◌};
 ghost use Rattle.run_changes.specs.Run.{on_run};
 ghost use Rattle.run_turns.specs.Turns.{only_answer, look_of, IsPeekPlan, IsPeekPart, TakesOnRun, WritesOnRun, SetsUpTurn, SetsUpTurnBy, LoadsOnRun};
@@ -8,7 +10,7 @@ use records::{Answer, Call, Lock, Plan, Reply, Sessions};
 use run_changes::Change;
 
 // What a call has answered and changed besides the run, and what it does to the run.
-#[derive(Drop)]
+#[derive(Clone, Copy)]
 pub struct Turn {
     pub reply: Reply,
     pub change: Change,

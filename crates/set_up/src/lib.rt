@@ -1,4 +1,6 @@
 // Set-up, on number slices that the caller lends (document 01, "What the caller lends"), by our caps and by a table.
+#![tactic(auto)]
+
 ghost use Rattle.std.specs.Prelude.{◌≡◌, length, replicate};
 ghost use Rattle.contracts.specs.Lent.{SetsUp, SetsUpBy};
 

@@ -1,6 +1,8 @@
 // The store: the calls but peek (crate peeks), and a load of caps, on number slices that the caller lends (document 01, "The steps").
 // A call takes the record of its session and hands it back with its answer. It is admitted (7 and 1), looks up the lock that it needs, takes its turn
 // (crates calls, advance and turns) and carries out what becomes of the locks.
+#![tactic(auto)]
+
 ghost use Rattle.std.specs.Prelude.{◌≡◌};
 ghost use Rattle.records.specs.declared.Answer.TheVariants.{Refused};
 ghost use Rattle.records.specs.declared.Call.TheVariants.{Begin, Read, Write, Seal, Advance, Abandon, Hold};

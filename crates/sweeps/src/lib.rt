@@ -1,4 +1,6 @@
 // The locks of a log's entries, on three lent slices: rolling back, and sealing (document 01, "The steps").
+#![tactic(auto)]
+
 ghost use Rattle.std.specs.Prelude.{◌≡◌, ◌+◌, ◌*◌, ◌<◌, ◌≤◌, length, get_or, set};
 ghost use Rattle.model.specs.Readers.{without_reader};
 ghost use Rattle.model.specs.Buffers.{cell_at, on_lock, withdraw};

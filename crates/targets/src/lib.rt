@@ -1,4 +1,6 @@
 // Which cells of one session's log publish: whether any, the lowest, and the lowest two.
+#![tactic(auto)]
+
 ghost use Rattle.std.specs.Prelude.{◌≡◌, true, ℕ, ◌+◌, ◌*◌, ◌<◌, ◌≤◌, length};
 ghost use Rattle.model.specs.Search.{some?, below};
 ghost use Rattle.model.specs.Buffers.{cell_at, target_in};
@@ -61,7 +63,7 @@ pub fn target(log: &[u32], count: usize, n: u32, from: u32) -> usize
 }
 
 // The lowest two cells of some entries.
-#[derive(Drop)]
+#[derive(Clone, Copy)]
 struct Two {
     low: u32,
     high: u32,
@@ -114,7 +116,7 @@ fn lowest_two(log: &[u32], count: usize, n: u32, from: u32) -> Two
 }
 
 // The entry that an advance handles, count where there is none, and whether another cell that publishes is left above its cell.
-#[derive(Drop)]
+#[derive(Clone, Copy)]
 pub struct Next {
     pub slot: usize,
     pub more: bool,

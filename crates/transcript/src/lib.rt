@@ -1,4 +1,6 @@
 // The replay of document 01, "Call fields", as one function from input bytes to output bytes.
+#![tactic(auto)]
+
 mod run;
 
 ghost use Rattle.std.specs.Prelude.{◌≡◌, ◌≤◌, length};
@@ -6,7 +8,7 @@ ghost use Rattle.replay_text.specs.Transcript.{transcript};
 ghost use Rattle.transcript.specs.Replay.{replayed, replaying};
 
 // The replay's answer: how many bytes of the output it wrote, or that the output is too short.
-#[derive(Drop)]
+#[derive(Clone, Copy)]
 pub enum Printed {
     Bytes(usize),
     Short,

@@ -1,5 +1,7 @@
 // What every form of the locks shares above the calls: a turn on the logs of all sessions, of which the session's is lent on, and a record taken out of the sixteen and
 // put back. The laws by which a form meets its contracts stand in proofs/.
+#![tactic(auto)]
+
 ghost use Rattle.std.specs.Prelude.{◌≡◌, ◌<◌, ◌%◌, length};
 ghost use Rattle.model.specs.Buffers.{free, session_at, with_session, log_in};
 ghost use Rattle.model.specs.Plans.{read_plan, hold_plan};
