@@ -15,7 +15,7 @@ import sys
 
 WORD = r"[\w'◌ℕ₀-₉-]"
 TOP = re.compile(r"^(?:(?:abbrev|unfoldable|opaque|pub|record|data|ruleset)\s+)*([a-z][\w'-]*)(?:\s+[^:]*?)?\s:(?:\s|$)")
-DEEP = re.compile(r"^\s+(?:pub )?([a-z][\w'-]*)\s:\s")
+DEEP = re.compile(r"^\s+(?:(?:abbrev|unfoldable|opaque|pub|record|data|ruleset)\s+)*([a-z][\w'-]*)(?:\s\([^:]*)?\s:\s")
 KEEPS_DASH = {"length", "get_or", "or_else"}
 MADE = re.compile(r"^(?:returns|invariant-loop|decreases-loop)(?:-\d+)?$")
 
@@ -36,7 +36,8 @@ def snake(name):
     name = name.replace("getD", "get_or").replace("orElse", "or_else")
     head, dash, tail = name.partition("-")
     keeps = bool(dash) and (re.search(r"[A-Z_]", head) is not None or head in KEEPS_DASH)
-    name = re.sub(r"(?<=[a-z0-9])([A-Z])", lambda m: "_" + m[1].lower(), name)
+    name = re.sub(r"(?<=[a-z0-9])([A-Z])|(?<=[A-Z])([A-Z])(?=[a-z])", lambda m: "_" + m[0], name)
+    name = re.sub(r"[A-Z]", lambda m: m[0].lower(), name)
     if not keeps:
         return name.replace("-", "_")
     head, dash, tail = name.partition("-")

@@ -29,17 +29,17 @@ use Rattle.advance.proofs.Ways.{target_slot_lem}
 -- ---- advance: the entry that is due, with the lock of its cell
 
 module _ (n s : ℕ) (ks : List ℕ) (G : Limits) (log : List ℕ) (x : Session) (lock : ℕ → Lock) where
-  abbrev dueWith : Due → Plan
-  dueWith d = due_plan s log x (lock (due_cell log d)) d
+  abbrev due_with : Due → Plan
+  due_with d = due_plan s log x (lock (due_cell log d)) d
 
   -- an entry of the lowest written cell is there
   advance_slot : (o : Option ℕ) → target_in log x.count x.next ≡ o
-      → dueWith (due_at log x.count (slot_of log x.count o)) ≡ cond (some? o) (advance_target s log x lock o) (Refuse 9)
+      → due_with (due_at log x.count (slot_of log x.count o)) ≡ cond (some? o) (advance_target s log x lock o) (Refuse 9)
   unfolding slot_of due_at due_plan due_cell advance_on advance_target look_in entry_of
   advance_slot none e = refl
   advance_slot (some c) e = let w = target_slot_lem log x.count x.next e in rw (w.1, w.3)
 
-  pub advance_agree : dueWith (due_on n log x) ≡ plan (Advance s) n ks G log x lock
+  pub advance_agree : due_with (due_on n log x) ≡ plan (Advance s) n ks G log x lock
   unfolding plan due_plan due_cell due_on guard record_fits target_slot
   advance_agree =
       test (entries_fit n log x)

@@ -18,14 +18,14 @@ use Rattle.records.specs.declared.Call.TheVariants.{Read}
 use Rattle.model.proofs.Tools.{test}
 use Rattle.refusals.proofs.Lengths.{Admitted}
 use Rattle.cell_reads.specs.Cells.{Fits, CellRead, read_cell, CellsRead, read_cells}
-use Rattle.many_reads.proofs.OneRead.{store_with, rolledWith, read_is}
+use Rattle.many_reads.proofs.OneRead.{store_with, rolled_with, read_is}
 use Rattle.cell_reads.proofs.Ways.{fits_still}
 
 module _ (B : Buffers) (s : ℕ) (z : Admitted B s) (G : Limits) (ss : Sessions) (next : ℕ) (here : s < length ss.records) where
   -- the store that the reads leave
   abbrev pub left_by : CellsRead → Store
   left_by o =
-      cond (eqb o.number 6) (rolledWith B s z G ss next here o.readers o.log o.entries) (store_with B s z G ss next here o.readers o.log o.entries)
+      cond (eqb o.number 6) (rolled_with B s z G ss next here o.readers o.log o.entries) (store_with B s z G ss next here o.readers o.log o.entries)
 
   -- what the model says of reads, r, is what the code's o says, with i values obtained before
   pub record Same (i : ℕ) (cs T : List ℕ) (r : Reads) (o : CellsRead) : Type 0 where

@@ -37,24 +37,24 @@ module _ (B : Buffers) (s : ℕ) (z : Admitted B s) (G : Limits) (ss : Sessions)
   ran k = record { phase = 1; count = k; next = next }
 
   -- with the reader sets R, the session's log W and k entries in it
-  abbrev pub lentWith : Locks → List ℕ → Buffers
-  lentWith L W = record { values = B.values; classes = B.classes; locks = L; logs = on_log s (λ log. W) B.logs }
+  abbrev pub lent_with : Locks → List ℕ → Buffers
+  lent_with L W = record { values = B.values; classes = B.classes; locks = L; logs = on_log s (λ log. W) B.logs }
 
-  abbrev pub locksWith : List ℕ → Locks
-  locksWith R = locks_of R B.locks.claimants B.locks.exclusives
+  abbrev pub locks_with : List ℕ → Locks
+  locks_with R = locks_of R B.locks.claimants B.locks.exclusives
 
   abbrev pub store_with : List ℕ → List ℕ → ℕ → Store
-  store_with R W k = record { lent = lentWith (locksWith R) W; limits = G; sessions = with_session ss s (ran k) }
+  store_with R W k = record { lent = lent_with (locks_with R) W; limits = G; sessions = with_session ss s (ran k) }
 
   -- and rolled back from there
-  abbrev pub rolledWith : List ℕ → List ℕ → ℕ → Store
-  rolledWith R W k = record { lent = lentWith (rolled_back W k s (locksWith R)) W; limits = G; sessions = with_session ss s idle }
+  abbrev pub rolled_with : List ℕ → List ℕ → ℕ → Store
+  rolled_with R W k = record { lent = lent_with (rolled_back W k s (locks_with R)) W; limits = G; sessions = with_session ss s idle }
 
   module _ (R W : List ℕ) (k : ℕ) (f : Fits s (length B.values) (length R) (length B.locks.claimants) W k) where
     abbrev σ : Store
     σ = store_with R W k
 
-    fit : lengths_fit (lentWith (locksWith R) W) ≡ true
+    fit : lengths_fit (lent_with (locks_with R) W) ≡ true
     unfolding lengths_fit size
     fit = rw (length-on s B.logs z.low z.lengths.logs (λ log. W) f.words, f.readers) (rw z.lengths.readers at z.fit)
 
@@ -71,7 +71,7 @@ module _ (B : Buffers) (s : ℕ) (z : Admitted B s) (G : Limits) (ss : Sessions)
 
     -- what it decides past the tests
     abbrev decides : ℕ → Plan
-    decides c = known (length B.values) c (read_slot W (ran k) (lock_at (locksWith R) c) c (slot_in W k c))
+    decides c = known (length B.values) c (read_slot W (ran k) (lock_at (locks_with R) c) c (slot_in W k c))
 
     plan_is : (c : ℕ) → plan_of (Read s c) (store_with R W k) ≡ decides c
     unfolding plan_of plan read_plan guard size
@@ -83,7 +83,7 @@ module _ (B : Buffers) (s : ℕ) (z : Admitted B s) (G : Limits) (ss : Sessions)
     abbrev pub ReadIs : ℕ → CellRead → Type 0
     ReadIs c o =
         (number (answer_of (Read s c) (store_with R W k)) ≡ o.number) × (value_of (answer_of (Read s c) (store_with R W k)) ≡ o.value)
-        × (step (Read s c) (store_with R W k) ≡ cond (eqb o.number 6) (rolledWith o.readers o.log o.entries) (store_with o.readers o.log o.entries))
+        × (step (Read s c) (store_with R W k) ≡ cond (eqb o.number 6) (rolled_with o.readers o.log o.entries) (store_with o.readers o.log o.entries))
 
     refuses : (c r : ℕ) → decides c ≡ Refuse r → eqb r 6 ≡ false → ReadIs c (cell_read r 0 R W k)
     unfolding answer_of step answer after
@@ -102,7 +102,7 @@ module _ (B : Buffers) (s : ℕ) (z : Admitted B s) (G : Limits) (ss : Sessions)
     unfolding answer_of step answer after
     rolls c e = rw (plan_is c, e) (refl, refl, rw (record_is, log_is, twice idle))
 
-    joined : (c : ℕ) → on_lock c (join s) (locksWith R) ≡ locksWith (set R c (with_reader s (get_or R c 0)))
+    joined : (c : ℕ) → on_lock c (join s) (locks_with R) ≡ locks_with (set R c (with_reader s (get_or R c 0)))
     unfolding changed one_of
     joined c = sym (joins (Join c) s R B.locks.claimants B.locks.exclusives c refl (with_reader s (get_or R c 0)) refl)
 
@@ -116,11 +116,11 @@ module _ (B : Buffers) (s : ℕ) (z : Admitted B s) (G : Limits) (ss : Sessions)
 
     -- ---- every read
 
-    new : (c : ℕ) → c < length B.values → decides c ≡ new_cell (ran k) (lock_at (locksWith R) c) (Enter c)
+    new : (c : ℕ) → c < length B.values → decides c ≡ new_cell (ran k) (lock_at (locks_with R) c) (Enter c)
         → ReadIs c (new_read B.values B.locks.claimants s R W k c)
     unfolding new_read new_cell claimed
     new c l q =
-        let h : get_or B.locks.claimants c 0 ≡ (lock_at (locksWith R) c).claimant = ap (λ (y : Lock). y.claimant)
+        let h : get_or B.locks.claimants c 0 ≡ (lock_at (locks_with R) c).claimant = ap (λ (y : Lock). y.claimant)
         (lock_here R B.locks.claimants B.locks.exclusives c (f.claimants ∙ sym f.readers) (z.lengths.exclusives ∙ sym f.readers) (let e = f.readers in omega arith)) in
         test (ltb k 32)
         (λ a.
@@ -134,7 +134,7 @@ module _ (B : Buffers) (s : ℕ) (z : Admitted B s) (G : Limits) (ss : Sessions)
     read_is c =
         test (ltb c (length B.values))
         (λ i.
-        let q : decides c ≡ read_slot W (ran k) (lock_at (locksWith R) c) c (slot_in W k c) = unfold known in rw i in
+        let q : decides c ≡ read_slot W (ran k) (lock_at (locks_with R) c) c (slot_in W k c) = unfold known in rw i in
         which (slot_in W k c)
         (λ p. rw (i, p) (new c (ltb-true c (length B.values) i) (q ∙ (unfold read_slot in rw p))))
         (λ j p. rw (i, p) (told_value c _ (q ∙ (unfold read_slot in rw p)))))

@@ -9,7 +9,7 @@ use lib.Dec.{eqb}
 use lib.ListN.{length}
 use borrow.Author.Tests.{ltb-true}
 use Rattle.model.specs.History.{Item, Name, cells_written, snapshot, moves_in, move_number, commit, committed}
-use Rattle.model.specs.Isolation.{All, Any, at, Commits, snapshotOf, commitOf, ToldAt}
+use Rattle.model.specs.Isolation.{All, Any, at, Commits, snapshot_of, commit_of, ToldAt}
 use Rattle.model.specs.Told.{seals, moves}
 use Rattle.model.proofs.Matching.{Stands}
 use Rattle.model.proofs.Tools.{test, both_l}
@@ -30,10 +30,10 @@ move_any m (i ∷ t) h =
     (λ y. rw y (inr (move_any m t (rw y at h))))
 
 module _ (start : List ℕ) (h : List Item) (x : Name) (stands : All (Stands x) (at start h x)) where
-  pub snapshot_own : 0 < snapshotOf start h x → ToldAt start h x (snapshotOf start h x) seals × (x.place < snapshotOf start h x)
+  pub snapshot_own : 0 < snapshot_of start h x → ToldAt start h x (snapshot_of start h x) seals × (x.place < snapshot_of start h x)
   snapshot_own l = snapshot_any x (at start h x) stands l
 
-  pub commit_own : Commits start h x → ToldAt start h x (commitOf start h x) (λ w. cond (eqb (cells_written (length start) (at start h x)) 0) (seals w) (moves w))
+  pub commit_own : Commits start h x → ToldAt start h x (commit_of start h x) (λ w. cond (eqb (cells_written (length start) (at start h x)) 0) (seals w) (moves w))
   unfolding committed commit
   commit_own d =
       let t = at start h x in

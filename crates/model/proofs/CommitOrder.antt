@@ -11,10 +11,10 @@ use lib.ListN.{length, get_or}
 use borrow.Author.Tests.{eq-eqb}
 use Rattle.records.specs.declared.Answer.{Answer}
 use Rattle.model.specs.Buffers.{Store, fresh}
-use Rattle.model.specs.CommitOrder.{NewestFirst, ByCommit, valueAfter, ReadsInOrder, CoversReads, CoveredInOrder, ReadsByHolds, NonePublishing, InCommitOrder}
+use Rattle.model.specs.CommitOrder.{NewestFirst, ByCommit, value_after, ReadsInOrder, CoversReads, CoveredInOrder, ReadsByHolds, NonePublishing, InCommitOrder}
 use Rattle.model.specs.Effects.{number}
 use Rattle.model.specs.History.{Action, Event, run, Item, told, history, Name, dirtied, held_in, wrote, value_written, cells_written, reads_before_writing, commit}
-use Rattle.model.specs.Isolation.{All, Any, at, Commits, snapshotOf, commitOf, CommitsTo, Last, last_commit, no_commit, Isolated, Ran}
+use Rattle.model.specs.Isolation.{All, Any, at, Commits, snapshot_of, commit_of, CommitsTo, Last, last_commit, no_commit, Isolated, Ran}
 use Rattle.model.specs.Step.{Outcome, outcome, set_up_effect, set_up_answer, set_up}
 use Rattle.model.specs.Told.{Told, began, got, put, held, sealed, moved, ended, holds, ReadOf, read_unless}
 use Rattle.model.proofs.Commits.{all_both, last_value}
@@ -23,7 +23,7 @@ use Rattle.model.proofs.Effects.{not_pending}
 use Rattle.model.proofs.Invariant.{latest, before_latest, all_map}
 use Rattle.model.proofs.Ledger.{Commit, Ledger, Lawful}
 use Rattle.model.proofs.Matching.{name_of, Recorded, In}
-use Rattle.model.proofs.Runs.{inv_fresh, Ready, ready, ledger-of, inv_run, place_is, match_run}
+use Rattle.model.proofs.Runs.{inv_fresh, Ready, ready, ledger_of, inv_run, place_is, match_run}
 use Rattle.model.proofs.Tools.{test, clash}
 use Rattle.model.proofs.Writers.{isolation}
 
@@ -39,11 +39,11 @@ module _ (first : List ℕ) (h : List Item) where
   -- the committed transactions before place q
   pub record Upto (q : ℕ) (xs : List Name) : Type 0 where
     pub committed : All (Commits first h) xs
-    pub before : All (λ (y : Name). commitOf first h y < q) xs
-    pub every : (x : Name) → Commits first h x → commitOf first h x < q → Any (λ (y : Name). y ≡ x) xs
+    pub before : All (λ (y : Name). commit_of first h y < q) xs
+    pub every : (x : Name) → Commits first h x → commit_of first h x < q → Any (λ (y : Name). y ≡ x) xs
     pub newest_first : NewestFirst first h xs
 
-  older : (q : ℕ) (x : Name) (xs : List Name) → Upto q (x ∷ xs) → Upto (commitOf first h x) xs
+  older : (q : ℕ) (x : Name) (xs : List Name) → Upto q (x ∷ xs) → Upto (commit_of first h x) xs
   older q x xs u =
       record {
         committed = u.committed.1;
@@ -52,8 +52,8 @@ module _ (first : List ℕ) (h : List Item) where
         newest_first = u.newest_first.1;
       }
     where
-      go : (y : Name) → commitOf first h y < commitOf first h x → (x ≡ y) ⊎ Any (λ (z : Name). z ≡ y) xs → Any (λ (z : Name). z ≡ y) xs
-      go y l (inl e) = absurd (let m : commitOf first h x ≡ commitOf first h y = ap (commitOf first h) e in omega arith)
+      go : (y : Name) → commit_of first h y < commit_of first h x → (x ≡ y) ⊎ Any (λ (z : Name). z ≡ y) xs → Any (λ (z : Name). z ≡ y) xs
+      go y l (inl e) = absurd (let m : commit_of first h x ≡ commit_of first h y = ap (commit_of first h) e in omega arith)
       go y l (inr i) = i
 
   -- two places for which the same commits count
@@ -63,7 +63,7 @@ module _ (first : List ℕ) (h : List Item) where
   counted c p q v f g (last_commit x k newest e) = last_commit x (f x k) (λ y j. newest y (g y j)) e
 
   -- as they do where all that counts for the later is before the earlier
-  module _ (c p q v : ℕ) (l : p ≤ q) (f : (y : Name) → CommitsTo first h c q y → commitOf first h y < p) where
+  module _ (c p q v : ℕ) (l : p ≤ q) (f : (y : Name) → CommitsTo first h c q y → commit_of first h y < p) where
     wider : (y : Name) → CommitsTo first h c p y → CommitsTo first h c q y
     wider y k = record { commits = k.commits; wrote = k.wrote; before = omega (arith, l, k.before) }
 
@@ -77,10 +77,10 @@ module _ (first : List ℕ) (h : List Item) where
     later = counted c p q v wider narrower
 
   -- the value after them is that of the last commit
-  after_is : (c v q : ℕ) (xs : List Name) → Upto q xs → Last first h c q v → valueAfter first h xs c ≡ v
+  after_is : (c v q : ℕ) (xs : List Name) → Upto q xs → Last first h c q v → value_after first h xs c ≡ v
   after_is c v q [] u (no_commit _ e) = e
   after_is c v q [] u (last_commit x k _ _) = absurd (u.every x k.commits k.before)
-  after_is c v q (x ∷ xs) u l = test (wrote (at first h x) c) (λ w. rw w (here w l)) (λ w. rw w (after_is c v (commitOf first h x) xs (older q x xs u) (sooner c (commitOf first h x) q v (omega (arith, u.before.0)) (there w) l)))
+  after_is c v q (x ∷ xs) u l = test (wrote (at first h x) c) (λ w. rw w (here w l)) (λ w. rw w (after_is c v (commit_of first h x) xs (older q x xs u) (sooner c (commit_of first h x) q v (omega (arith, u.before.0)) (there w) l)))
     where
       here : wrote (at first h x) c ≡ true → Last first h c q v → value_written (at first h x) c ≡ v
       here w (no_commit none _) = absurd (none x (record { commits = u.committed.0; wrote = w; before = u.before.0 }))
@@ -89,32 +89,32 @@ module _ (first : List ℕ) (h : List Item) where
           go : (x ≡ y) ⊎ Any (λ (z : Name). z ≡ y) xs → value_written (at first h x) c ≡ v
           go (inl p) = rw p e
           go (inr i) =
-              absurd (omega (arith, all_any (λ z. commitOf first h z < commitOf first h x) y xs u.newest_first.0 i, newest x (record { commits = u.committed.0; wrote = w; before = u.before.0 })))
+              absurd (omega (arith, all_any (λ z. commit_of first h z < commit_of first h x) y xs u.newest_first.0 i, newest x (record { commits = u.committed.0; wrote = w; before = u.before.0 })))
 
-      there : wrote (at first h x) c ≡ false → (y : Name) → CommitsTo first h c q y → commitOf first h y < commitOf first h x
+      there : wrote (at first h x) c ≡ false → (y : Name) → CommitsTo first h c q y → commit_of first h y < commit_of first h x
       there w y k = go (u.every y k.commits k.before)
         where
-          go : (x ≡ y) ⊎ Any (λ (z : Name). z ≡ y) xs → commitOf first h y < commitOf first h x
+          go : (x ≡ y) ⊎ Any (λ (z : Name). z ≡ y) xs → commit_of first h y < commit_of first h x
           go (inl p) = absurd (clash (wrote (at first h x) c) (rw p k.wrote) w)
-          go (inr i) = all_any (λ z. commitOf first h z < commitOf first h x) y xs u.newest_first.0 i
+          go (inr i) = all_any (λ z. commit_of first h z < commit_of first h x) y xs u.newest_first.0 i
 
   -- ---- reads
 
   module _ (I : Isolated first h) where
     -- what a transaction read is the last commit's before its own commit
-    read_last : (x : Name) → Commits first h x → CoversReads first h x → All (λ (r : ReadOf). Last first h r.cell (commitOf first h x) r.value) (reads_before_writing (at first h x))
+    read_last : (x : Name) → Commits first h x → CoversReads first h x → All (λ (r : ReadOf). Last first h r.cell (commit_of first h x) r.value) (reads_before_writing (at first h x))
     read_last x d (inl z) =
-        let e : commitOf first h x ≡ snapshotOf first h x = unfold commit in rw (eq-eqb (cells_written (length first) (at first h x)) 0 z) in
+        let e : commit_of first h x ≡ snapshot_of first h x = unfold commit in rw (eq-eqb (cells_written (length first) (at first h x)) 0 z) in
         rw e (I.reads x d)
     read_last x d (inr ws) =
-        all_both (λ r w l. later r.cell (snapshotOf first h x) (commitOf first h x) r.value (I.snapshots x d).1 (λ y k. go y k (I.apart y x r.cell (λ e. same_place y k e) k.commits d k.wrote w)) l)
+        all_both (λ r w l. later r.cell (snapshot_of first h x) (commit_of first h x) r.value (I.snapshots x d).1 (λ y k. go y k (I.apart y x r.cell (λ e. same_place y k e) k.commits d k.wrote w)) l)
         (reads_before_writing (at first h x)) ws (I.reads x d)
       where
-        same_place : {c : ℕ} (y : Name) → CommitsTo first h c (commitOf first h x) y → y ≡ x → ⊥
-        same_place y k e = let m : commitOf first h y ≡ commitOf first h x = ap (commitOf first h) e in omega (arith, k.before, m)
+        same_place : {c : ℕ} (y : Name) → CommitsTo first h c (commit_of first h x) y → y ≡ x → ⊥
+        same_place y k e = let m : commit_of first h y ≡ commit_of first h x = ap (commit_of first h) e in omega (arith, k.before, m)
 
-        go : {c : ℕ} (y : Name) → CommitsTo first h c (commitOf first h x) y → (commitOf first h y < snapshotOf first h x) ⊎ (commitOf first h x < snapshotOf first h y)
-            → commitOf first h y < snapshotOf first h x
+        go : {c : ℕ} (y : Name) → CommitsTo first h c (commit_of first h x) y → (commit_of first h y < snapshot_of first h x) ⊎ (commit_of first h x < snapshot_of first h y)
+            → commit_of first h y < snapshot_of first h x
         go y k (inl a) = a
         go y k (inr b) = absurd (omega (arith, b, k.before, (I.snapshots y k.commits).1))
 
@@ -123,8 +123,8 @@ module _ (first : List ℕ) (h : List Item) where
     covered_in_order q (x ∷ xs) u =
         let o = older q x xs u in
         let d = u.committed.0 in (
-          λ k. all_map (λ r l. sym (after_is r.cell r.value (commitOf first h x) xs o l)) (reads_before_writing (at first h x)) (read_last x d k),
-          covered_in_order (commitOf first h x) xs o,
+          λ k. all_map (λ r l. sym (after_is r.cell r.value (commit_of first h x) xs o l)) (reads_before_writing (at first h x)) (read_last x d k),
+          covered_in_order (commit_of first h x) xs o,
         )
 
   all_in_order : ((x : Name) → Commits first h x → CoversReads first h x) → (xs : List Name) → All (Commits first h) xs → CoveredInOrder first h xs → ReadsInOrder first h xs
@@ -163,18 +163,18 @@ module _ (first : List ℕ) (h : List Item) where
   same_list q [] (y ∷ ys) a b = absurd (a.every y b.committed.0 b.before.0)
   same_list q (x ∷ xs) [] a b = absurd (b.every x a.committed.0 a.before.0)
   same_list q (x ∷ xs) (y ∷ ys) a b =
-      go (same_list (commitOf first h x) xs ys (older first h q x xs a)) (a.every y b.committed.0 b.before.0) (b.every x a.committed.0 a.before.0)
+      go (same_list (commit_of first h x) xs ys (older first h q x xs a)) (a.every y b.committed.0 b.before.0) (b.every x a.committed.0 a.before.0)
     where
-      tails : (Upto first h (commitOf first h x) ys → xs ≡ ys) → x ≡ y → x ∷ xs ≡ y ∷ ys
+      tails : (Upto first h (commit_of first h x) ys → xs ≡ ys) → x ≡ y → x ∷ xs ≡ y ∷ ys
       tails f e = rw (e, f (rw e (older first h q y ys b)))
 
-      go : (Upto first h (commitOf first h x) ys → xs ≡ ys) → (x ≡ y) ⊎ Any (λ (z : Name). z ≡ y) xs → (y ≡ x) ⊎ Any (λ (z : Name). z ≡ x) ys → x ∷ xs ≡ y ∷ ys
+      go : (Upto first h (commit_of first h x) ys → xs ≡ ys) → (x ≡ y) ⊎ Any (λ (z : Name). z ≡ y) xs → (y ≡ x) ⊎ Any (λ (z : Name). z ≡ x) ys → x ∷ xs ≡ y ∷ ys
       go f (inl e) j = tails f e
       go f (inr i) (inl e) = tails f (sym e)
       go f (inr i) (inr j) =
-          absurd (omega (arith, all_any (λ z. commitOf first h z < commitOf first h x) y xs a.newest_first.0 i, all_any (λ z. commitOf first h z < commitOf first h y) x ys b.newest_first.0 j))
+          absurd (omega (arith, all_any (λ z. commit_of first h z < commit_of first h x) y xs a.newest_first.0 i, all_any (λ z. commit_of first h z < commit_of first h y) x ys b.newest_first.0 j))
 
-  bounded : (q : ℕ) (x : Name) (xs : List Name) → ByCommit first h (x ∷ xs) → commitOf first h x < q → Upto first h q (x ∷ xs)
+  bounded : (q : ℕ) (x : Name) (xs : List Name) → ByCommit first h (x ∷ xs) → commit_of first h x < q → Upto first h q (x ∷ xs)
   bounded q x xs a l =
       record { committed = a.committed; before = (l, all_map (λ y m. omega (arith, l, m)) xs a.newest_first.0); every = λ y d _. a.every y d; newest_first = a.newest_first }
 
@@ -183,7 +183,7 @@ module _ (first : List ℕ) (h : List Item) where
   one_order [] (y ∷ ys) a b = absurd (a.every y b.committed.0)
   one_order (x ∷ xs) [] a b = absurd (b.every x a.committed.0)
   one_order (x ∷ xs) (y ∷ ys) a b =
-      let q = suc (commitOf first h x + commitOf first h y) in
+      let q = suc (commit_of first h x + commit_of first h y) in
       same_list q (x ∷ xs) (y ∷ ys) (bounded q x xs a (omega arith)) (bounded q y ys b (omega arith))
 
 -- ---- the runs
@@ -210,12 +210,12 @@ module _ {φ : Store} {h₀ : List Item} {T₀ : Ledger} (R : Ready φ h₀ T₀
   h = history h₀ φ ks
 
   abbrev commits : List Commit
-  commits = (ledger-of R ks).commits
+  commits = (ledger_of R ks).commits
 
   newest : (js : List Commit) → Lawful first js → All (Recorded (length first) h) js → NewestFirst first h (names js)
   newest [] l t = tt
   newest (j ∷ js) l t = (
-    named (λ y. commitOf first h y < commitOf first h (name_of j)) (λ k a b. omega (arith, a, b.commit, t.0.commit)) js l.0.newest t.1,
+    named (λ y. commit_of first h y < commit_of first h (name_of j)) (λ k a b. omega (arith, a, b.commit, t.0.commit)) js l.0.newest t.1,
     newest js l.1 t.1,
   )
 
@@ -233,7 +233,7 @@ module _ {φ : Store} {h₀ : List Item} {T₀ : Ledger} (R : Ready φ h₀ T₀
       let B = by_commit_lem in
       record {
         committed = B.committed;
-        before = named (λ y. commitOf first h y < suc (length ks)) (λ k a b. omega (arith, a, b.commit, place_is R ks)) commits (inv_run R ks).old (match_run R ks).recorded;
+        before = named (λ y. commit_of first h y < suc (length ks)) (λ k a b. omega (arith, a, b.commit, place_is R ks)) commits (inv_run R ks).old (match_run R ks).recorded;
         every = λ x d _. B.every x d;
         newest_first = B.newest_first;
       }
@@ -244,7 +244,7 @@ module _ {φ : Store} {h₀ : List Item} {T₀ : Ledger} (R : Ready φ h₀ T₀
       let I = inv_run R ks in
       let M = match_run R ks in
       let e : get_or (run φ ks).lent.values c 0 ≡ latest first commits c = (I.valued c lc).settled (λ s. not_pending (run φ ks) s c (n s)) in
-      rw (e, ← (before_latest first (ledger-of R ks).place c commits I.old), place_is R ks)
+      rw (e, ← (before_latest first (ledger_of R ks).place c commits I.old), place_is R ks)
       (last_value first h c (suc (length ks)) commits I.lawful M.recorded (λ r x. M.every r x.commits))
 
   pub in_commit_order_from : InCommitOrder first h (run φ ks)

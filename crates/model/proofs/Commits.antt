@@ -9,7 +9,7 @@ use lib.Dec.{ltb}
 use lib.ListN.{length}
 use borrow.Author.Tests.{ltb-true, lt-ltb}
 use Rattle.model.specs.History.{Item, Name, wrote}
-use Rattle.model.specs.Isolation.{All, at, Commits, snapshotOf, commitOf, CommitsTo, Last, last_commit, no_commit, Isolated}
+use Rattle.model.specs.Isolation.{All, at, Commits, snapshot_of, commit_of, CommitsTo, Last, last_commit, no_commit, Isolated}
 use Rattle.model.specs.Told.{ReadOf}
 use Rattle.model.proofs.Agreement.{snapshot_own, commit_own}
 use Rattle.model.proofs.Invariant.{before_later, all_map}
@@ -62,7 +62,7 @@ module _ (start : List ℕ) where
         (ap (λ (f : ℕ → ℕ). f c) t.0.value))
         (λ y. last_value c q ks l.1 t.1 (λ r x. older r x (a r x) y))
       where
-        newest : (r : Name) → In r (k ∷ ks) → commitOf start h r ≤ commitOf start h (name_of k)
+        newest : (r : Name) → In r (k ∷ ks) → commit_of start h r ≤ commit_of start h (name_of k)
         newest r (inl e) = rw e (omega arith)
         newest r (inr i) =
             let j = pick r ks i t.1 l.0.newest in
@@ -77,16 +77,16 @@ module _ (start : List ℕ) where
 
     -- a newer commit, of the transaction p, and an older, of q
     two : (p q : Name) (c : ℕ) (k : Commit) (ks : List Commit) → Fair start k ks → Recorded (length start) h k → All (Recorded (length start) h) ks → name_of k ≡ p → In q ks
-        → wrote (at start h p) c ≡ true → wrote (at start h q) c ≡ true → commitOf start h q < snapshotOf start h p
+        → wrote (at start h p) c ≡ true → wrote (at start h q) c ≡ true → commit_of start h q < snapshot_of start h p
     two p q c k ks l t u e i a b =
         let j = pick q ks i u l.apart in
-        subst (λ (x : Name). commitOf start h q < snapshotOf start h x) e
-        (subst (λ (x : Name). commitOf start h x < snapshotOf start h (name_of k)) j.1
+        subst (λ (x : Name). commit_of start h q < snapshot_of start h x) e
+        (subst (λ (x : Name). commit_of start h x < snapshot_of start h (name_of k)) j.1
         (rw (j.2.commit, t.snapshot)
         (j.3 c (sym (ap (λ (f : ℕ → Bool). f c) j.2.wrote) ∙ rw j.1 b) (sym (ap (λ (f : ℕ → Bool). f c) t.wrote) ∙ rw e a))))
 
     pairs : (p q : Name) (c : ℕ) → (p ≡ q → ⊥) → (ks : List Commit) → Lawful start ks → All (Recorded (length start) h) ks → In p ks → In q ks
-        → wrote (at start h p) c ≡ true → wrote (at start h q) c ≡ true → (commitOf start h p < snapshotOf start h q) ⊎ (commitOf start h q < snapshotOf start h p)
+        → wrote (at start h p) c ≡ true → wrote (at start h q) c ≡ true → (commit_of start h p < snapshot_of start h q) ⊎ (commit_of start h q < snapshot_of start h p)
     pairs p q c n [] l t i j a b = absurd i
     pairs p q c n (k ∷ ks) l t (inl e) (inl f) a b = absurd (n (sym e ∙ f))
     pairs p q c n (k ∷ ks) l t (inl e) (inr j) a b = inr (two p q c k ks l.0 t.0 t.1 e j a b)
@@ -98,19 +98,19 @@ module _ (start : List ℕ) where
         record {
           snapshots = λ p d.
               let x = pick p ks (every p d) t (lawful_order ks l) in
-              let o : (0 < snapshotOf start h p) × (snapshotOf start h p ≤ commitOf start h p) =
-              subst (λ (p : Name). (0 < snapshotOf start h p) × (snapshotOf start h p ≤ commitOf start h p)) x.1 (rw (x.2.snapshot, x.2.commit) x.3) in
+              let o : (0 < snapshot_of start h p) × (snapshot_of start h p ≤ commit_of start h p) =
+              subst (λ (p : Name). (0 < snapshot_of start h p) × (snapshot_of start h p ≤ commit_of start h p)) x.1 (rw (x.2.snapshot, x.2.commit) x.3) in
               let w = snapshot_own start h p (stands p) o.0 in
               (w.1, o.1, w.0);
           commits = λ p d. commit_own start h p (stands p) d;
-          reads = λ p d. (observed_both (λ r. Last start h r.cell (snapshotOf start h p) r.value) (at start h p) (observes p d)).0;
-          finds = λ p d. (observed_both (λ r. Last start h r.cell (snapshotOf start h p) r.value) (at start h p) (observes p d)).1;
+          reads = λ p d. (observed_both (λ r. Last start h r.cell (snapshot_of start h p) r.value) (at start h p) (observes p d)).0;
+          finds = λ p d. (observed_both (λ r. Last start h r.cell (snapshot_of start h p) r.value) (at start h p) (observes p d)).1;
           apart = λ p q c n dp dq a b. pairs p q c n ks l t (every p dp) (every q dq) a b;
         }
       where
-        observes : (p : Name) → Commits start h p → All (λ (r : ReadOf). Last start h r.cell (snapshotOf start h p) r.value) (observed (at start h p))
+        observes : (p : Name) → Commits start h p → All (λ (r : ReadOf). Last start h r.cell (snapshot_of start h p) r.value) (observed (at start h p))
         observes p d =
             let x = pick p ks (every p d) t (lawful_reads ks l) in
-            subst (λ (p : Name). All (λ (r : ReadOf). Last start h r.cell (snapshotOf start h p) r.value) (observed (at start h p))) x.1
+            subst (λ (p : Name). All (λ (r : ReadOf). Last start h r.cell (snapshot_of start h p) r.value) (observed (at start h p))) x.1
             (rw (x.2.snapshot, x.2.reads)
             (all_map (λ r e. rw e (last_value r.cell x.0.snap ks l t (λ r y. every r y.commits))) x.0.reads x.3))

@@ -368,18 +368,18 @@ module _ {first : List ℕ} {σ : Store} {T : Ledger} (I : Inv first σ T) where
 -- ---- the actions
 
 module _ {first : List ℕ} {σ : Store} {T : Ledger} (I : Inv first σ T) where
-  abbrev heardBy : ℕ → List Told → Ledger
-  heardBy s ws = hears (length first) s ws (calm T)
+  abbrev heard_by : ℕ → List Told → Ledger
+  heard_by s ws = hears (length first) s ws (calm T)
 
   -- kept by the reads of one call: the invariant; and a claim of what was told, the last answer and the ledger, which each single read keeps where the invariant holds
   pub kept_with_inv : (s : ℕ) (P : List Told → Answer → Ledger → Type 0)
-      → ((ws : List Told) (a : Answer) (τ : Store) → All ByRead ws → Inv first τ (heardBy s ws) → P ws a (heardBy s ws) → (c : ℕ) → let b = answer_of (Read s c) τ in
-      P (tells (Read s c) b 0 ++ ws) b (hears (length first) s (tells (Read s c) b 0) (calm (heardBy s ws))))
+      → ((ws : List Told) (a : Answer) (τ : Store) → All ByRead ws → Inv first τ (heard_by s ws) → P ws a (heard_by s ws) → (c : ℕ) → let b = answer_of (Read s c) τ in
+      P (tells (Read s c) b 0 ++ ws) b (hears (length first) s (tells (Read s c) b 0) (calm (heard_by s ws))))
       → (cs : List ℕ) (words : ℕ) → P [] (Refused 15) (calm T) → P [] (Refused 13) (calm T) → P [] Done (calm T) → let r = read_many s cs words σ in
-      let ws = reads_tell cs r.values r.last in Inv first r.store (heardBy s ws) × P ws r.last (heardBy s ws)
+      let ws = reads_tell cs r.values r.last in Inv first r.store (heard_by s ws) × P ws r.last (heard_by s ws)
   unfolding step answer_of
   kept_with_inv s P more cs words r15 r13 p =
-      kept_by_reads (λ ws a τ. Inv first τ (heardBy s ws) × P ws a (heardBy s ws)) s
+      kept_by_reads (λ ws a τ. Inv first τ (heard_by s ws) × P ws a (heard_by s ws)) s
       (λ ws a τ b H c.
       let us = tells (Read s c) (answer_of (Read s c) τ) 0 in
       subst (λ (U : Ledger). Inv first (step (Read s c) τ) U × P (us ++ ws) (answer_of (Read s c) τ) U) (hears_after (length first) s us ws T b)

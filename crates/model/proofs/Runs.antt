@@ -130,22 +130,22 @@ module _ {φ : Store} {h₀ : List Item} {T₀ : Ledger} (R : Ready φ h₀ T₀
   abbrev n : ℕ
   n = length φ.lent.values
 
-  abbrev pub ledger-of : List Action → Ledger
-  ledger-of ks = ledger (length φ.lent.values) T₀ φ ks
+  abbrev pub ledger_of : List Action → Ledger
+  ledger_of ks = ledger (length φ.lent.values) T₀ φ ks
 
-  pub inv_run : (ks : List Action) → Inv φ.lent.values (run φ ks) (ledger-of ks)
+  pub inv_run : (ks : List Action) → Inv φ.lent.values (run φ ks) (ledger_of ks)
   inv_run = inv_from R.inv
 
-  pub place_is : (ks : List Action) → (ledger-of ks).place ≡ suc (length ks)
+  pub place_is : (ks : List Action) → (ledger_of ks).place ≡ suc (length ks)
   unfolding ledger
   place_is [] = R.place
-  place_is (k ∷ ks) = observe_place n (event_of k (run φ ks)) (ledger-of ks) ∙ ap suc (place_is ks)
+  place_is (k ∷ ks) = observe_place n (event_of k (run φ ks)) (ledger_of ks) ∙ ap suc (place_is ks)
 
-  pub match_run : (ks : List Action) → Matches (length φ.lent.values) (history h₀ φ ks) (ledger-of ks)
+  pub match_run : (ks : List Action) → Matches (length φ.lent.values) (history h₀ φ ks) (ledger_of ks)
   unfolding ledger
   match_run [] = unfold told events in R.match
   match_run (k ∷ ks) =
-      subst (λ (h : List Item). Matches n h (ledger-of (k ∷ ks))) (sym (history_step h₀ φ k ks))
+      subst (λ (h : List Item). Matches n h (ledger_of (k ∷ ks))) (sym (history_step h₀ φ k ks))
       (heeds (inv_run ks) (match_run ks) (suc (length ks)) (place_is ks) (told_before h₀ R.below φ ks) k)
 
 -- with no transaction open

@@ -22,7 +22,7 @@ use Rattle.model.proofs.Ledger.{Txn, closed, Commit, Ledger, tick, calm, as_comm
 use Rattle.model.proofs.ManyReads.{reads_by_read, amend_keeps, hears_keeps}
 use Rattle.model.proofs.Matching.{Next, stays, grows, starts_here, next, Recorded}
 use Rattle.model.proofs.Roles.{owns, flip}
-use Rattle.model.proofs.Runs.{history_step, Ready, ledger-of, inv_run, place_is, match_run}
+use Rattle.model.proofs.Runs.{history_step, Ready, ledger_of, inv_run, place_is, match_run}
 use Rattle.model.proofs.Telling.{tells_any}
 use Rattle.model.proofs.Tools.{same, split, test, which, clash, upd}
 use Rattle.model.proofs.View.{look, written}
@@ -171,11 +171,11 @@ module _ {φ : Store} {h₀ : List Item} {T₀ : Ledger} (R : Ready φ h₀ T₀
   tx ks x = transaction x (history h₀ φ ks)
 
   -- the older commits stay
-  older : (P : Commit → Type 0) (k : Action) (ks : List Action) → All P (ledger-of R (k ∷ ks)).commits → All P (ledger-of R ks).commits
+  older : (P : Commit → Type 0) (k : Action) (ks : List Action) → All P (ledger_of R (k ∷ ks)).commits → All P (ledger_of R ks).commits
   unfolding ledger
-  older P k ks a = go (observe_grows n (event_of k (run φ ks)) (ledger-of R ks))
+  older P k ks a = go (observe_grows n (event_of k (run φ ks)) (ledger_of R ks))
     where
-      go : Grown (ledger-of R ks) (observe n (event_of k (run φ ks)) (ledger-of R ks)) → All P (ledger-of R ks).commits
+      go : Grown (ledger_of R ks) (observe n (event_of k (run φ ks)) (ledger_of R ks)) → All P (ledger_of R ks).commits
       go (kept e) = rw e at a
       go (grew j e _ _) = (rw e at a).1
 
@@ -183,27 +183,27 @@ module _ {φ : Store} {h₀ : List Item} {T₀ : Ledger} (R : Ready φ h₀ T₀
   abbrev Held : List Action → Commit → Type 0
   Held ks k = (c : ℕ) → k.wrote c ≡ true → Holds (run φ (firsts k.place ks)) k.who c
 
-  lift : (x : Action) (ks : List Action) → All (Held ks) (ledger-of R ks).commits → All (Held (x ∷ ks)) (ledger-of R ks).commits
-  lift x ks a = all_both (λ k l q c w. rw (firsts_fewer k.place x ks (omega (arith, l, place_is R ks))) (q c w)) (ledger-of R ks).commits (inv_run R ks).old a
+  lift : (x : Action) (ks : List Action) → All (Held ks) (ledger_of R ks).commits → All (Held (x ∷ ks)) (ledger_of R ks).commits
+  lift x ks a = all_both (λ k l q c w. rw (firsts_fewer k.place x ks (omega (arith, l, place_is R ks))) (q c w)) (ledger_of R ks).commits (inv_run R ks).old a
 
-  grow : (x : Action) (ks : List Action) → All (Held ks) (ledger-of R ks).commits → (U : Ledger) → Grown (ledger-of R ks) U
+  grow : (x : Action) (ks : List Action) → All (Held ks) (ledger_of R ks).commits → (U : Ledger) → Grown (ledger_of R ks) U
       → Just (run φ (x ∷ ks)) U.new U.commits → All (Held (x ∷ ks)) U.commits
   grow x ks a U (kept e) j = rw e (lift x ks a)
   grow x ks a U (grew k e l w) j =
-      let i : Just (run φ (x ∷ ks)) U.new (k ∷ (ledger-of R ks).commits) = subst (Just (run φ (x ∷ ks)) U.new) e j in
+      let i : Just (run φ (x ∷ ks)) U.new (k ∷ (ledger_of R ks).commits) = subst (Just (run φ (x ∷ ks)) U.new) e j in
       subst (All (Held (x ∷ ks))) (sym e)
       (λ c v. rw (firsts_all k.place x ks (l ∙ place_is R ks)) (i w c v), lift x ks a)
 
-  held : (ks : List Action) → All (Held ks) (ledger-of R ks).commits
+  held : (ks : List Action) → All (Held ks) (ledger_of R ks).commits
   unfolding ledger
   held [] = rw R.commits tt
-  held (x ∷ ks) = grow x ks (held ks) (ledger-of R (x ∷ ks)) (observe_grows n (event_of x (run φ ks)) (ledger-of R ks)) (inv_run R (x ∷ ks)).just
+  held (x ∷ ks) = grow x ks (held ks) (ledger_of R (x ∷ ks)) (observe_grows n (event_of x (run φ ks)) (ledger_of R ks)) (inv_run R (x ∷ ks)).just
 
   -- a committed transaction stays committed, at its place
   frozen : (k : Action) (ks : List Action) (x : Name) → committed n (tx ks x) ≡ true → (committed n (tx (k ∷ ks) x) ≡ true) × (commit n (tx (k ∷ ks) x) ≡ commit n (tx ks x))
   frozen k ks x d =
       let M = match_run R ks in
-      let y = pick x (ledger-of R ks).commits (M.every x d) M.recorded (older (Recorded n (history h₀ φ (k ∷ ks))) k ks (match_run R (k ∷ ks)).recorded) in
+      let y = pick x (ledger_of R ks).commits (M.every x d) M.recorded (older (Recorded n (history h₀ φ (k ∷ ks))) k ks (match_run R (k ∷ ks)).recorded) in
       subst (λ (x : Name). (committed n (tx (k ∷ ks) x) ≡ true) × (commit n (tx (k ∷ ks) x) ≡ commit n (tx ks x))) y.1 (y.3.committed, y.3.commit ∙ sym y.2.commit)
 
   -- at an earlier moment: open, not committed, and it had written no more
@@ -236,7 +236,7 @@ module _ {φ : Store} {h₀ : List Item} {T₀ : Ledger} (R : Ready φ h₀ T₀
   commit_le : (ks : List Action) (x : Name) → committed n (tx ks x) ≡ true → commit n (tx ks x) ≤ length ks
   commit_le ks x d =
       let M = match_run R ks in
-      let y = pick x (ledger-of R ks).commits (M.every x d) M.recorded (inv_run R ks).old in
+      let y = pick x (ledger_of R ks).commits (M.every x d) M.recorded (inv_run R ks).old in
       subst (λ (x : Name). commit n (tx ks x) ≤ length ks) y.1 (omega (arith, y.2.commit, y.3, place_is R ks))
 
   not_yet : (ks : List Action) (x : Name) → committed n (tx ks x) ≡ true → (m : ℕ) → x.place ≤ m → m < commit n (tx ks x) → Opening (tx (firsts m ks) x) (tx ks x)
@@ -254,7 +254,7 @@ module _ {φ : Store} {h₀ : List Item} {T₀ : Ledger} (R : Ready φ h₀ T₀
       let M = match_run R ks in
       record {
         with_this = λ x d c w.
-            let y = pick x (ledger-of R ks).commits (M.every x d) M.recorded (held ks) in
+            let y = pick x (ledger_of R ks).commits (M.every x d) M.recorded (held ks) in
             subst (λ (x : Name). wrote (tx ks x) c ≡ true → Holds (run φ (firsts (commit n (tx ks x)) ks)) x.session c) y.1
             (λ w. rw y.2.commit (y.3 c (sym (ap (λ (f : ℕ → Bool). f c) y.2.wrote) ∙ w))) w;
         not_before = λ x m d a b c w al.
@@ -271,4 +271,4 @@ module _ {φ : Store} {h₀ : List Item} {T₀ : Ledger} (R : Ready φ h₀ T₀
   pub isolation : (ks : List Action) → Isolated φ.lent.values (history h₀ φ ks)
   isolation ks =
       let M = match_run R ks in
-      isolated φ.lent.values (history h₀ φ ks) (ledger-of R ks).commits (inv_run R ks).lawful M.recorded M.every M.stands
+      isolated φ.lent.values (history h₀ φ ks) (ledger_of R ks).commits (inv_run R ks).lawful M.recorded M.every M.stands

@@ -4,7 +4,7 @@ use Rattle.std.specs.Prelude.{ℕ, ◌<◌, ◌≡◌, ◌⊎◌, true, cond, Li
 use Rattle.model.specs.Buffers.{Store}
 use Rattle.model.specs.Effects.{record_of}
 use Rattle.model.specs.History.{Item, Name, wrote, value_written, cells_written, reads_before_writing, starting_value}
-use Rattle.model.specs.Isolation.{All, Any, at, Commits, commitOf}
+use Rattle.model.specs.Isolation.{All, Any, at, Commits, commit_of}
 use Rattle.model.specs.Told.{got, ReadOf}
 
 -- of the starting values and what a list of actions tells
@@ -14,7 +14,7 @@ module _ (first : List ℕ) (h : List Item) where
   -- each commits after all that follow it in the list
   abbrev pub NewestFirst : List Name → Type 0
   NewestFirst [] = Unit
-  NewestFirst (x ∷ xs) = All (λ (y : Name). commitOf first h y < commitOf first h x) xs × NewestFirst xs
+  NewestFirst (x ∷ xs) = All (λ (y : Name). commit_of first h y < commit_of first h x) xs × NewestFirst xs
 
   -- the committed transactions, each once, by commit place; one that wrote and held nothing commits with its seal
   pub record ByCommit (xs : List Name) : Type 0 where
@@ -25,14 +25,14 @@ module _ (first : List ℕ) (h : List Item) where
   -- ---- one after the other
 
   -- the value of a cell after these, each whole: where it wrote or held the cell it leaves its value there, and elsewhere what was
-  abbrev pub valueAfter : List Name → ℕ → ℕ
-  valueAfter [] c = starting_value first c
-  valueAfter (x ∷ xs) c = cond (wrote (at first h x) c) (value_written (at first h x) c) (valueAfter xs c)
+  abbrev pub value_after : List Name → ℕ → ℕ
+  value_after [] c = starting_value first c
+  value_after (x ∷ xs) c = cond (wrote (at first h x) c) (value_written (at first h x) c) (value_after xs c)
 
   -- each read, before writing, what those before it left
   abbrev pub ReadsInOrder : List Name → Type 0
   ReadsInOrder [] = Unit
-  ReadsInOrder (x ∷ xs) = All (λ (r : ReadOf). r.value ≡ valueAfter xs r.cell) (reads_before_writing (at first h x)) × ReadsInOrder xs
+  ReadsInOrder (x ∷ xs) = All (λ (r : ReadOf). r.value ≡ value_after xs r.cell) (reads_before_writing (at first h x)) × ReadsInOrder xs
 
   -- the condition: it wrote and held nothing, or wrote or held each cell that it read before writing; a value written back, and not held, is no write here (`wrote`)
   abbrev pub CoversReads : Name → Type 0
@@ -43,7 +43,7 @@ module _ (first : List ℕ) (h : List Item) where
   abbrev pub CoveredInOrder : List Name → Type 0
   CoveredInOrder [] = Unit
   CoveredInOrder (x ∷ xs) =
-      (CoversReads x → All (λ (r : ReadOf). r.value ≡ valueAfter xs r.cell) (reads_before_writing (at first h x))) × CoveredInOrder xs
+      (CoversReads x → All (λ (r : ReadOf). r.value ≡ value_after xs r.cell) (reads_before_writing (at first h x))) × CoveredInOrder xs
 
   -- one way to meet it, whatever is written: no value was got by a read, of one cell or of many, so that all were by holds (`holds_cover`)
   abbrev pub ReadsByHolds : Name → Type 0
@@ -63,4 +63,4 @@ pub record InCommitOrder (first : List ℕ) (h : List Item) (τ : Store) : Type 
   -- so where it holds of all, all did
   pub reads : ((x : Name) → Commits first h x → CoversReads first h x) → ReadsInOrder first h order
   -- and the store has what one after the other would leave, whether it holds or not
-  pub left : NonePublishing τ → (c : ℕ) → c < length first → get_or τ.lent.values c 0 ≡ valueAfter first h order c
+  pub left : NonePublishing τ → (c : ℕ) → c < length first → get_or τ.lent.values c 0 ≡ value_after first h order c

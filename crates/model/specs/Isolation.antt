@@ -27,11 +27,11 @@ module _ (first : List ℕ) (h : List Item) where
   abbrev pub Commits : Name → Type 0
   Commits x = committed (length first) (at x) ≡ true
 
-  abbrev pub snapshotOf : Name → ℕ
-  snapshotOf x = snapshot (at x)
+  abbrev pub snapshot_of : Name → ℕ
+  snapshot_of x = snapshot (at x)
 
-  abbrev pub commitOf : Name → ℕ
-  commitOf x = commit (length first) (at x)
+  abbrev pub commit_of : Name → ℕ
+  commit_of x = commit (length first) (at x)
 
   -- the transaction has told, at place q, something that passes a test
   abbrev pub ToldAt : Name → ℕ → (Told → Bool) → Type 0
@@ -41,25 +41,25 @@ module _ (first : List ℕ) (h : List Item) where
   pub record CommitsTo (c q : ℕ) (x : Name) : Type 0 where
     pub commits : Commits x
     pub wrote : wrote (at x) c ≡ true
-    pub before : commitOf x < q
+    pub before : commit_of x < q
 
   -- v is the value of the last commit to cell c before place q, or the starting value where there is none
   pub data Last (c q v : ℕ) : Type 0 where
-    last_commit : (x : Name) → CommitsTo c q x → ((y : Name) → CommitsTo c q y → commitOf y ≤ commitOf x) → value_written (at x) c ≡ v → Last c q v
+    last_commit : (x : Name) → CommitsTo c q x → ((y : Name) → CommitsTo c q y → commit_of y ≤ commit_of x) → value_written (at x) c ≡ v → Last c q v
     no_commit : ((y : Name) → CommitsTo c q y → ⊥) → starting_value first c ≡ v → Last c q v
 
   pub record Isolated : Type 0 where
     -- the snapshot is the place of its own seal, after its begin and not after its commit
-    pub snapshots : (x : Name) → Commits x → (x.place < snapshotOf x) × (snapshotOf x ≤ commitOf x) × ToldAt x (snapshotOf x) seals
+    pub snapshots : (x : Name) → Commits x → (x.place < snapshot_of x) × (snapshot_of x ≤ commit_of x) × ToldAt x (snapshot_of x) seals
     -- the commit is the place of its own advance, or of that seal where it wrote no cell
-    pub commits : (x : Name) → Commits x → ToldAt x (commitOf x) (λ w. cond (eqb (cells_written (length first) (at x)) 0) (seals w) (moves w))
+    pub commits : (x : Name) → Commits x → ToldAt x (commit_of x) (λ w. cond (eqb (cells_written (length first) (at x)) 0) (seals w) (moves w))
     -- each read before writing is the last commit's before the snapshot
-    pub reads : (x : Name) → Commits x → All (λ (r : ReadOf). Last r.cell (snapshotOf x) r.value) (reads_before_writing (at x))
+    pub reads : (x : Name) → Commits x → All (λ (r : ReadOf). Last r.cell (snapshot_of x) r.value) (reads_before_writing (at x))
     -- and so is each value found at a write or a hold: what is written back, or held and not written, is what the last commit left
-    pub finds : (x : Name) → Commits x → All (λ (r : ReadOf). Last r.cell (snapshotOf x) r.value) (values_found (at x))
+    pub finds : (x : Name) → Commits x → All (λ (r : ReadOf). Last r.cell (snapshot_of x) r.value) (values_found (at x))
     -- two writers of one cell have spans, from snapshot to commit, that do not meet
     pub apart : (x y : Name) (c : ℕ) → (x ≡ y → ⊥) → Commits x → Commits y → wrote (at x) c ≡ true → wrote (at y) c ≡ true
-        → (commitOf x < snapshotOf y) ⊎ (commitOf y < snapshotOf x)
+        → (commit_of x < snapshot_of y) ⊎ (commit_of y < snapshot_of x)
 
 -- ---- writer locks
 
@@ -72,7 +72,7 @@ unfoldable pub firsts : ℕ → List Action → List Action
 firsts m [] = []
 firsts m (k ∷ ks) = cond (leb (suc (length ks)) m) (k ∷ ks) (firsts m ks)
 
--- of what is told where a list of actions starts, the store there, and the list, the newest first; `at`, `Commits` and `commitOf` are those above, of these values
+-- of what is told where a list of actions starts, the store there, and the list, the newest first; `at`, `Commits` and `commit_of` are those above, of these values
 -- and items
 module _ (start : List Item) (σ : Store) (ks : List Action) where
   abbrev values : List ℕ
@@ -87,9 +87,9 @@ module _ (start : List Item) (σ : Store) (ks : List Action) where
 
   pub record HoldsAtCommit : Type 0 where
     -- with its commit call a committed transaction holds all its writer locks
-    pub with_this : (x : Name) → Commits values items x → HoldsAll (run σ (firsts (commitOf values items x) ks)) x
+    pub with_this : (x : Name) → Commits values items x → HoldsAll (run σ (firsts (commit_of values items x) ks)) x
     -- and not before: one that wrote a cell does not hold them all after any earlier action from its begin on (an earlier transaction of its session may have)
-    pub not_before : (x : Name) (m : ℕ) → Commits values items x → x.place ≤ m → m < commitOf values items x
+    pub not_before : (x : Name) (m : ℕ) → Commits values items x → x.place ≤ m → m < commit_of values items x
         → (c : ℕ) → wrote (at values items x) c ≡ true → HoldsAll (run σ (firsts m ks)) x → ⊥
     -- one that is open, wrote a cell and is not committed does not hold them all in the store that the list leaves
     pub not_uncommitted : (x : Name) → is_open (at values items x) ≡ true → committed (length values) (at values items x) ≡ false

@@ -10,7 +10,7 @@ use lib.Dec.{eqb}
 use lib.ListN.{get_or, replicate}
 use borrow.Author.Tests.{eqb-false}
 use Rattle.model.specs.Buffers.{Store, idle, session_at}
-use Rattle.model.specs.CommitOrder.{ByCommit, valueAfter, ReadsInOrder, CoversReads, ReadsByHolds, NonePublishing, InCommitOrder}
+use Rattle.model.specs.CommitOrder.{ByCommit, value_after, ReadsInOrder, CoversReads, ReadsByHolds, NonePublishing, InCommitOrder}
 use Rattle.model.specs.Computing.{computing, counting}
 use Rattle.model.specs.History.{as_actions, run, Item, item, history, Name, name, transaction, wrote, value_written, reads_before_writing, committed}
 use Rattle.model.specs.Isolation.{All, Any, Commits}
@@ -98,19 +98,19 @@ record Unseen (h : List Item) (a b : Name) (c : ℕ) : Type 0 where
 
 module _ (h : List Item) (a b : Name) (c : ℕ) (u : Unseen h a b c) where
   -- after a, and whatever else of the two, the cell has what a left
-  left : (zs : List Name) → All (λ (z : Name). (a ≡ z) ⊎ (b ≡ z)) zs → Any (λ (z : Name). z ≡ a) zs → valueAfter first h zs c ≡ value_written (transaction a h) c
+  left : (zs : List Name) → All (λ (z : Name). (a ≡ z) ⊎ (b ≡ z)) zs → Any (λ (z : Name). z ≡ a) zs → value_after first h zs c ≡ value_written (transaction a h) c
   left [] o i = absurd i
   left (z ∷ zs) o i = go (left zs o.1) o.0 i
     where
-      go : (Any (λ (z : Name). z ≡ a) zs → valueAfter first h zs c ≡ value_written (transaction a h) c) → (a ≡ z) ⊎ (b ≡ z) → (z ≡ a) ⊎ Any (λ (z : Name). z ≡ a) zs
-          → valueAfter first h (z ∷ zs) c ≡ value_written (transaction a h) c
+      go : (Any (λ (z : Name). z ≡ a) zs → value_after first h zs c ≡ value_written (transaction a h) c) → (a ≡ z) ⊎ (b ≡ z) → (z ≡ a) ⊎ Any (λ (z : Name). z ≡ a) zs
+          → value_after first h (z ∷ zs) c ≡ value_written (transaction a h) c
       go f (inl e) _ = rw (← e, u.written)
       go f (inr e) (inl d) = absurd (clash (wrote (transaction a h) c) u.written (rw (← (e ∙ d)) u.spared))
       go f (inr e) (inr i) = rw (← e, u.spared) (f i)
 
   -- so b does not come after it
   not_after : (zs : List Name) → All (λ (z : Name). (a ≡ z) ⊎ (b ≡ z)) zs → Any (λ (z : Name). z ≡ a) zs → ReadsInOrder first h (b ∷ zs) → ⊥
-  not_after zs o i r = u.read (valueAfter first h zs) (left zs o i) r.0
+  not_after zs o i r = u.read (value_after first h zs) (left zs o i) r.0
 
 -- in skew y did not see what x left in cell 0, nor x what y left in cell 1
 x_unseen : Unseen skew_told x y 0
@@ -248,14 +248,14 @@ pub after_none : NonePublishing (left_by skew_after)
 after_none = idle_none (left_by skew_after) (unfold skew_after given computing counting in refl)
 
 -- so the order's values are the store's, 1 and 2
-pub after_left : (valueAfter first (told_by skew_after) after_claim.order 0 ≡ 1) × (valueAfter first (told_by skew_after) after_claim.order 1 ≡ 2)
+pub after_left : (value_after first (told_by skew_after) after_claim.order 0 ≡ 1) × (value_after first (told_by skew_after) after_claim.order 1 ≡ 2)
 after_left =
     let l = after_claim.left after_none in
     (sym (l 0 (omega arith)) ∙ (unfold skew_after given computing counting in refl), sym (l 1 (omega arith)) ∙ (unfold skew_after given computing counting in refl))
 
 -- with a session in phase 3 the store may be behind: x has committed 6 to cell 1, and the store has 5
 pub half_published_behind : ByCommit first (told_by half_published) (x ∷ [])
-    × (valueAfter first (told_by half_published) (x ∷ []) 1 ≡ 6) × (get_or (left_by half_published).lent.values 1 0 ≡ 5) × (NonePublishing (left_by half_published) → ⊥)
+    × (value_after first (told_by half_published) (x ∷ []) 1 ≡ 6) × (get_or (left_by half_published).lent.values 1 0 ≡ 5) × (NonePublishing (left_by half_published) → ⊥)
 half_published_behind = (
   record {
     committed = unfold half_published given computing counting in (refl, tt);

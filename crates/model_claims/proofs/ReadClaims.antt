@@ -18,7 +18,7 @@ use Rattle.model.specs.Load.{with_caps}
 use Rattle.model.specs.OwnCaps.{low, high}
 use Rattle.model.specs.Computing.{computing, counting}
 use Rattle.model.specs.History.{one_call, many_reads, as_actions, event, with_found, reads_event, Item, item, run, told, history, Name, name, transaction, wrote, value_written, cells_written, reads_before_writing, values_found}
-use Rattle.model.specs.Isolation.{All, Commits, snapshotOf, commitOf, ToldAt, CommitsTo, Last, last_commit, no_commit, Isolated, Holds, firsts, HoldsAtCommit, Demand3}
+use Rattle.model.specs.Isolation.{All, Commits, snapshot_of, commit_of, ToldAt, CommitsTo, Last, last_commit, no_commit, Isolated, Holds, firsts, HoldsAtCommit, Demand3}
 use Rattle.model.specs.Effects.{number, value_of}
 use Rattle.model.specs.InTheWay.{publishes_cell, is_reader, InTheWay, SealLetsGo, TellsOthers, others_in_the_way, WaitsForThose, EachWaitsForThose}
 use Rattle.model.specs.Orders.{given, listing}
@@ -75,14 +75,14 @@ each_commit f t q x c =
 
 none_before : (x : Name) → CommitsTo first committing 1 4 x → ⊥
 none_before x c =
-    omega (arith, c.before, leb-true 4 (commitOf first committing x) (each_commit (λ x. leb 4 (commitOf first committing x)) (unfold wrote_then_read counting in refl) 4 x c))
+    omega (arith, c.before, leb-true 4 (commit_of first committing x) (each_commit (λ x. leb 4 (commit_of first committing x)) (unfold wrote_then_read counting in refl) 4 x c))
 
 -- it is the last before place 7, with its value; before place 4 there is none, and the value is the starting value
 pub last_commit_lem : Last first committing 1 7 4
 last_commit_lem =
-    let e : commitOf first committing (name 1 0) ≡ 4 = unfold wrote_then_read counting in refl in
+    let e : commit_of first committing (name 1 0) ≡ 4 = unfold wrote_then_read counting in refl in
     last_commit (name 1 0) (unfold wrote_then_read counting in record { commits = refl; wrote = refl; before = omega arith })
-    (λ y c. omega (arith, e, leb-true (commitOf first committing y) 4 (each_commit (λ x. leb (commitOf first committing x) 4) (unfold wrote_then_read counting in refl) 7 y c)))
+    (λ y c. omega (arith, e, leb-true (commit_of first committing y) 4 (each_commit (λ x. leb (commit_of first committing x) 4) (unfold wrote_then_read counting in refl) 7 y c)))
     (unfold wrote_then_read counting in refl)
 
 pub starting_value_lem : Last first committing 1 4 5
@@ -107,13 +107,13 @@ last_commit_not = (stale, early)
 pub first_read_isolated : Isolated first (told [] first_read)
 first_read_isolated =
     record {
-      snapshots = λ x d. subst (λ (x : Name). (x.place < snapshotOf first h x) × (snapshotOf first h x ≤ commitOf first h x) × ToldAt first h x (snapshotOf first h x) seals) (only x d)
+      snapshots = λ x d. subst (λ (x : Name). (x.place < snapshot_of first h x) × (snapshot_of first h x ≤ commit_of first h x) × ToldAt first h x (snapshot_of first h x) seals) (only x d)
           (unfold first_read counting in (omega arith, omega arith, inr (inl (refl, refl))));
-      commits = λ x d. subst (λ (x : Name). ToldAt first h x (commitOf first h x) (λ w. cond (eqb (cells_written 2 (transaction x h)) 0) (seals w) (moves w))) (only x d)
+      commits = λ x d. subst (λ (x : Name). ToldAt first h x (commit_of first h x) (λ w. cond (eqb (cells_written 2 (transaction x h)) 0) (seals w) (moves w))) (only x d)
           (unfold first_read counting in inr (inl (refl, refl)));
-      reads = λ x d. subst (λ (x : Name). All (λ (r : ReadOf). Last first h r.cell (snapshotOf first h x) r.value) (reads_before_writing (transaction x h))) (only x d)
+      reads = λ x d. subst (λ (x : Name). All (λ (r : ReadOf). Last first h r.cell (snapshot_of first h x) r.value) (reads_before_writing (transaction x h))) (only x d)
           (unfold first_read counting in (no_commit (λ y c. clash false (subst (λ (x : Name). wrote (transaction x h) 1 ≡ true) (sym (only y c.commits)) c.wrote) refl) refl, tt));
-      finds = λ x d. subst (λ (x : Name). All (λ (r : ReadOf). Last first h r.cell (snapshotOf first h x) r.value) (values_found (transaction x h))) (only x d) (unfold first_read counting in tt);
+      finds = λ x d. subst (λ (x : Name). All (λ (r : ReadOf). Last first h r.cell (snapshot_of first h x) r.value) (values_found (transaction x h))) (only x d) (unfold first_read counting in tt);
       apart = λ x y c ne d e. absurd (ne (sym (only x d) ∙ only y e));
     }
   where
@@ -185,7 +185,7 @@ read_at_start d = go (d.isolated.reads (name 0 1) refl).0
     go : Last first (history (told_running 9) (midway 1 4 16 0) (as_actions (Advance 1 ∷ Seal 1 ∷ []))) 0 1 9 → ⊥
     go (no_commit _ e) = omega arith
     go (last_commit x c _ _) =
-        omega (arith, c.before, ltb-true 0 (commitOf first (history (told_running 9) (midway 1 4 16 0) (as_actions (Advance 1 ∷ Seal 1 ∷ []))) x) c.commits)
+        omega (arith, c.before, ltb-true 0 (commit_of first (history (told_running 9) (midway 1 4 16 0) (as_actions (Advance 1 ∷ Seal 1 ∷ []))) x) c.commits)
 
 pub unclaimed_at_start : Demand3 told_sealed (midway 3 4 16 1) (one_call (Advance 1) ∷ []) → ⊥
 unclaimed_at_start d = commit_unclaimed d.locks

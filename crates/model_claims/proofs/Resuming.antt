@@ -20,7 +20,7 @@ use Rattle.model.proofs.Invariant.{latest, all_map, all_append, Running, Link, S
 use Rattle.model.proofs.Laws.{below_is}
 use Rattle.model.proofs.Ledger.{Txn, Ledger}
 use Rattle.model.proofs.Matching.{name_is, cond_at, cond_off, Next, stays, grows, starts_here, next, In, Stands, Matches}
-use Rattle.model.proofs.Runs.{Ready, ledger-of, inv_run, match_run}
+use Rattle.model.proofs.Runs.{Ready, ledger_of, inv_run, match_run}
 use Rattle.model.proofs.Settled.{unborn}
 use Rattle.model.proofs.Tools.{same, split, test, clash}
 use Rattle.model.proofs.View.{look}
@@ -347,8 +347,8 @@ module _ {first : List ℕ} {σ : Store} {T : Ledger} (I : Inv first σ T) (u : 
       go s (suc (suc p)) a k = absurd (omega arith)
 
   module _ {n : ℕ} {h : List Item} (M : Matches n h T) where
-    abbrev told-by : ℕ → List Item
-    told-by s = transaction (name (T.mine s).began s) h
+    abbrev told_by_lem : ℕ → List Item
+    told_by_lem s = transaction (name (T.mine s).began s) h
 
     is : (s : ℕ) → (T.mine s).live ≡ true → T.mine s ≡ summary n (T.mine s).began (transaction (name (T.mine s).began s) h)
     is s l = M.open' (name (T.mine s).began s) (M.mine s l)
@@ -358,7 +358,7 @@ module _ {first : List ℕ} {σ : Store} {T : Ledger} (I : Inv first σ T) (u : 
 
     summed : (s : ℕ) → (T.mine s).live ≡ true → from_start (T.mine s) ≡ summary n 0 (at_start (transaction (name (T.mine s).began s) h))
     summed s l =
-        let t = told-by s in
+        let t = told_by_lem s in
         let b = start_below t in
         let d : committed n t ≡ false = sym (ap (λ (t : Txn). t.done) (is s l)) ∙ (running s l).open' in
         ap from_start (is s l) ∙ rw (start_open t)
@@ -370,13 +370,13 @@ module _ {first : List ℕ} {σ : Store} {T : Ledger} (I : Inv first σ T) (u : 
     no_seals =
         below_all h T (λ i. seals i.told ≡ false)
         (λ s. of_all h T (λ i. seals i.told ≡ false) s
-        (λ l. start_all (λ _ w. seals w ≡ false) (told-by s) (no_seal_told (name (T.mine s).began s) (told-by s) (M.stands (name (T.mine s).began s)) (no_snapshot s l)))) 16
+        (λ l. start_all (λ _ w. seals w ≡ false) (told_by_lem s) (no_seal_told (name (T.mine s).began s) (told_by_lem s) (M.stands (name (T.mine s).began s)) (no_snapshot s l)))) 16
 
     pub match_restart : Matches n (open_items h T) (restart T)
     match_restart =
         record {
           open' = λ x o. same x.place 0 (λ e. on x o e) (λ d. absurd (clash (is_open (transaction x g)) o (rw (unborn 1 g b x (omega arith)))));
-          mine = λ s l. rw (one_of h T s (of_sixteen s l) l) (start_open (told-by s) ∙ M.mine s l);
+          mine = λ s l. rw (one_of h T s (of_sixteen s l) l) (start_open (told_by_lem s) ∙ M.mine s l);
           recorded = tt;
           every = λ x d. clash (committed n (transaction x g)) d (committed_none n (transaction x g) (all_told (λ i. i.place < 1) x g b));
           stands = λ x. all_map (λ i e y. absurd (clash (seals i.told) y e)) (transaction x g) (all_told (λ i. seals i.told ≡ false) x g no_seals);
@@ -400,18 +400,18 @@ module _ {first : List ℕ} {σ : Store} {T : Ledger} (I : Inv first σ T) (u : 
 
 -- what actions leave of any start, where each session is idle or runs, is a start
 pub resumes : {φ : Store} {h₀ : List Item} {T₀ : Ledger} (R : Ready φ h₀ T₀) (ks : List Action) → NoneSealed (run φ ks)
-    → Ready (run φ ks) (open_items (history h₀ φ ks) (ledger-of R ks)) (restart (ledger-of R ks))
+    → Ready (run φ ks) (open_items (history h₀ φ ks) (ledger_of R ks)) (restart (ledger_of R ks))
 resumes {φ} {h₀} R ks u =
     let I = inv_run R ks in
     record {
       inv = inv_restart I u;
-      match = subst (λ (n : ℕ). Matches n (open_items (history h₀ φ ks) (ledger-of R ks)) (restart (ledger-of R ks))) (sym I.shape.values) (match_restart I u (match_run R ks));
-      below = open_below_lem (history h₀ φ ks) (ledger-of R ks);
+      match = subst (λ (n : ℕ). Matches n (open_items (history h₀ φ ks) (ledger_of R ks)) (restart (ledger_of R ks))) (sym I.shape.values) (match_restart I u (match_run R ks));
+      below = open_below_lem (history h₀ φ ks) (ledger_of R ks);
       place = refl;
       commits = refl;
     }
 
 -- and demand 3 holds of every list of actions from there
 pub demand3_resumed : {φ : Store} {h₀ : List Item} {T₀ : Ledger} (R : Ready φ h₀ T₀) (ks : List Action) → NoneSealed (run φ ks)
-    → (actions : List Action) → Demand3 (open_items (history h₀ φ ks) (ledger-of R ks)) (run φ ks) actions
+    → (actions : List Action) → Demand3 (open_items (history h₀ φ ks) (ledger_of R ks)) (run φ ks) actions
 demand3_resumed R ks u = demand3_from (resumes R ks u)

@@ -15,7 +15,7 @@ use Rattle.model.proofs.Demand3.{set_up_fresh}
 use Rattle.model.proofs.Invariant.{latest, all_map, Inv}
 use Rattle.model.proofs.Ledger.{blank, ledger}
 use Rattle.model.proofs.Roles.{flip}
-use Rattle.model.proofs.Runs.{inv_fresh, ready, ledger-of, inv_run, match_run}
+use Rattle.model.proofs.Runs.{inv_fresh, ready, ledger_of, inv_run, match_run}
 use Rattle.model_claims.proofs.SerialCalls.{Serially, serially}
 use Rattle.model_claims.proofs.SerialLedger.{Follows}
 use Rattle.model_claims.proofs.SerialLocks.{closed_out, value_latest}
@@ -24,19 +24,19 @@ use Rattle.model.proofs.Tools.{clash}
 -- from any store with the invariant and no transaction open
 module _ (φ : Store) (I₀ : Inv φ.lent.values φ blank) where
   -- no transaction of the list is open: none of the ledger is, since the list tells the ledger's open ones
-  none_live : (ks : List Action) → NoneOpen (history [] φ ks) → (s : ℕ) → ((ledger-of (ready φ I₀) ks).mine s).live ≡ false
+  none_live : (ks : List Action) → NoneOpen (history [] φ ks) → (s : ℕ) → ((ledger_of (ready φ I₀) ks).mine s).live ≡ false
   none_live ks h s =
-      let t = (ledger-of (ready φ I₀) ks).mine s in
+      let t = (ledger_of (ready φ I₀) ks).mine s in
       let x = name t.began s in
       flip t.live
       (λ l. clash (is_open (transaction x (history [] φ ks))) ((match_run (ready φ I₀) ks).mine s l) (h x))
 
-  module _ (k : Action) (ks : List Action) (F : Follows φ.lent.values (ledger-of (ready φ I₀) ks) (serial φ.lent.values (events φ ks))) where
-    one_more : OneAtATime (events φ (k ∷ ks)) → Serially φ.lent.values (ledger-of (ready φ I₀) ks) (serial φ.lent.values (events φ ks)) (event_of k (run φ ks))
+  module _ (k : Action) (ks : List Action) (F : Follows φ.lent.values (ledger_of (ready φ I₀) ks) (serial φ.lent.values (events φ ks))) where
+    one_more : OneAtATime (events φ (k ∷ ks)) → Serially φ.lent.values (ledger_of (ready φ I₀) ks) (serial φ.lent.values (events φ ks)) (event_of k (run φ ks))
     unfolding events
     one_more o = serially (inv_run (ready φ I₀) ks) F k (all_map (λ w a b. none_live ks (a b)) (tells_of (event_of k (run φ ks))) o.1)
 
-  follows_run : (ks : List Action) → OneAtATime (events φ ks) → Follows φ.lent.values (ledger-of (ready φ I₀) ks) (serial φ.lent.values (events φ ks))
+  follows_run : (ks : List Action) → OneAtATime (events φ ks) → Follows φ.lent.values (ledger_of (ready φ I₀) ks) (serial φ.lent.values (events φ ks))
   unfolding events ledger serial latest
   follows_run [] o =
       record {

@@ -36,19 +36,19 @@ unfolding begins_if
 all_begins b f [] a = refl
 all_begins b f (w ∷ ws) a = rw (all_begins b f ws a.1) (test (begins w) (λ y. rw (y, f (a.0 y))) (λ y. rw y))
 
-unfoldable one_at_aTime : List Event → Bool
-one_at_aTime [] = true
-one_at_aTime (e ∷ h) = one_at_aTime h && begins_if (none_open (told [] h)) (tells_of e)
+unfoldable one_at_a_time : List Event → Bool
+one_at_a_time [] = true
+one_at_a_time (e ∷ h) = one_at_a_time h && begins_if (none_open (told [] h)) (tells_of e)
 
-passes : (h : List Event) → one_at_aTime h ≡ true → OneAtATime h
-unfolding one_at_aTime
+passes : (h : List Event) → one_at_a_time h ≡ true → OneAtATime h
+unfolding one_at_a_time
 passes [] t = tt
 passes (e ∷ h) t =
     let b = none_open (told [] h) in
-    (passes h (both_l (one_at_aTime h) (begins_if b (tells_of e)) t), begins_all b (none_open_lem (told [] h)) (tells_of e) (both_r (one_at_aTime h) (begins_if b (tells_of e)) t))
+    (passes h (both_l (one_at_a_time h) (begins_if b (tells_of e)) t), begins_all b (none_open_lem (told [] h)) (tells_of e) (both_r (one_at_a_time h) (begins_if b (tells_of e)) t))
 
-passed : (h : List Event) → OneAtATime h → one_at_aTime h ≡ true
-unfolding one_at_aTime
+passed : (h : List Event) → OneAtATime h → one_at_a_time h ≡ true
+unfolding one_at_a_time
 passed [] o = refl
 passed (e ∷ h) o = rw (passed h o.0) (all_begins (none_open (told [] h)) (open_none (told [] h)) (tells_of e) o.1)
 
@@ -83,16 +83,16 @@ answers actions = reverse (map (λ (e : Event). e.answer) (made actions))
 
 record Computed : Type 0 where
   set_up_lem : number (set_up_answer given) ≡ 100
-  serial_list : one_at_aTime (made in_turn) ≡ true
+  serial_list : one_at_a_time (made in_turn) ≡ true
   serial_answers : answers in_turn ≡ Done ∷ Value 3 ∷ Done ∷ Sealed ∷ Moved ∷ Moved ∷ Committed ∷ Done ∷ Value 5 ∷ Committed ∷ []
   serial_values_read : map (λ (e : Event). e.values) (made in_turn) ≡ [] ∷ (4 ∷ 5 ∷ []) ∷ replicate 8 []
   serial_open : none_open (told [] (made in_turn)) ≡ true
   serial_values : (serial (set_up given).lent.values (made in_turn)).values ≡ 4 ∷ 5 ∷ []
-  other_list : one_at_aTime (made at_once) ≡ false
+  other_list : one_at_a_time (made at_once) ≡ false
   other_answers : answers at_once ≡ Done ∷ Done ∷ Value 3 ∷ Value 3 ∷ Done ∷ Done ∷ Sealed ∷ Sealed ∷ Waiting 1 ∷ Refused 6 ∷ Moved ∷ Moved ∷ Committed ∷ []
 
 computed : Computed
-unfolding given made in_turn at_once answers none_open begins_if one_at_aTime serial_step serial computing counting
+unfolding given made in_turn at_once answers none_open begins_if one_at_a_time serial_step serial computing counting
 computed =
     record { set_up_lem = refl; serial_list = refl; serial_answers = refl; serial_values_read = refl; serial_open = refl; serial_values = refl; other_list = refl; other_answers = refl }
 
@@ -108,4 +108,4 @@ in_turn_left = in_turn_lem.left (none_open_lem (told [] (made in_turn)) computed
 -- the listing is none: session 1 begins while session 0's transaction is open
 pub at_once_lem : OneAtATime (events (set_up given) (reverse at_once)) → ⊥
 unfolding made
-at_once_lem o = clash (one_at_aTime (made at_once)) (passed (made at_once) o) computed.other_list
+at_once_lem o = clash (one_at_a_time (made at_once)) (passed (made at_once) o) computed.other_list

@@ -20,7 +20,7 @@ use Rattle.model.proofs.Demand3.{demand3_from}
 use Rattle.model.proofs.Ledger.{Ledger, blank, amend, starts, observe, ledger}
 use Rattle.model.proofs.Names.{committed_in}
 use Rattle.model_claims.proofs.Resuming.{by_sixteen, at_start, restart, open_of, open_below, open_items, resumes}
-use Rattle.model.proofs.Runs.{inv_fresh, Ready, ledger-of, ready}
+use Rattle.model.proofs.Runs.{inv_fresh, Ready, ledger_of, ready}
 use Rattle.model_claims.proofs.SerialExamples.{given}
 use Rattle.model.proofs.Tools.{clash, upd}
 
@@ -53,7 +53,7 @@ set_up_ready = ready (fresh ours given.lent) (inv_fresh ours given.lent)
 
 record Led : Type 0 where
   store : run (fresh ours given.lent) opening ≡ started
-  items : open_items (history [] (fresh ours given.lent) opening) (ledger-of set_up_ready opening) ≡ told_with 5
+  items : open_items (history [] (fresh ours given.lent) opening) (ledger_of set_up_ready opening) ≡ told_with 5
   records : length (run (fresh ours given.lent) opening).sessions.records ≡ 16
   sixteen : below 2 (λ s. (record_of (run (fresh ours given.lent) opening) s).phase) 16 ≡ true
 
@@ -61,9 +61,9 @@ led : Led
 unfolding started given open_items open_below open_of at_start ledger observe amend starts upd computing counting
 led = record { store = refl; items = refl; records = refl; sixteen = refl }
 
-pub started_ready : Ready started (told_with 5) (restart (ledger-of set_up_ready opening))
+pub started_ready : Ready started (told_with 5) (restart (ledger_of set_up_ready opening))
 started_ready =
-    let T = ledger-of set_up_ready opening in
+    let T = ledger_of set_up_ready opening in
     subst (λ (σ : Store). Ready σ (told_with 5) (restart T)) led.store
     (subst (λ (h : List Item). Ready (run (fresh ours given.lent) opening) h (restart T)) led.items
     (resumes set_up_ready opening (by_sixteen (run (fresh ours given.lent) opening) led.records led.sixteen)))

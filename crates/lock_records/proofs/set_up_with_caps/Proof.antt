@@ -49,7 +49,7 @@ use Rattle.lock_records.proofs.Row.{RS, low_s, tells_s, makes_s, typed_s, Ra, lo
 use Rattle.lock_run.proofs.Leave.{full, leave}
 use Rattle.lock_run.proofs.Short.{allocates, var, sets, relends}
 use Rattle.lock_run.proofs.Lent.{ref_at, lent, lent_both}
-use Rattle.lock_run.proofs.Calls.{Sweep, sw-to, sw-gives, sw_goes, sw_gets}
+use Rattle.lock_run.proofs.Calls.{Sweep, sw_to, sw_gives, sw_goes, sw_gets}
 use Rattle.lock_run.proofs.sweep.Symbol as sweep-def
 use Rattle.lock_run.proofs.sweep.Symbol.{name as #lock-run·sweep}
 use Rattle.lock_run.proofs.sweep.Met as sweep-thm
@@ -208,7 +208,7 @@ module _ {M : Type 1} {𝓤 : Ura M} (𝓛 : Logic 𝓤) (mem : Memory → SProp
         relends ! 33 refl refl 17 refl (tt, tt) refl refl 15 refl (tt, (tt, (record { fits = room.0 }, tt))) $
         relends ! 31 refl refl 13 refl (tt, tt) refl refl 11 refl (tt, (tt, (record { fits = room₃.0 }, tt))) $
         let gd = change_is t v p in
-        lent_both ! fm (Sweep 𝓛 mem run) known-sweep R κ₂ q₂ b o n γ ys refl room u32 κ₃ q₃ b₃ o₃ k γ₃ ws len₃ room₃ (sw-gives 𝓛 mem run b o n ys b₃ o₃ k ws t.change gd f.0) (sw-to 𝓛 mem run b o n ys b₃ o₃ k ws t.change gd f.0)
+        lent_both ! fm (Sweep 𝓛 mem run) known-sweep R κ₂ q₂ b o n γ ys refl room u32 κ₃ q₃ b₃ o₃ k γ₃ ws len₃ room₃ (sw_gives 𝓛 mem run b o n ys b₃ o₃ k ws t.change gd f.0) (sw_to 𝓛 mem run b o n ys b₃ o₃ k ws t.change gd f.0)
         (sw_goes 𝓛 mem run b o n ys b₃ o₃ k ws t.change gd f.0) (sw_gets 𝓛 mem run b o n ys b₃ o₃ k ws t.change gd f.0 refl)
         (λ ν δ δ₂ i j l. and_then ! (var ! 13 refl) (and_then ! (var ! 9 refl) (and_then ! (load ! (from ! (fld ! refl (stop !))) (look_in ! 25 (sub ! 1 refl (whole !)))) (no_more !)))) (λ u zs len. move ! (4 ∷ []) $ learn ! (λ put. peeks ! unit (Is unit) (shows 𝓛 unit) tt (u ∷ []) (λ pu.
         land ! (from ! (stop !)) (init ! 19 refl ((Nothing-Lawful 𝓛).typed tt (u ∷ []) pu).0) $ drop ! $

@@ -50,7 +50,7 @@ use Rattle.lock_records.proofs.Row.{RS, low_s, tells_s, makes_s, typed_s, Ra, lo
 use Rattle.lock_run.proofs.Leave.{full, leave}
 use Rattle.lock_run.proofs.Short.{var, sets, relends}
 use Rattle.lock_run.proofs.Lent.{ref_at, lent, lent_shared, lent_both}
-use Rattle.lock_run.proofs.Calls.{LockAt, at-to, at_gives, at_goes, at_gets, Sweep, sw-to, sw-gives, sw_goes, sw_gets}
+use Rattle.lock_run.proofs.Calls.{LockAt, at_to, at_gives, at_goes, at_gets, Sweep, sw_to, sw_gives, sw_goes, sw_gets}
 use Rattle.run_turns.specs.contracts.look_up as look_up
 use Rattle.run_turns.proofs.look_up.Symbol as look-up-def
 use Rattle.run_turns.proofs.look_up.Symbol.{name as #run-turns·look-up}
@@ -227,7 +227,7 @@ module _ {M : Type 1} {𝓤 : Ura M} (𝓛 : Logic 𝓤) (mem : Memory → SProp
         rewrite ! 44 (λ (u : Val). ‵ (fat full_share (ty_int w64) l₇ 0 u)) (ap only pg.0) refl $
         relends ! 48 refl refl 28 refl (tt, tt) refl refl 26 refl (tt, (tt, (record { fits = room.0 }, tt))) $
         nothing ! $ move ! (6 ∷ 3 ∷ 0 ∷ []) $
-        lent_shared ! fm (LockAt 𝓛 mem run) known_at_lem R κ₂ q₂ b o n γ ys refl room (at_gives 𝓛 mem run b o n ys g pg.1) (at-to 𝓛 mem run b o n ys g pg.1) (at_goes 𝓛 mem run b o n ys g pg.1) (at_gets 𝓛 mem run b o n ys g pg.1)
+        lent_shared ! fm (LockAt 𝓛 mem run) known_at_lem R κ₂ q₂ b o n γ ys refl room (at_gives 𝓛 mem run b o n ys g pg.1) (at_to 𝓛 mem run b o n ys g pg.1) (at_goes 𝓛 mem run b o n ys g pg.1) (at_gets 𝓛 mem run b o n ys g pg.1)
         (λ ν δ i j. and_then ! (var ! 26 refl) (and_then ! (var ! 44 refl) (no_more !))) (λ v. move ! (2 ∷ []) $ pick ! (λ r. learn ! (λ r-is.
         peeks ! R (Is R) (shows 𝓛 R) r (v ∷ []) (λ pr. land ! (from ! (stop !)) (init ! 43 refl (typed_at 𝓛 r v pr)) $ drop ! $
         -- [locks; its token; logs; its token; classes' token; values'; classes; values; _25 at 8; …]
@@ -248,7 +248,7 @@ module _ {M : Type 1} {𝓤 : Ura M} (𝓛 : Logic 𝓤) (mem : Memory → SProp
         relends ! 47 refl refl 11 refl (tt, tt) refl refl 9 refl (tt, (tt, (record { fits = room₃.0 }, tt))) $
         let gd = change_is tv.0 u p in
         let fit = (f.0 ours (goes_by_ours call)).0 in
-        lent_both ! fm (Sweep 𝓛 mem run) known-sweep R κ₂ q₂ b o n γ ys refl room u32 κ₃ q₃ b₃ o₃ k γ₃ ws len₃ room₃ (sw-gives 𝓛 mem run b o n ys b₃ o₃ k ws tv.0.change gd fit) (sw-to 𝓛 mem run b o n ys b₃ o₃ k ws tv.0.change gd fit)
+        lent_both ! fm (Sweep 𝓛 mem run) known-sweep R κ₂ q₂ b o n γ ys refl room u32 κ₃ q₃ b₃ o₃ k γ₃ ws len₃ room₃ (sw_gives 𝓛 mem run b o n ys b₃ o₃ k ws tv.0.change gd fit) (sw_to 𝓛 mem run b o n ys b₃ o₃ k ws tv.0.change gd fit)
         (sw_goes 𝓛 mem run b o n ys b₃ o₃ k ws tv.0.change gd fit) (sw_gets 𝓛 mem run b o n ys b₃ o₃ k ws tv.0.change gd fit refl)
         (λ ν δ δ₂ i j l. and_then ! (var ! 11 refl) (and_then ! (var ! 7 refl) (and_then ! (load ! (from ! (fld ! refl (stop !))) (look_in ! 39 (sub ! 1 refl (whole !)))) (no_more !)))) (λ u' zs len. move ! (4 ∷ []) $ learn ! (λ put. peeks ! unit (Is unit) (shows 𝓛 unit) tt (u' ∷ []) (λ pu.
         land ! (from ! (stop !)) (init ! 17 refl ((Nothing-Lawful 𝓛).typed tt (u' ∷ []) pu).0) $ drop ! $

@@ -51,7 +51,7 @@ use Rattle.lock_records.proofs.Row.{RS, low_s, tells_s, makes_s, typed_s, Ra, lo
 use Rattle.lock_run.proofs.Leave.{full, leave}
 use Rattle.lock_run.proofs.Short.{allocates, var, sets, relends}
 use Rattle.lock_run.proofs.Lent.{ref_at, lent, lent_shared, lent_both}
-use Rattle.lock_run.proofs.Calls.{LockAt, at-to, at_gives, at_goes, at_gets, Sweep, sw-to, sw-gives, sw_goes, sw_gets}
+use Rattle.lock_run.proofs.Calls.{LockAt, at_to, at_gives, at_goes, at_gets, Sweep, sw_to, sw_gives, sw_goes, sw_gets}
 use Rattle.lock_run.proofs.lock_at.Symbol as lock-at-def
 use Rattle.lock_run.proofs.lock_at.Symbol.{name as #lock-run·lock-at}
 use Rattle.lock_run.proofs.lock_at.Met as lock-at-thm
@@ -211,7 +211,7 @@ module _ {M : Type 1} {𝓤 : Ura M} (𝓛 : Logic 𝓤) (mem : Memory → SProp
         sets ! (un ! (var ! 36 refl) (record { fits = wide })) 24 refl (tt, record { fits = wide }) $
         nothing ! $ move ! (8 ∷ 3 ∷ 0 ∷ []) $
         -- [locks; its token; true; caps' token; logs'; classes'; values'; caps; logs; classes; values; _21 at 11; …]
-        lent_shared ! fm (LockAt 𝓛 mem run) known_at_lem R κ₂ q₂ b o n γ ys refl room (at_gives 𝓛 mem run b o n ys c wide) (at-to 𝓛 mem run b o n ys c wide) (at_goes 𝓛 mem run b o n ys c wide) (at_gets 𝓛 mem run b o n ys c wide)
+        lent_shared ! fm (LockAt 𝓛 mem run) known_at_lem R κ₂ q₂ b o n γ ys refl room (at_gives 𝓛 mem run b o n ys c wide) (at_to 𝓛 mem run b o n ys c wide) (at_goes 𝓛 mem run b o n ys c wide) (at_gets 𝓛 mem run b o n ys c wide)
         (λ ν δ i' j. and_then ! (var ! 26 refl) (and_then ! (var ! 24 refl) (no_more !))) (λ v. move ! (2 ∷ []) $ pick ! (λ r. learn ! (λ r-is.
         peeks ! R (Is R) (shows 𝓛 R) r (v ∷ []) (λ pr. land ! (from ! (stop !)) (init ! 33 refl (typed_at 𝓛 r v pr)) $ drop ! $
         -- [locks; its token; caps' token; logs'; classes'; values'; caps; logs; classes; values; _21 at 10; …]
@@ -232,7 +232,7 @@ module _ {M : Type 1} {𝓤 : Ura M} (𝓛 : Logic 𝓤) (mem : Memory → SProp
         relends ! 45 refl refl 17 refl (tt, tt) refl refl 15 refl (tt, (tt, (record { fits = room.0 }, tt))) $
         relends ! 43 refl refl 13 refl (tt, tt) refl refl 11 refl (tt, (tt, (record { fits = room₃.0 }, tt))) $
         let gd = change_is t u p in
-        lent_both ! fm (Sweep 𝓛 mem run) known-sweep R κ₂ q₂ b o n γ ys refl room u32 κ₃ q₃ b₃ o₃ k γ₃ ws len₃ room₃ (sw-gives 𝓛 mem run b o n ys b₃ o₃ k ws t.change gd f.0) (sw-to 𝓛 mem run b o n ys b₃ o₃ k ws t.change gd f.0)
+        lent_both ! fm (Sweep 𝓛 mem run) known-sweep R κ₂ q₂ b o n γ ys refl room u32 κ₃ q₃ b₃ o₃ k γ₃ ws len₃ room₃ (sw_gives 𝓛 mem run b o n ys b₃ o₃ k ws t.change gd f.0) (sw_to 𝓛 mem run b o n ys b₃ o₃ k ws t.change gd f.0)
         (sw_goes 𝓛 mem run b o n ys b₃ o₃ k ws t.change gd f.0) (sw_gets 𝓛 mem run b o n ys b₃ o₃ k ws t.change gd f.0 refl)
         (λ ν δ δ₂ i' j l. and_then ! (var ! 13 refl) (and_then ! (var ! 9 refl) (and_then ! (load ! (from ! (fld ! refl (stop !))) (look_in ! 29 (sub ! 1 refl (whole !)))) (no_more !)))) (λ u' zs len. move ! (4 ∷ []) $ learn ! (λ put. peeks ! unit (Is unit) (shows 𝓛 unit) tt (u' ∷ []) (λ pu.
         land ! (from ! (stop !)) (init ! 19 refl ((Nothing-Lawful 𝓛).typed tt (u' ∷ []) pu).0) $ drop ! $

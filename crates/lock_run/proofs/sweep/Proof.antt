@@ -50,7 +50,7 @@ use Rattle.lock_run.proofs.Row.{R, RC, low_c, tells_c, makes_c, typed_c, session
 use Rattle.lock_run.proofs.Leave.{full, bare, leave}
 use Rattle.lock_run.proofs.Short.{var, sets, relends}
 use Rattle.lock_run.proofs.Lent.{ref_at, lent}
-use Rattle.lock_run.proofs.Calls.{ChangeAt, ch-to, ch-gives, ch_goes, ch_gets}
+use Rattle.lock_run.proofs.Calls.{ChangeAt, ch_to, ch_gives, ch_goes, ch_gets}
 use Rattle.run_changes.specs.contracts.count_of as count_of
 use Rattle.run_changes.proofs.count_of.Symbol as count-of-def
 use Rattle.run_changes.proofs.count_of.Symbol.{name as #run-changes·count-of}
@@ -248,7 +248,7 @@ module _ {M : Type 1} {𝓤 : Ura M} (𝓛 : Logic 𝓤) (mem : Memory → SProp
           -- [the token; true; logs; locks; _10 at 4; …]
           rewrite ! 12 (λ (v : Val). ‵ (fat full_share word l₆ 0 v)) (ap only pr.0) refl $ move ! (3 ∷ 0 ∷ 1 ∷ []) $
           relends ! 22 refl refl 6 refl (tt, tt) refl refl 4 refl (tt, (tt, (record { fits = room.0 }, tt))) $
-          lent ! (fm_of 𝓤 H 𝓛.laws 𝓣) (ChangeAt 𝓛 mem run) known R κ q b o n γ u.zs u.len room (ch-gives 𝓛 mem run b o n u.zs r pr.1 d gd (session_fits logs d ok)) (ch-to 𝓛 mem run b o n u.zs r pr.1 d gd (session_fits logs d ok))
+          lent ! (fm_of 𝓤 H 𝓛.laws 𝓣) (ChangeAt 𝓛 mem run) known R κ q b o n γ u.zs u.len room (ch_gives 𝓛 mem run b o n u.zs r pr.1 d gd (session_fits logs d ok)) (ch_to 𝓛 mem run b o n u.zs r pr.1 d gd (session_fits logs d ok))
           (ch_goes 𝓛 mem run b o n u.zs r pr.1 d gd (session_fits logs d ok)) (ch_gets 𝓛 mem run b o n u.zs r pr.1 d gd (session_fits logs d ok) u.len)
           -- under the two entries that the step puts in front: [·; ·; logs; _10 at 3; …]
           (λ ν δ i j. and_then ! (var ! 3 refl) (and_then ! (var ! 11 refl) (and_then ! (var ! 17 refl) (no_more !)))) (λ v zs len. move ! (2 ∷ []) $ learn ! (λ z-is. peeks ! unit (Is unit) (shows 𝓛 unit) tt (v ∷ []) (λ pu.
