@@ -324,7 +324,7 @@ module _ {start : List ℕ} {σ : Store} {T : Ledger} (s : ℕ) (lt : s < 16) (I
         lawful = I.lawful;
         begun = J.begun;
         old = J.old;
-        just = just_off _ false T.commits refl;
+        just = just_off (change_locks σ (on_lock c (claim s) σ.lent.locks)) false T.commits refl;
       }
 
   -- ---- publishing and releasing

@@ -2,13 +2,14 @@
 -- agreement, if what tells the snapshot or comes before it is told before the seal.
 use Prim.Native.Nat.{ℕ, suc, ◌≤◌, ◌<◌}
 use native.Mathlib.Omega.{arith}
-use mathlib.Core.Path.{◌≡◌, refl, sym, ◌∙◌, ap, fun_ext}
+use mathlib.Core.Path.{◌≡◌, refl, sym, ◌∙◌, ap, fun_ext, subst}
 use mathlib.Core.Bool.{Bool, true, false, cond}
 use mathlib.Core.List.{List, [], ◌∷◌}
 use lib.Dec.{ltb, eqb}
 use borrow.Author.Tests.{eqb-true, eqb-false, eq-eqb, ne_eqb, ltb-true, ltb-false, lt-ltb}
 use Rattle.model.specs.History.{Item, is_open, dirtied, held_in, changed_in, wrote, value_written, cells_written, reads_before_writing, values_found, snapshot, moves_in, move_number, commit, committed}
 use Rattle.model.specs.Isolation.{All}
+use Rattle.model.specs.Search.{tally}
 use Rattle.model.specs.Told.{Told, began, got, put, held, sealed, moved, ended, begins, writes, seals, moves, ReadOf, read_unless, and_found}
 use Rattle.model.proofs.Ledger.{Txn, opened, note}
 use Rattle.model.proofs.Tools.{same, split, test, clash, upd}
@@ -108,7 +109,9 @@ module _ (n q s : ℕ) (t : List Item) where
   -- nothing written, sealed or moved: the commit stays
   plain_commit : (w : Told) → wrote (item w ∷ t) ≡ wrote t → seals w ≡ false → moves w ≡ false → commit n (item w ∷ t) ≡ commit n t
   unfolding commit snapshot move_number
-  plain_commit w a b c = rw (a, b, c)
+  plain_commit w a b c =
+      subst (λ (f : ℕ → Bool). cond (eqb (tally f n) 0) (snapshot (item w ∷ t)) (move_number (tally f n) (item w ∷ t)) ≡ commit n t) (sym a)
+      (rw (b, c))
 
   -- not committed: the place is 0
   pub not_yet : committed n t ≡ false → commit n t ≡ 0
@@ -167,7 +170,7 @@ module _ (n q s : ℕ) (t : List Item) where
       refl refl (u.open' ∙ sym (ap (ltb 0) e)) (not_yet u.open' ∙ sym e))
 
   seal_commit : (p : ℕ) → Unsealed (summary n p t) → commit n (item sealed ∷ t) ≡ cond (eqb (cells_written n t) 0) q 0
-  unfolding commit snapshot move_number
+  unfolding commit snapshot move_number wrote
   seal_commit p u =
       let w : wrote (item sealed ∷ t) ≡ wrote t = fun_ext (λ d. unfold held_in changed_in wrote in refl) in
       rw w (test (eqb m 0) (λ y. rw y) (λ y. rw y (move_number-none m t (let e = eqb-false m 0 y in omega (arith, u.moved)))))
@@ -182,7 +185,7 @@ module _ (n q s : ℕ) (t : List Item) where
 
   -- an answer 103 more
   move_commit : commit n (item moved ∷ t) ≡ cond (committed n t) (commit n t) (cond (eqb (suc (moves_in t)) (cells_written n t)) q 0)
-  unfolding committed commit snapshot move_number
+  unfolding committed commit snapshot move_number wrote
   move_commit =
       let w : wrote (item moved ∷ t) ≡ wrote t = fun_ext (λ d. unfold held_in changed_in wrote in refl) in
       rw w
