@@ -18,8 +18,8 @@ use Rattle.records.specs.declared.Plan.{Plan}
 use Rattle.records.specs.declared.Plan.TheVariants.{Refuse}
 use Rattle.model.proofs.Tools.{test, nothing, both_l}
 use Rattle.model.proofs.Laws.{below_is}
-use Rattle.log.specs.Slots.{slot_of, target_slot, is_more}
-use Rattle.log.proofs.Targets.{slot_some}
+use Rattle.session_log.specs.Slots.{slot_of, target_slot, is_more}
+use Rattle.session_log.proofs.Targets.{slot_some}
 use Rattle.advance.specs.Pieces.{due_at, due_on, due_cell, DueFits, advance_on, due_plan}
 use Rattle.advance.specs.declared.Due.{Due}
 use Rattle.advance.specs.declared.Due.TheVariants.{Refused, Slot}

@@ -22,8 +22,8 @@ use Rattle.records.specs.declared.Plan.{Plan}
 use Rattle.records.specs.declared.Plan.TheVariants.{RollBack, Wait, Acquire, Publish, Release}
 use Rattle.model.proofs.Sets.{others_told}
 use Rattle.model.proofs.Tools.{test}
-use Rattle.log.specs.Slots.{found, target_slot, is_more}
-use Rattle.log.proofs.Targets.{written_first, slot_some, target_some}
+use Rattle.session_log.specs.Slots.{found, target_slot, is_more}
+use Rattle.session_log.proofs.Targets.{written_first, slot_some, target_some}
 use Rattle.advance.specs.Pieces.{due_at, due_on, advance_on, handled_by}
 use Rattle.advance.specs.declared.Due.TheVariants.{Refused, Slot}
 use Rattle.refusals.proofs.Ways.{found_here, found_nowhere}

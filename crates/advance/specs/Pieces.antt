@@ -11,7 +11,7 @@ use Rattle.records.specs.declared.Lock.{Lock}
 use Rattle.records.specs.declared.Answer.TheVariants.{Moved, Committed}
 use Rattle.records.specs.declared.Plan.{Plan}
 use Rattle.records.specs.declared.Plan.TheVariants.{Refuse, Publish, Release}
-use Rattle.log.specs.Slots.{target_slot, is_more}
+use Rattle.session_log.specs.Slots.{target_slot, is_more}
 use Rattle.advance.specs.declared.Due.{Due}
 use Rattle.advance.specs.declared.Due.TheVariants.{Refused, Slot}
 use Rattle.advance.specs.declared.Handled.{Handled}

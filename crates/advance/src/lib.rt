@@ -47,7 +47,7 @@ pub fn due_cell(log: &[u32], due: Due) -> u32
 {
     match due {
         Due::Refused(_) => 0,
-        Due::Slot(k, _) => log::cell_at(log, k as usize),
+        Due::Slot(k, _) => session_log::cell_at(log, k as usize),
     }
 }
 
@@ -138,7 +138,7 @@ fn take_entry(
     ensures { TakesTurn (advance_on log.now x l session k) values log x result }
 {
     let phase = x.phase;
-    let cell = log::cell_at(log, k as usize);
+    let cell = session_log::cell_at(log, k as usize);
     if phase == 2 {
         return promote(x, l, session, cell, more);
     }
@@ -146,7 +146,7 @@ fn take_entry(
     let answer = h.answer;
     let y = h.session;
     if phase == 3 {
-        values[cell as usize] = log::current(log, k as usize);
+        values[cell as usize] = session_log::current(log, k as usize);
         return records::keeps(Answer::Moved, y);
     }
     Turn {

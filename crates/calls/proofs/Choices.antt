@@ -16,7 +16,7 @@ use Rattle.records.specs.declared.Lock.{Lock}
 use Rattle.records.specs.declared.Plan.{Plan}
 use Rattle.records.specs.declared.Plan.TheVariants.{Refuse, Tell, Enter, Update, EnterUpdate, Mark, EnterMark, RollBack}
 use Rattle.model.proofs.Tools.{test, which}
-use Rattle.log.proofs.Targets.{slot_some}
+use Rattle.session_log.proofs.Targets.{slot_some}
 use Rattle.records.proofs.Tags.{tag, Passed, Passes, passed, clashes}
 use Rattle.model.proofs.Passing.{Entries, record_entries}
 

@@ -58,7 +58,7 @@ pub fn take_read(values: &[u32], log: &mut [u32], x: Session, l: Lock, cell: u32
     }
     let count = x.count as usize;
     let value = values[cell as usize];
-    log::append(log, count, cell, value);
+    session_log::append(log, count, cell, value);
     records::enters(Answer::Value(value), x, cell)
 }
 
@@ -68,7 +68,7 @@ pub fn take_hold(values: &[u32], log: &mut [u32], x: Session, l: Lock, cell: u32
     ensures { TakesTurn (hold_plan (length values.now) log.old x l cell) values log x result }
 {
     if let Plan::Mark(k, value) = p {
-        log::mark(log, k as usize);
+        session_log::mark(log, k as usize);
         return records::keeps(Answer::Value(value), x);
     }
     if let Plan::Refuse(number) = p {
@@ -79,8 +79,8 @@ pub fn take_hold(values: &[u32], log: &mut [u32], x: Session, l: Lock, cell: u32
     }
     let count = x.count as usize;
     let value = values[cell as usize];
-    log::append(log, count, cell, value);
-    log::mark(log, count);
+    session_log::append(log, count, cell, value);
+    session_log::mark(log, count);
     records::enters(Answer::Value(value), x, cell)
 }
 
@@ -98,7 +98,7 @@ pub fn take_write(
     ensures { TurnsWrite values log x l cell written p result }
 {
     if let Plan::Update(k, value) = p {
-        log::update(log, k as usize, value);
+        session_log::update(log, k as usize, value);
         return records::keeps(Answer::Done, x);
     }
     if let Plan::Refuse(number) = p {
@@ -109,8 +109,8 @@ pub fn take_write(
     }
     let count = x.count as usize;
     let value = values[cell as usize];
-    log::append(log, count, cell, value);
-    log::update(log, count, written);
+    session_log::append(log, count, cell, value);
+    session_log::update(log, count, written);
     records::enters(Answer::Done, x, cell)
 }
 

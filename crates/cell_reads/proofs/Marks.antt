@@ -11,9 +11,9 @@ use Rattle.model.specs.Buffers.{cell_at, slot_in, appended}
 use Rattle.model.specs.Search.{below}
 use Rattle.model.proofs.Laws.{appended_cell, appended_apart}
 use Rattle.model.proofs.Tools.{same, which, clash, both_l, both_r}
-use Rattle.log.specs.Slots.{found}
-use Rattle.log.proofs.Searches.{slot_nowhere}
-use Rattle.log.proofs.Targets.{slot_some}
+use Rattle.session_log.specs.Slots.{found}
+use Rattle.session_log.proofs.Searches.{slot_nowhere}
+use Rattle.session_log.proofs.Targets.{slot_some}
 use Rattle.sweeps.specs.Sweeps.{marked, mark}
 use Rattle.sweeps.proofs.Marks.{marked_same, marked_other}
 use Rattle.cell_reads.specs.Cells.{Covers}

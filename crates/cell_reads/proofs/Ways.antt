@@ -13,7 +13,7 @@ use Rattle.model.specs.Readers.{with_reader}
 use Rattle.model.proofs.Carried.{length-appended}
 use Rattle.model.proofs.Laws.{appended_below}
 use Rattle.model.proofs.Tools.{split, test, which}
-use Rattle.log.specs.Slots.{found}
+use Rattle.session_log.specs.Slots.{found}
 use Rattle.refusals.proofs.Ways.{found_here, found_nowhere}
 use Rattle.cell_reads.specs.Cells.{Fits, Covers, CellRead, cell_read, new_read, slot_read, read_cell, CellsRead, cells_read, read_cells}
 use Rattle.cell_reads.specs.declared.CellReply.{CellReply}

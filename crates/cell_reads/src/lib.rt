@@ -5,7 +5,7 @@ ghost use Rattle.std.specs.Prelude.{◌≡◌, true, ◌*◌, ◌<◌, ◌≤◌
 ghost use Rattle.model.specs.Search.{below};
 ghost use Rattle.model.specs.Buffers.{cell_at, slot_in};
 ghost use Rattle.model.specs.ManyReads.{list_refusal};
-ghost use Rattle.log.specs.Slots.{found};
+ghost use Rattle.session_log.specs.Slots.{found};
 ghost use Rattle.cell_reads.specs.Cells.{Covers, Enters, ReadsCell, ReadsCells, Fits};
 
 // ---- the list and the target
@@ -32,7 +32,7 @@ fn mark_entries(log: &[u32], count: usize, entered: &mut [u64; 16])
 {
     let mut i = 0;
     while i < count {
-        let cell = log::cell_at(log, i);
+        let cell = session_log::cell_at(log, i);
         sweeps::put_mark(entered, cell);
         i += 1;
     }
@@ -68,7 +68,7 @@ fn enter(
     let value = values[c];
     let set = readers[c];
     readers[c] = lock::with_reader(set, session);
-    log::append(log, count, cell, value);
+    session_log::append(log, count, cell, value);
     value
 }
 
@@ -113,7 +113,7 @@ fn read_cell(
     if k < count {
         return CellReply {
             number: 101,
-            value: log::current(&log[..], k),
+            value: session_log::current(&log[..], k),
             entries: count,
         };
     }

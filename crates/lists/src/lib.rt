@@ -33,12 +33,12 @@ pub fn step(
         };
     }
     let x = turns::record_of(sessions, session);
-    let cell = any_call::cell_for(call, log::of_session(&logs[..], session), n, x);
+    let cell = any_call::cell_for(call, session_log::of_session(&logs[..], session), n, x);
     let l = locks::at(&readers[..], &claimants[..], &exclusives[..], cell);
     let t = any_call::any(call, values, classes, logs, x, l, session);
     let change = t.change;
     let count = x.count as usize;
-    let log = log::of_session(&logs[..], session);
+    let log = session_log::of_session(&logs[..], session);
     locks::carry_out(change, log, count, readers, claimants, exclusives, session);
     locks::change_drop(change, log, count, readers, session);
     turns::put_back(t, sessions, session)

@@ -5,7 +5,7 @@ ghost use Rattle.std.specs.Prelude.{◌≡◌, true, ◌+◌, ◌*◌, ◌≤◌
 ghost use Rattle.std.proofs.Math.Option.{none};
 ghost use Rattle.model.specs.Search.{below};
 ghost use Rattle.model.specs.Buffers.{cell_at, slot_in};
-ghost use Rattle.log.specs.Slots.{found, Locates};
+ghost use Rattle.session_log.specs.Slots.{found, Locates};
 
 // Where a cell stands in a log: whether one of the entries has it, and the place of the first that does; the count where none has.
 #[derive(Clone, Copy)]
@@ -21,7 +21,7 @@ fn locate_one_by_one(log: &[u32], count: usize, cell: u32) -> Location
 {
     let mut i = 0;
     while i < count {
-        if log::cell_at(log, i) == cell {
+        if session_log::cell_at(log, i) == cell {
             return Location {
                 known: true,
                 slot: i,
@@ -40,25 +40,25 @@ fn locate_in_four(log: &[u32], i: usize, cell: u32) -> Location
     requires { (4 * i + 16 ≤ length log.now) × (slot_in log.now i cell ≡ none) }
     ensures { Locates log.now (i + 4) cell result.known result.slot }
 {
-    if log::cell_at(log, i) == cell {
+    if session_log::cell_at(log, i) == cell {
         return Location {
             known: true,
             slot: i,
         };
     }
-    if log::cell_at(log, i + 1) == cell {
+    if session_log::cell_at(log, i + 1) == cell {
         return Location {
             known: true,
             slot: i + 1,
         };
     }
-    if log::cell_at(log, i + 2) == cell {
+    if session_log::cell_at(log, i + 2) == cell {
         return Location {
             known: true,
             slot: i + 2,
         };
     }
-    if log::cell_at(log, i + 3) == cell {
+    if session_log::cell_at(log, i + 3) == cell {
         return Location {
             known: true,
             slot: i + 3,
@@ -110,7 +110,7 @@ pub fn all_below(log: &[u32], count: usize, n: u32) -> bool
 {
     let mut i = 0;
     while i < count {
-        if n <= log::cell_at(log, i) {
+        if n <= session_log::cell_at(log, i) {
             return false;
         }
         i += 1;
@@ -123,16 +123,16 @@ fn four_below(log: &[u32], i: usize, n: u32) -> bool
     requires { (4 * i + 16 ≤ length log.now) × (below n (cell_at log.now) i ≡ true) }
     ensures { result ≡ below n (cell_at log.now) (i + 4) }
 {
-    if n <= log::cell_at(log, i) {
+    if n <= session_log::cell_at(log, i) {
         return false;
     }
-    if n <= log::cell_at(log, i + 1) {
+    if n <= session_log::cell_at(log, i + 1) {
         return false;
     }
-    if n <= log::cell_at(log, i + 2) {
+    if n <= session_log::cell_at(log, i + 2) {
         return false;
     }
-    if n <= log::cell_at(log, i + 3) {
+    if n <= session_log::cell_at(log, i + 3) {
         return false;
     }
     true

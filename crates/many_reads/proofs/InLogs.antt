@@ -3,7 +3,7 @@ use Prim.Native.Nat.{ℕ}
 use mathlib.Core.Path.{◌≡◌, sym, ap, subst, ◌∙◌}
 use mathlib.Core.List.{List}
 use Rattle.model.specs.Buffers.{log_in}
-use Rattle.log.proofs.Logs.{cut, puts, cut_is, puts_is}
+use Rattle.session_log.proofs.Logs.{cut, puts, cut_is, puts_is}
 use Rattle.cell_reads.specs.Cells.{Fits, cells_read, read_cells}
 use Rattle.many_reads.specs.InLogs.{cells_in_logs}
 

@@ -84,9 +84,14 @@ pub fn read_many(
     }
     let phase = x.phase;
     let count = x.count as usize;
-    if !refusals::runs(log::of_session(&logs[..], session), n, x) {
+    if !refusals::runs(session_log::of_session(&logs[..], session), n, x) {
         return refused(
-            refusals::tests(log::of_session(&logs[..], session), n, x, phase == 1) as u32,
+            refusals::tests(
+                session_log::of_session(&logs[..], session),
+                n,
+                x,
+                phase == 1,
+            ) as u32,
             x,
         );
     }
@@ -112,7 +117,7 @@ pub fn read_many(
         };
     }
     sweeps::roll_back(
-        log::of_session(&logs[..], session),
+        session_log::of_session(&logs[..], session),
         entries,
         readers,
         claimants,

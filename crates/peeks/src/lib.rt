@@ -29,7 +29,7 @@ pub fn peek_plan(
     if !refusals::admits(n, k, r, c, m, w, session) {
         return Plan::Refuse(refusals::admit(n, k, r, c, m, w, session));
     }
-    plans::peek_plan(log::of_session(logs, session), n, x, cell)
+    plans::peek_plan(session_log::of_session(logs, session), n, x, cell)
 }
 
 // Peek: running only. One word, the store's own or the log's own; no word where the peek is refused.

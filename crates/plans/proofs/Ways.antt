@@ -14,7 +14,7 @@ use Rattle.records.specs.declared.Session.{Session}
 use Rattle.records.specs.declared.Lock.{Lock}
 use Rattle.records.specs.declared.Plan.{Plan}
 use Rattle.records.specs.declared.Plan.TheVariants.{Refuse, Tell, Enter, Update, EnterUpdate, Mark, EnterMark, ShowStore, ShowLog}
-use Rattle.log.specs.Slots.{found}
+use Rattle.session_log.specs.Slots.{found}
 use Rattle.refusals.specs.Pieces.{tested}
 use Rattle.refusals.proofs.Ways.{found_here, found_nowhere, whole, in_phase_1}
 

@@ -35,7 +35,7 @@ pub fn read_plan(log: &[u32], n: usize, x: Session, cell: u32) -> Plan
     let known = place.known;
     let k = place.slot;
     if known {
-        return Plan::Tell(log::current(log, k));
+        return Plan::Tell(session_log::current(log, k));
     }
     new_cell(x, Plan::Enter(cell))
 }
@@ -56,7 +56,7 @@ pub fn hold_plan(log: &[u32], n: usize, x: Session, cell: u32) -> Plan
     let known = place.known;
     let k = place.slot;
     if known {
-        return Plan::Mark(k as u32, log::current(log, k));
+        return Plan::Mark(k as u32, session_log::current(log, k));
     }
     new_cell(x, Plan::EnterMark(cell))
 }
@@ -144,7 +144,7 @@ pub fn peek_plan(log: &[u32], n: usize, x: Session, cell: u32) -> Plan
     if !known {
         return Plan::Refuse(14);
     }
-    if log::dirty(log, k) {
+    if session_log::dirty(log, k) {
         return Plan::ShowLog(k as u32);
     }
     Plan::ShowStore(cell)

@@ -16,7 +16,7 @@ use Rattle.records.specs.declared.Plan.{Plan}
 use Rattle.records.specs.declared.Plan.TheVariants.{Refuse, Start}
 use Rattle.model.proofs.Passing.{Entries, entries_of, record_entries}
 use Rattle.model.proofs.Tools.{test, clash, and-false}
-use Rattle.log.specs.Slots.{found}
+use Rattle.session_log.specs.Slots.{found}
 use Rattle.refusals.specs.Pieces.{tested}
 
 -- ---- places that a search answers

@@ -9,9 +9,9 @@ use lib.Dec.{ltb}
 use lib.ListN.{length}
 use Rattle.model.proofs.Tools.{test}
 use Rattle.model.specs.Buffers.{log_in, cell_at, entry_at, publishes, slot_in, look_in, entry_of, publishes_in}
-use Rattle.log.specs.Slots.{found}
-use Rattle.log.proofs.Targets.{slot_some, slot_none}
-use Rattle.log.proofs.Logs.{log_long}
+use Rattle.session_log.specs.Slots.{found}
+use Rattle.session_log.proofs.Targets.{slot_some, slot_none}
+use Rattle.session_log.proofs.Logs.{log_long}
 use Rattle.run_changes.specs.declared.Change.{Change}
 use Rattle.run_changes.specs.declared.Change.TheVariants.{Withdraw, Leave}
 use Rattle.run_changes.specs.Run.{ChangeFits, count_of, cell_of}

@@ -43,7 +43,7 @@ fn entry_cell(logs: &[u32], session: u8, i: usize) -> usize
     requires { (session < 16) × (i < 32) × (length logs.now ≡ 2048) }
     ensures { result ≡ cell_at (log_in logs.now session) i }
 {
-    log::cell_at(log::of_session(logs, session), i) as usize
+    session_log::cell_at(session_log::of_session(logs, session), i) as usize
 }
 
 // The same, or 1,024 where the cell publishes: of m entries the cell's first counts.
@@ -51,10 +51,10 @@ fn unpublished_cell(logs: &[u32], session: u8, m: u8, i: usize) -> usize
     requires { (session < 16) × (m ≤ 32) × (i < m) × (length logs.now ≡ 2048) }
     ensures { result ≡ cell_of logs.now (Leave session m) i }
 {
-    let log = log::of_session(logs, session);
-    let cell = log::cell_at(log, i);
+    let log = session_log::of_session(logs, session);
+    let cell = session_log::cell_at(log, i);
     let k = look_ups::find(log, m as usize, cell);
-    if log::publishes(log, k) {
+    if session_log::publishes(log, k) {
         return 1024;
     }
     cell as usize

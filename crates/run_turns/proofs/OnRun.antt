@@ -26,7 +26,7 @@ use Rattle.turns.specs.InLogs.{in_logs}
 use Rattle.turns.proofs.Fitting.{call_fits}
 use Rattle.refusals.proofs.Lengths
 use Rattle.refusals.proofs.Lengths.{Admitted, plan_refused}
-use Rattle.log.proofs.Logs.{log_long}
+use Rattle.session_log.proofs.Logs.{log_long}
 use Rattle.turns.proofs.InLogs.{left, still}
 use Rattle.any_call.proofs.AnyCall.{one_lock}
 use Rattle.turns.proofs.Whole.{plan_under, plan_in, takes_under}

@@ -46,7 +46,7 @@ pub fn set_up_turn(
     if !caps::all_fit(values, classes) {
         return only_answer(sessions, Answer::Refused(8));
     }
-    log::clear_words(logs);
+    session_log::clear_words(logs);
     let idle = records::all_idle();
     let reply = Reply {
         answer: Answer::Done,
@@ -82,7 +82,7 @@ pub fn set_up_turn_by(
     if !caps::all_fit_by(caps, values, classes) {
         return only_answer(sessions, Answer::Refused(8));
     }
-    log::clear_words(logs);
+    session_log::clear_words(logs);
     let idle = records::all_idle();
     let reply = Reply {
         answer: Answer::Done,
@@ -112,7 +112,7 @@ pub fn look_up(
         return 0;
     }
     let x = sessions.records[session as usize];
-    any_call::cell_for(call, log::of_session(logs, session), n, x) as usize
+    any_call::cell_for(call, session_log::of_session(logs, session), n, x) as usize
 }
 
 // A turn's change as one of the run.
@@ -203,7 +203,7 @@ pub fn write_turn(
     let x = sessions.records[i];
     let p = plans::write_plan_by(
         caps,
-        log::of_session(logs, session),
+        session_log::of_session(logs, session),
         classes,
         x,
         cell,
@@ -260,7 +260,7 @@ fn peek_plan(
         return Plan::Refuse(refusal);
     }
     let x = sessions.records[session as usize];
-    plans::peek_plan(log::of_session(logs, session), n, x, cell)
+    plans::peek_plan(session_log::of_session(logs, session), n, x, cell)
 }
 
 // A peek's part.

@@ -35,7 +35,7 @@ fn empty(readers: &mut [u16], claimants: &mut [u8], exclusives: &mut [u8], logs:
     clear_sets(readers);
     fill_bytes(claimants, 16);
     fill_bytes(exclusives, 0);
-    log::clear_words(logs);
+    session_log::clear_words(logs);
 }
 
 // Set-up: all sessions idle, all locks empty, all log words 0. 100, 7 or 8.

@@ -83,7 +83,7 @@ pub fn begin(
     if !refusals::admits(n, k, r, c, m, w, session) {
         return refused(refusals::admit(n, k, r, c, m, w, session), x);
     }
-    let log = log::of_session(logs, session);
+    let log = session_log::of_session(logs, session);
     replied(calls::take_begin(log, n, x))
 }
 
@@ -110,14 +110,14 @@ pub fn read(
     if !refusals::admits(n, k, r, c, m, w, session) {
         return refused(refusals::admit(n, k, r, c, m, w, session), x);
     }
-    let p = plans::read_plan(log::of_session(&logs[..], session), n, x, cell);
+    let p = plans::read_plan(session_log::of_session(&logs[..], session), n, x, cell);
     let l = locks::lock_for(&readers[..], &claimants[..], &exclusives[..], p);
     let t = turns::read(values, logs, x, l, session, cell, p);
     let change = t.change;
     let count = x.count as usize;
     locks::carry_out(
         change,
-        log::of_session(&logs[..], session),
+        session_log::of_session(&logs[..], session),
         count,
         readers,
         claimants,
@@ -150,14 +150,14 @@ pub fn hold(
     if !refusals::admits(n, k, r, c, m, w, session) {
         return refused(refusals::admit(n, k, r, c, m, w, session), x);
     }
-    let p = plans::hold_plan(log::of_session(&logs[..], session), n, x, cell);
+    let p = plans::hold_plan(session_log::of_session(&logs[..], session), n, x, cell);
     let l = locks::lock_for(&readers[..], &claimants[..], &exclusives[..], p);
     let t = turns::hold(values, logs, x, l, session, cell, p);
     let change = t.change;
     let count = x.count as usize;
     locks::carry_out(
         change,
-        log::of_session(&logs[..], session),
+        session_log::of_session(&logs[..], session),
         count,
         readers,
         claimants,
@@ -191,14 +191,20 @@ pub fn write(
     if !refusals::admits(n, k, r, c, m, w, session) {
         return refused(refusals::admit(n, k, r, c, m, w, session), x);
     }
-    let p = plans::write_plan(log::of_session(&logs[..], session), classes, x, cell, value);
+    let p = plans::write_plan(
+        session_log::of_session(&logs[..], session),
+        classes,
+        x,
+        cell,
+        value,
+    );
     let l = locks::lock_for(&readers[..], &claimants[..], &exclusives[..], p);
     let t = turns::write(values, logs, x, l, session, cell, value, p);
     let change = t.change;
     let count = x.count as usize;
     locks::carry_out(
         change,
-        log::of_session(&logs[..], session),
+        session_log::of_session(&logs[..], session),
         count,
         readers,
         claimants,
@@ -238,7 +244,7 @@ pub fn write_with_caps(
     }
     let p = plans::write_plan_by(
         caps,
-        log::of_session(&logs[..], session),
+        session_log::of_session(&logs[..], session),
         classes,
         x,
         cell,
@@ -250,7 +256,7 @@ pub fn write_with_caps(
     let count = x.count as usize;
     locks::carry_out(
         change,
-        log::of_session(&logs[..], session),
+        session_log::of_session(&logs[..], session),
         count,
         readers,
         claimants,
@@ -282,7 +288,7 @@ pub fn seal(
     if !refusals::admits(n, k, r, c, m, w, session) {
         return refused(refusals::admit(n, k, r, c, m, w, session), x);
     }
-    let log = log::of_session(logs, session);
+    let log = session_log::of_session(logs, session);
     let t = calls::take_seal(log, n, x);
     let change = t.change;
     let count = x.count as usize;
@@ -312,7 +318,7 @@ pub fn advance(
     if !refusals::admits(n, k, r, c, m, w, session) {
         return refused(refusals::admit(n, k, r, c, m, w, session), x);
     }
-    let log = log::of_session(logs, session);
+    let log = session_log::of_session(logs, session);
     let due = advance::due_slot(log, n, x);
     let cell = advance::due_cell(log, due);
     let l = locks::at(&readers[..], &claimants[..], &exclusives[..], cell);
@@ -345,7 +351,7 @@ pub fn abandon(
     if !refusals::admits(n, k, r, c, m, w, session) {
         return refused(refusals::admit(n, k, r, c, m, w, session), x);
     }
-    let log = log::of_session(logs, session);
+    let log = session_log::of_session(logs, session);
     let t = calls::take_abandon(log, n, x);
     let change = t.change;
     let count = x.count as usize;

@@ -16,8 +16,8 @@ use Rattle.model.specs.Search.{some?, or_else, find}
 use Rattle.records.specs.declared.Lock.{Lock}
 use Rattle.model.proofs.Laws.{Long, lock_sweep, leave_leave}
 use Rattle.model.proofs.Tools.{same, test, which, clash, or_else-none}
-use Rattle.log.proofs.Searches.{find_here, find_up}
-use Rattle.log.proofs.Targets.{first_judges, written_first, slot_some}
+use Rattle.session_log.proofs.Searches.{find_here, find_up}
+use Rattle.session_log.proofs.Targets.{first_judges, written_first, slot_some}
 use Rattle.contracts.specs.Lent.{locks_of}
 use Rattle.sweeps.specs.Sweeps.{DroppedSoFar, NonePublished, marked, mark, dropped_written, dropped_at}
 use Rattle.lock.proofs.Digits.{no_member}

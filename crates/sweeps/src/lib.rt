@@ -52,7 +52,7 @@ pub fn roll_back(
 {
     let mut i = 0;
     while i < count {
-        let cell = log::cell_at(log, i);
+        let cell = session_log::cell_at(log, i);
         withdraw_at(readers, claimants, exclusives, cell, session);
         i += 1;
     }
@@ -87,8 +87,8 @@ fn drop_at(log: &[u32], k: usize, readers: &mut [u16], written: &mut [u64; 16], 
     requires { (session < 16) × (4 * k + 3 < length log.now) × (cell_at log.now k < 1024) × (cell_at log.now k < length readers.old) }
     ensures { DropsAt log k session written readers }
 {
-    let cell = log::cell_at(log, k);
-    if log::publishes(log, k) {
+    let cell = session_log::cell_at(log, k);
+    if session_log::publishes(log, k) {
         put_mark(written, cell);
         return;
     }
@@ -105,10 +105,10 @@ fn drop_unpublished(log: &[u32], count: usize, readers: &mut [u16], session: u8)
 {
     let mut i = 0;
     while i < count {
-        if log::publishes(log, i) {
+        if session_log::publishes(log, i) {
             return i;
         }
-        let cell = log::cell_at(log, i);
+        let cell = session_log::cell_at(log, i);
         leave_at(readers, cell, session);
         i += 1;
     }

@@ -4,21 +4,21 @@
 ghost use Rattle.std.specs.Prelude.{◌≡◌, true, ℕ, ◌+◌, ◌*◌, ◌<◌, ◌≤◌, length};
 ghost use Rattle.model.specs.Search.{some?, below};
 ghost use Rattle.model.specs.Buffers.{cell_at, target_in};
-ghost use Rattle.log.specs.Slots.{found, better, lowest_publishing, target_slot, first_publishes, LowestTwo, IsNext};
+ghost use Rattle.session_log.specs.Slots.{found, better, lowest_publishing, target_slot, first_publishes, LowestTwo, IsNext};
 
 // The lower of the best cell so far and entry i's, where that is not below from and publishes.
 fn lower(log: &[u32], i: usize, from: u32, best: u32) -> u32
     requires { 4 * i + 3 < length log.now }
     ensures { result ≡ better log.now from i best }
 {
-    let cell = log::cell_at(log, i);
+    let cell = session_log::cell_at(log, i);
     if cell < from {
         return best;
     }
     if best <= cell {
         return best;
     }
-    if log::publishes(log, i) {
+    if session_log::publishes(log, i) {
         return cell;
     }
     best
@@ -54,7 +54,7 @@ pub fn target(log: &[u32], count: usize, n: u32, from: u32) -> usize
             break count;
         }
         let k = look_ups::find(log, count, cell);
-        if log::publishes(log, k) {
+        if session_log::publishes(log, k) {
             break k;
         }
         start = cell + 1;
@@ -74,7 +74,7 @@ fn lower_two(log: &[u32], i: usize, from: u32, best: Two) -> Two
     requires { 4 * i + 3 < length log.now }
     ensures { (n : ℕ) → LowestTwo log.now n from i best.low best.high → LowestTwo log.now n from (i + 1) result.low result.high }
 {
-    let cell = log::cell_at(log, i);
+    let cell = session_log::cell_at(log, i);
     let low = best.low;
     let high = best.high;
     if cell < from {
@@ -83,7 +83,7 @@ fn lower_two(log: &[u32], i: usize, from: u32, best: Two) -> Two
     if high <= cell {
         return best;
     }
-    if !log::publishes(log, i) {
+    if !session_log::publishes(log, i) {
         return best;
     }
     if cell < low {
@@ -134,7 +134,7 @@ fn next_by_target(log: &[u32], count: usize, n: u32, from: u32) -> Next
             more: false,
         };
     }
-    let above = log::cell_at(log, slot) + 1;
+    let above = session_log::cell_at(log, slot) + 1;
     let more = any_publishes(log, count, above);
     Next {
         slot: slot,
@@ -158,7 +158,7 @@ pub fn next_two(log: &[u32], count: usize, n: u32, from: u32) -> Next
         };
     }
     let k = look_ups::find(log, count, low);
-    if log::publishes(log, k) {
+    if session_log::publishes(log, k) {
         if n <= high {
             return Next {
                 slot: k,
@@ -166,7 +166,7 @@ pub fn next_two(log: &[u32], count: usize, n: u32, from: u32) -> Next
             };
         }
         let j = look_ups::find(log, count, high);
-        if log::publishes(log, j) {
+        if session_log::publishes(log, j) {
             return Next {
                 slot: k,
                 more: true,
@@ -196,8 +196,8 @@ fn first_publishes(log: &[u32], i: usize, from: u32) -> bool
     requires { 4 * i + 3 < length log.now }
     ensures { result ≡ first_publishes log.now i from }
 {
-    let cell = log::cell_at(log, i);
-    if (from <= cell) & log::publishes(log, i) {
+    let cell = session_log::cell_at(log, i);
+    if (from <= cell) & session_log::publishes(log, i) {
         return i <= look_ups::find(log, i, cell);
     }
     false

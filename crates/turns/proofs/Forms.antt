@@ -37,7 +37,7 @@ use Rattle.turns.specs.InLogs.{in_logs}
 use Rattle.refusals.proofs.Lengths.{Admitted, refused_by, refused_under_by}
 use Rattle.turns.proofs.Guards.{guarded}
 use Rattle.turns.proofs.InLogs.{kept_in}
-use Rattle.log.proofs.Logs.{log_long}
+use Rattle.session_log.proofs.Logs.{log_long}
 use Rattle.turns.proofs.Whole.{plan_under, plan_in, can_change, takes_under, takes}
 
 -- ---- the part of a change that a call's turn can be

@@ -13,7 +13,7 @@ use Rattle.records.specs.declared.Plan.TheVariants.{Refuse, Start, Tell, Enter, 
 use Rattle.model.proofs.Laws.{log_length, log_same, length-on}
 use Rattle.model.proofs.Carried.{same_log, length-appended}
 use Rattle.turns.specs.InLogs.{in_logs}
-use Rattle.log.proofs.Logs.{cut, puts, cut_is, puts_is}
+use Rattle.session_log.proofs.Logs.{cut, puts, cut_is, puts_is}
 
 length-updated : (log : List ℕ) (k v : ℕ) → length (updated log k v) ≡ length log
 unfolding updated

@@ -6,7 +6,7 @@ use native.Mathlib.Numerals.{add-one}
 use native.Mathlib.Omega.{arith}
 use Rattle.model.specs.Buffers.{cell_at}
 use Rattle.model.specs.Search.{below}
-use Rattle.log.proofs.Searches.{below_stop, below_more}
+use Rattle.session_log.proofs.Searches.{below_stop, below_more}
 use Rattle.look_ups.proofs.all_below.Statement.{statement}
 use Rattle.look_ups.proofs.all_below.Tie as tie
 

@@ -6,7 +6,7 @@ use native.Mathlib.Omega.{arith}
 use borrow.Author.Tests.{not-true, not-false}
 use Rattle.model.specs.Buffers.{cell_at}
 use Rattle.model.specs.Search.{below}
-use Rattle.log.proofs.Searches.{below_fails}
+use Rattle.session_log.proofs.Searches.{below_fails}
 use Rattle.look_ups.proofs.all_below_by_fours.Statement.{statement}
 use Rattle.look_ups.proofs.all_below_by_fours.Tie as tie
 

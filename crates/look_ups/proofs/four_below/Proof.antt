@@ -5,7 +5,7 @@ use mathlib.Core.Path.{◌≡◌, refl, sym}
 use native.Mathlib.Omega.{arith}
 use Rattle.model.specs.Buffers.{cell_at}
 use Rattle.model.specs.Search.{below}
-use Rattle.log.proofs.Searches.{below_stop, below_past}
+use Rattle.session_log.proofs.Searches.{below_stop, below_past}
 use Rattle.look_ups.proofs.four_below.Statement.{statement}
 use Rattle.look_ups.proofs.four_below.Tie as tie
 

@@ -4,7 +4,7 @@ use mathlib.Core.Option.{none}
 use mathlib.Core.Path.{◌≡◌}
 use native.Mathlib.Omega.{arith}
 use Rattle.model.specs.Buffers.{slot_in}
-use Rattle.log.proofs.Searches.{located_among, located_missed, located_nowhere}
+use Rattle.session_log.proofs.Searches.{located_among, located_missed, located_nowhere}
 use Rattle.look_ups.proofs.locate.Statement.{statement}
 use Rattle.look_ups.proofs.locate.Tie as tie
 

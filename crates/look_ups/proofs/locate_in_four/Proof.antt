@@ -4,7 +4,7 @@ use mathlib.Core.Option.{none}
 use mathlib.Core.Path.{◌≡◌, refl, sym, ◌∙◌}
 use native.Mathlib.Omega.{arith}
 use Rattle.model.specs.Buffers.{slot_in}
-use Rattle.log.proofs.Searches.{slot_past, located_here, located_nowhere}
+use Rattle.session_log.proofs.Searches.{slot_past, located_here, located_nowhere}
 use Rattle.look_ups.proofs.locate_in_four.Statement.{statement}
 use Rattle.look_ups.proofs.locate_in_four.Tie as tie
 

@@ -1,5 +1,5 @@
 -- The session's log is lent on as a part of the logs.
-use Rattle.log.proofs.Logs.{log_fits}
+use Rattle.session_log.proofs.Logs.{log_fits}
 use Rattle.many_reads.proofs.InLogs.{put_in_logs, in_part}
 use borrow.Author.Rules.{rules}
 use Rattle.many_reads.proofs.read_in.Statement.{statement}

@@ -3,7 +3,7 @@ use mathlib.Core.Path.{sym, ◌∙◌}
 use native.Mathlib.Omega.{arith}
 use borrow.Author.Tests.{not-true, not-false}
 use Rattle.model.specs.Plans.{hold_plan}
-use Rattle.log.proofs.Searches.{known_within, unknown_past}
+use Rattle.session_log.proofs.Searches.{known_within, unknown_past}
 use Rattle.refusals.proofs.Ways.{run_refused, few, room, inside, outside}
 use Rattle.plans.proofs.Ways.{hold_known, hold_new}
 use borrow.Author.Rules.{rules}

@@ -3,7 +3,7 @@ use mathlib.Core.Path.{sym, ◌∙◌}
 use native.Mathlib.Omega.{arith}
 use borrow.Author.Tests.{not-true, not-false}
 use Rattle.model.specs.Plans.{peek_plan}
-use Rattle.log.proofs.Searches.{known_within, unknown_past}
+use Rattle.session_log.proofs.Searches.{known_within, unknown_past}
 use Rattle.refusals.proofs.Ways.{run_refused, few, room, inside, outside}
 use Rattle.plans.proofs.Ways.{peek_new, peek_written, peek_read}
 use borrow.Author.Rules.{rules}

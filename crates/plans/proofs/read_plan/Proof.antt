@@ -2,7 +2,7 @@
 use mathlib.Core.Path.{sym, ◌∙◌}
 use borrow.Author.Tests.{not-true, not-false}
 use Rattle.model.specs.Plans.{read_plan}
-use Rattle.log.proofs.Searches.{known_within, unknown_past}
+use Rattle.session_log.proofs.Searches.{known_within, unknown_past}
 use Rattle.refusals.proofs.Ways.{run_refused, room, inside, outside}
 use Rattle.plans.proofs.Ways.{read_known, read_new}
 use borrow.Author.Rules.{rules}

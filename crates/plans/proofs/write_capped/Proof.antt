@@ -1,7 +1,7 @@
 -- Each return is a way through `write_plan`.
 use native.Mathlib.Omega.{arith}
 use borrow.Author.Rules.{rules}
-use Rattle.log.proofs.Searches.{known_within, unknown_past}
+use Rattle.session_log.proofs.Searches.{known_within, unknown_past}
 use Rattle.plans.proofs.Ways.{write_above, write_known, write_new}
 use Rattle.plans.proofs.write_capped.Statement.{statement}
 use Rattle.plans.proofs.write_capped.Tie as tie

@@ -1,7 +1,7 @@
 -- `run_changes::entry_cell` meets its contract: the slice that it lends is the session's log.
 use mathlib.Core.Path.{◌∙◌}
 use native.Mathlib.Omega.{arith}
-use Rattle.log.proofs.Logs.{log_long}
+use Rattle.session_log.proofs.Logs.{log_long}
 use borrow.Author.Rules.{rules}
 use Rattle.run_changes.proofs.entry_cell.Statement.{statement}
 use Rattle.run_changes.proofs.entry_cell.Tie as tie

@@ -1,6 +1,6 @@
 -- `run_changes::unpublished_cell` meets its contract: the cell's first entry in the session's log says whether the cell publishes.
 use native.Mathlib.Omega.{arith}
-use Rattle.log.proofs.Logs.{log_long}
+use Rattle.session_log.proofs.Logs.{log_long}
 use Rattle.run_changes.proofs.Cells.{written_cell, unpublished, first_there}
 use borrow.Author.Rules.{rules}
 use Rattle.run_changes.proofs.unpublished_cell.Statement.{statement}

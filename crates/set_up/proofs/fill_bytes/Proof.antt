@@ -5,7 +5,7 @@ use mathlib.Core.List.{◌++◌}
 use native.Mathlib.Omega.{arith}
 use borrow.Author.Rules.{rules}
 use lib.ListN.{length-set, length, drop, replicate}
-use Rattle.log.proofs.Fills.{fill_again, fill_end}
+use Rattle.session_log.proofs.Fills.{fill_again, fill_end}
 use Rattle.set_up.proofs.fill_bytes.Statement.{statement}
 use Rattle.set_up.proofs.fill_bytes.Tie as tie
 

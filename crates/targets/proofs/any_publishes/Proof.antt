@@ -4,8 +4,8 @@ use mathlib.Core.Bool.{false}
 use mathlib.Core.Path.{sym, ◌∙◌, ◌≡◌}
 use native.Mathlib.Omega.{arith}
 use Rattle.model.proofs.Tools.{same}
-use Rattle.log.specs.Slots.{first_publishes}
-use Rattle.log.proofs.Targets.{any_here, any_nowhere}
+use Rattle.session_log.specs.Slots.{first_publishes}
+use Rattle.session_log.proofs.Targets.{any_here, any_nowhere}
 use Rattle.targets.proofs.any_publishes.Statement.{statement}
 use Rattle.targets.proofs.any_publishes.Tie as tie
 

@@ -1,7 +1,7 @@
 -- An entry that publishes, of a cell not below `from`, is the first of its cell where the search among those before it ends at it.
 use borrow.Author.Rules.{rules}
-use Rattle.log.specs.Slots.{first_publishes}
-use Rattle.log.proofs.Targets.{first_found}
+use Rattle.session_log.specs.Slots.{first_publishes}
+use Rattle.session_log.proofs.Targets.{first_found}
 use Rattle.targets.proofs.first_publishes.Statement.{statement}
 use Rattle.targets.proofs.first_publishes.Tie as tie
 

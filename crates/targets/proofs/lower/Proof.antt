@@ -1,7 +1,7 @@
 -- One way through for each return: the cell is below the start, not below the best so far, taken, or not published.
 use mathlib.Core.Path.{sym, ◌∙◌}
 use borrow.Author.Rules.{rules}
-use Rattle.log.proofs.Targets.{lower_before, lower_above, lower_here, lower_unpublished}
+use Rattle.session_log.proofs.Targets.{lower_before, lower_above, lower_here, lower_unpublished}
 use Rattle.targets.proofs.lower.Statement.{statement}
 use Rattle.targets.proofs.lower.Tie as tie
 

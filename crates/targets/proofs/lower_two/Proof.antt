@@ -3,7 +3,7 @@
 use mathlib.Core.Path.{sym, ◌∙◌}
 use borrow.Author.Rules.{rules}
 use borrow.Author.Tests.{not-true, not-false}
-use Rattle.log.proofs.Twos.{two_unpublished, two_before, two_above, two_lower, two_between, two_again}
+use Rattle.session_log.proofs.Twos.{two_unpublished, two_before, two_above, two_lower, two_between, two_again}
 use Rattle.targets.proofs.lower_two.Statement.{statement}
 use Rattle.targets.proofs.lower_two.Tie as tie
 

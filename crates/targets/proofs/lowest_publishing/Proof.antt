@@ -2,8 +2,8 @@
 use Prim.Native.Nat.{◌≤◌, ◌-◌}
 use mathlib.Core.Path.{refl, ◌∙◌, ◌≡◌}
 use native.Mathlib.Omega.{arith}
-use Rattle.log.specs.Slots.{lowest_publishing}
-use Rattle.log.proofs.Targets.{publishing_more}
+use Rattle.session_log.specs.Slots.{lowest_publishing}
+use Rattle.session_log.proofs.Targets.{publishing_more}
 use Rattle.targets.proofs.lowest_publishing.Statement.{statement}
 use Rattle.targets.proofs.lowest_publishing.Tie as tie
 

@@ -2,7 +2,7 @@
 use Prim.Native.Nat.{◌≤◌, ◌-◌}
 use mathlib.Core.Path.{refl, ◌≡◌}
 use native.Mathlib.Omega.{arith}
-use Rattle.log.specs.Slots.{lowest_publishing, LowestTwo}
+use Rattle.session_log.specs.Slots.{lowest_publishing, LowestTwo}
 use Rattle.targets.proofs.lowest_two.Statement.{statement}
 use Rattle.targets.proofs.lowest_two.Tie as tie
 

@@ -3,7 +3,7 @@ use native.Mathlib.Numerals.{add-one}
 use native.Mathlib.Omega.{arith}
 use borrow.Author.Rules.{rules}
 use Rattle.model.proofs.Laws.{below_is}
-use Rattle.log.proofs.Twos.{next_none, next_some}
+use Rattle.session_log.proofs.Twos.{next_none, next_some}
 use Rattle.targets.proofs.next_by_target.Statement.{statement}
 use Rattle.targets.proofs.next_by_target.Tie as tie
 

@@ -2,8 +2,8 @@
 use mathlib.Core.Path.{sym, ◌∙◌}
 use native.Mathlib.Omega.{arith}
 use borrow.Author.Rules.{rules}
-use Rattle.log.proofs.Targets.{turn_inside}
-use Rattle.log.proofs.Twos.{two_none, two_last, two_more}
+use Rattle.session_log.proofs.Targets.{turn_inside}
+use Rattle.session_log.proofs.Twos.{two_none, two_last, two_more}
 use Rattle.targets.proofs.next_two.Statement.{statement}
 use Rattle.targets.proofs.next_two.Tie as tie
 

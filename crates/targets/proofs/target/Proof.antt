@@ -2,8 +2,8 @@
 use Prim.Native.Nat.{◌-◌}
 use mathlib.Core.Path.{refl, sym, ◌∙◌, ◌≡◌}
 use native.Mathlib.Omega.{arith}
-use Rattle.log.specs.Slots.{targetSlot}
-use Rattle.log.proofs.Targets.{turn-ends, turn-here, turn-next, turn_inside, turn-from}
+use Rattle.session_log.specs.Slots.{targetSlot}
+use Rattle.session_log.proofs.Targets.{turn-ends, turn-here, turn-next, turn_inside, turn-from}
 use Rattle.targets.proofs.target.Statement.{statement}
 use Rattle.targets.proofs.target.Tie as tie
 

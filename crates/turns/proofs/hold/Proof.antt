@@ -1,5 +1,5 @@
 -- The session's log is lent on as a part of the logs.
-use Rattle.log.proofs.Logs.{cut_is, cut_long, log_fits}
+use Rattle.session_log.proofs.Logs.{cut_is, cut_long, log_fits}
 use Rattle.turns.proofs.InLogs.{put_in}
 use borrow.Author.Rules.{rules}
 use Rattle.turns.proofs.hold.Statement.{statement}

@@ -5,8 +5,8 @@ use lib.ListN.{set}
 use lib.Dec.{lit<, lit≤}
 use Rattle.model.specs.Buffers.{log_in, word, cell_at, slot_in}
 use Rattle.model.specs.Search.{find, or_else}
-use Rattle.log.specs.FirstEntry.{IsPlace}
-use Rattle.log.specs.LookUps.{small, Rows, OwnRows}
+use Rattle.session_log.specs.FirstEntry.{IsPlace}
+use Rattle.session_log.specs.LookUps.{small, Rows, OwnRows}
 
 pub rows_hold : Rows
 unfolding slot_in find or_else cell_at word

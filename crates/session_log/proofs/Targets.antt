@@ -14,8 +14,8 @@ use Rattle.model.specs.Buffers.{cell_at, entry_at, entry_of, slot_in, look_in, p
 use Rattle.model.specs.Search.{some?, lowest, below}
 use Rattle.model.proofs.Laws.{find_some, find_none, Low, lowest_is, below_is}
 use Rattle.model.proofs.Tools.{same, split, test, which, nothing, clash, both_l, both_r, and-false}
-use Rattle.log.specs.Slots.{found, better, lowest_publishing, slot_of, target_slot, first_publishes}
-use Rattle.log.proofs.Searches.{find_here, find_up, find_before}
+use Rattle.session_log.specs.Slots.{found, better, lowest_publishing, slot_of, target_slot, first_publishes}
+use Rattle.session_log.proofs.Searches.{find_here, find_up, find_before}
 
 -- ---- what a search answers
 

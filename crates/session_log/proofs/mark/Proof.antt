@@ -1,8 +1,8 @@
 -- The store is that of the definition.
 use borrow.Author.Rules.{rules}
-use Rattle.log.proofs.Searches.{mark_stores}
-use Rattle.log.proofs.mark.Statement.{statement}
-use Rattle.log.proofs.mark.Tie as tie
+use Rattle.session_log.proofs.Searches.{mark_stores}
+use Rattle.session_log.proofs.mark.Statement.{statement}
+use Rattle.session_log.proofs.mark.Tie as tie
 
 returns : tie.Need-returns
 returns c = mark_stores _ _

@@ -10,8 +10,8 @@ use borrow.Author.Tests.{lt-ltb, le-ltb, ltb-true, ltb-false}
 use Rattle.model.specs.Buffers.{cell_at, entry_at, slot_in, publishes, target_in}
 use Rattle.model.specs.Search.{some?, below}
 use Rattle.model.proofs.Tools.{test, which}
-use Rattle.log.specs.Slots.{found, better, lowest_publishing, slot_of, target_slot, is_more, LowestTwo, IsNext}
-use Rattle.log.proofs.Targets.{LowestPublishing, lowest_publishing_lem, lowest_r, lower_before, lower_above, lower_here, lower_unpublished, publishing_more, written_first, slot_some, target_some, turn_slot, turn_inside, turn_ends, turn_here}
+use Rattle.session_log.specs.Slots.{found, better, lowest_publishing, slot_of, target_slot, is_more, LowestTwo, IsNext}
+use Rattle.session_log.proofs.Targets.{LowestPublishing, lowest_publishing_lem, lowest_r, lower_before, lower_above, lower_here, lower_unpublished, publishing_more, written_first, slot_some, target_some, turn_slot, turn_inside, turn_ends, turn_here}
 
 module _ (log : List ℕ) where
   -- ---- a start that is raised up to the lowest cell leaves it the lowest

@@ -1,8 +1,8 @@
 -- An entry publishes by its marks, and where it is written and not held by its values.
 use borrow.Author.Rules.{rules}
-use Rattle.log.proofs.Searches.{word_at, unmarked, held, written}
-use Rattle.log.proofs.publishes.Statement.{statement}
-use Rattle.log.proofs.publishes.Tie as tie
+use Rattle.session_log.proofs.Searches.{word_at, unmarked, held, written}
+use Rattle.session_log.proofs.publishes.Statement.{statement}
+use Rattle.session_log.proofs.publishes.Tie as tie
 
 returns : tie.Need-returns
 returns c = unmarked _ _ (rw word_at c.if1.true)

@@ -2,9 +2,9 @@
 use native.Mathlib.Omega.{arith}
 use lib.ListN.{length-set}
 use borrow.Author.Rules.{rules}
-use Rattle.log.proofs.Searches.{append_stores}
-use Rattle.log.proofs.append.Statement.{statement}
-use Rattle.log.proofs.append.Tie as tie
+use Rattle.session_log.proofs.Searches.{append_stores}
+use Rattle.session_log.proofs.append.Statement.{statement}
+use Rattle.session_log.proofs.append.Tie as tie
 
 slice-write-log-2 : tie.Need-slice-write-log-2
 slice-write-log-2 c = simp length-set (omega arith)

@@ -2,9 +2,9 @@
 use native.Mathlib.Omega.{arith}
 use lib.ListN.{length-set}
 use borrow.Author.Rules.{rules}
-use Rattle.log.proofs.Searches.{update_stores}
-use Rattle.log.proofs.update.Statement.{statement}
-use Rattle.log.proofs.update.Tie as tie
+use Rattle.session_log.proofs.Searches.{update_stores}
+use Rattle.session_log.proofs.update.Statement.{statement}
+use Rattle.session_log.proofs.update.Tie as tie
 
 slice-write-log-2 : tie.Need-slice-write-log-2
 slice-write-log-2 c = simp length-set (omega arith)

@@ -5,9 +5,9 @@ use mathlib.Core.List.{◌++◌}
 use native.Mathlib.Omega.{arith}
 use borrow.Author.Rules.{rules}
 use lib.ListN.{length-set, length, drop, replicate}
-use Rattle.log.proofs.Fills.{fill_again, fill_end}
-use Rattle.log.proofs.clear_words.Statement.{statement}
-use Rattle.log.proofs.clear_words.Tie as tie
+use Rattle.session_log.proofs.Fills.{fill_again, fill_end}
+use Rattle.session_log.proofs.clear_words.Statement.{statement}
+use Rattle.session_log.proofs.clear_words.Tie as tie
 
 abbrev invariant-loop : tie.invariant-loop
 invariant-loop s₀ i₀ s i = (i ≤ length s₀) × (length s ≡ length s₀) × (s ≡ replicate i 0 ++ drop i s₀)

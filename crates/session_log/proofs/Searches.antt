@@ -14,7 +14,7 @@ use Rattle.model.specs.Readers.{odd}
 use Rattle.model.specs.Search.{or_else, find, below}
 use Rattle.model.proofs.Laws.{find_some}
 use Rattle.model.proofs.Tools.{same, which, and-false}
-use Rattle.log.specs.Slots.{found, Locates}
+use Rattle.session_log.specs.Slots.{found, Locates}
 
 -- ---- the words of a log
 

@@ -1,9 +1,9 @@
 -- Entry k's cell is the word at 4 × k.
 use mathlib.Core.Path.{sym}
 use borrow.Author.Rules.{rules}
-use Rattle.log.proofs.Searches.{cell_word}
-use Rattle.log.proofs.cell_at.Statement.{statement}
-use Rattle.log.proofs.cell_at.Tie as tie
+use Rattle.session_log.proofs.Searches.{cell_word}
+use Rattle.session_log.proofs.cell_at.Statement.{statement}
+use Rattle.session_log.proofs.cell_at.Tie as tie
 
 mul-result : tie.Need-overflow-mul-result
 mul-result c = search rules

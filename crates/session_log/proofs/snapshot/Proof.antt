@@ -2,9 +2,9 @@
 use mathlib.Core.Path.{sym}
 use borrow.Author.Rules.{rules}
 use Rattle.model.specs.Buffers.{entry_at}
-use Rattle.log.proofs.Searches.{word_at}
-use Rattle.log.proofs.snapshot.Statement.{statement}
-use Rattle.log.proofs.snapshot.Tie as tie
+use Rattle.session_log.proofs.Searches.{word_at}
+use Rattle.session_log.proofs.snapshot.Statement.{statement}
+use Rattle.session_log.proofs.snapshot.Tie as tie
 
 mul-result : tie.Need-overflow-mul-result
 mul-result c = search rules

@@ -1,5 +1,5 @@
 -- The place that a search answers is that of the cell's first entry, or none exactly where there is none, and the cells of the entries alone decide it
--- (document 02, Paper 3). `found m r ≡ slot_in log m c` is what every search for a cell ensures of its answer r; `log::locate` says besides whether there is a place
+-- (document 02, Paper 3). `found m r ≡ slot_in log m c` is what every search for a cell ensures of its answer r; `session_log::locate` says besides whether there is a place
 -- (`Locates`).
 use Prim.Native.Nat.{ℕ, ◌+◌, ◌*◌, ◌-◌, ◌<◌, ◌≤◌}
 use mathlib.Core.Bool.{Bool, true, false}
@@ -14,10 +14,10 @@ use borrow.Author.Tests.{lt-ltb, le-ltb, ltb-true, ltb-false}
 use Rattle.model.specs.Buffers.{log_in, cell_at, slot_in}
 use Rattle.model.proofs.Laws.{find_ext}
 use Rattle.model.proofs.Tools.{which, test}
-use Rattle.log.specs.Slots.{found, Locates}
-use Rattle.log.specs.FirstEntry.{FirstEntry, NoEntry, IsPlace, SameCells}
-use Rattle.log.proofs.Searches.{cell_word, find_before, known_within, unknown_past}
-use Rattle.log.proofs.Targets.{slot_some, slot_none}
+use Rattle.session_log.specs.Slots.{found, Locates}
+use Rattle.session_log.specs.FirstEntry.{FirstEntry, NoEntry, IsPlace, SameCells}
+use Rattle.session_log.proofs.Searches.{cell_word, find_before, known_within, unknown_past}
+use Rattle.session_log.proofs.Targets.{slot_some, slot_none}
 
 module _ (log : List ℕ) (m c : ℕ) where
   -- ---- the model's search
