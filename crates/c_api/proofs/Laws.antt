@@ -12,20 +12,20 @@ use Rattle.records.specs.declared.Call.{Call}
 use Rattle.records.specs.declared.Plan.{Plan}
 use Rattle.records.specs.declared.Plan.TheVariants.{Refuse, ShowStore, ShowLog}
 use Rattle.numbers.specs.declared.NumberReply.{NumberReply}
-use Rattle.numbers.specs.Answers.{numbersOf}
+use Rattle.numbers.specs.Answers.{numbers_of}
 use Rattle.c_api.specs.InNumbers.{replied, in_numbers, at, place_of}
 
 pub in_numbers_lem : (a : Answer) (σ : Store) (o : Outcome) (n v : ℕ) → outcome a σ ≡ o → n ≡ number a → v ≡ value_of a → replied n v σ ≡ in_numbers o
 in_numbers_lem a σ o n v e p q = rw (p, q) (ap in_numbers e)
 
 -- a call on one record: what the store's function replied, in numbers; under the limits G, and handed no table
-pub told_under : (G : Limits) (k : Call) (B C : Buffers) (x : Session) (r : SessionReply) (n : NumberReply) → n ≡ numbersOf r → TakesUnder G k B x r.answer C r.session
+pub told_under : (G : Limits) (k : Call) (B C : Buffers) (x : Session) (r : SessionReply) (n : NumberReply) → n ≡ numbers_of r → TakesUnder G k B x r.answer C r.session
     → (ss : Sessions) → session_at ss (session_of k % 16) ≡ x
     → replied n.number n.value (record { lent = C; limits = G; sessions = with_session ss (session_of k % 16) n.session })
     ≡ in_numbers (effect k (record { lent = B; limits = G; sessions = ss }))
 told_under G k B C x r n e t ss o = rw e (ap in_numbers (t ss o))
 
-pub told : (k : Call) (B C : Buffers) (x : Session) (r : SessionReply) (n : NumberReply) → n ≡ numbersOf r → TakesRecord k B x r.answer C r.session
+pub told : (k : Call) (B C : Buffers) (x : Session) (r : SessionReply) (n : NumberReply) → n ≡ numbers_of r → TakesRecord k B x r.answer C r.session
     → (G : Limits) → GoesBy k G → (ss : Sessions) → session_at ss (session_of k % 16) ≡ x
     → replied n.number n.value (record { lent = C; limits = G; sessions = with_session ss (session_of k % 16) n.session })
     ≡ in_numbers (effect k (record { lent = B; limits = G; sessions = ss }))

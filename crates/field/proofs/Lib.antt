@@ -1,4 +1,4 @@
--- Laws that the proofs of the functions cite (up to `Writings`), and the theorems on fields (`RoundTrip`, `Files`, `Worked`, and in `Readings`
+-- Laws of bodies, of the table, of the reader and of the writer (up to `Writings`), and the theorems on fields (`RoundTrip`, `Files`, `Worked`, and in `Readings`
 -- that on a refusal's place).
 pub mod Bodies
 pub mod Rows

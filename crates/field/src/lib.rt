@@ -86,8 +86,8 @@ pub const SHORT_TARGET: u8 = 13;
 
 // The numbers of the body that starts at `at`.
 fn read_body(bytes: &[u8], at: usize, tag: u8, own: Layout) -> Call
-    requires fact_1 { Proper own }
-    requires fact_2 { at + own.length ≤ length bytes.now }
+    requires proper { Proper own }
+    requires room { at + own.length ≤ length bytes.now }
     ensures { result ≡ call_at bytes.now at tag own }
 {
     let class_at = at + own.session;
@@ -135,8 +135,8 @@ pub fn read_field(bytes: &[u8], place: usize) -> Reading
 
 // Puts the numbers of `call` into the body, which starts at index 3.
 fn write_body(target: &mut [u8], own: Layout, call: Call)
-    requires fact_1 { Proper own }
-    requires fact_2 { 3 + own.length ≤ length target.old }
+    requires proper { Proper own }
+    requires room { 3 + own.length ≤ length target.old }
     ensures { target.new ≡ sets target.old 3 (body_of own call) }
 {
     let class_at = 3 + own.session;

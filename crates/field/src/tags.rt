@@ -27,6 +27,7 @@ fn known(
 }
 
 // The layout of a tag, by the tag byte.
+#[tactic(auto, unfolding(crate::specs::Table::layout_of, crate::specs::Table::find, crate::specs::Table::table))]
 pub(crate) fn layout_of(tag: u8) -> TagLayout
     ensures { result ≡ layout_of tag }
 {

@@ -9,6 +9,7 @@ use field::{Call, Reading, read_field, write_field};
 
 // Reads the field at `place`. With 100 the lent numbers are the call's, and `length` is the field's. With 106, 10, 11 and 12 they are as
 // before; the place of the refused field's first byte is `place`.
+#[tactic(auto, unfolding(field::specs::Exported::handing))]
 pub fn read(
     bytes: &[u8],
     place: usize,

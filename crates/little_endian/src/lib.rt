@@ -25,8 +25,8 @@ pub fn wide(x: u16) -> usize
 
 // The number in one byte, or in none, at `at`.
 pub fn byte_at(bytes: &[u8], at: usize, width: usize) -> u8
-    requires fact_1 { Whole 1 width }
-    requires fact_2 { at + width ≤ length bytes.now }
+    requires whole { Whole 1 width }
+    requires room { at + width ≤ length bytes.now }
     ensures { result ≡ number_at bytes.now at width }
 {
     if width == 0 {
@@ -37,8 +37,8 @@ pub fn byte_at(bytes: &[u8], at: usize, width: usize) -> u8
 
 // The number in two bytes, or in none, from `at`.
 pub fn word_at(bytes: &[u8], at: usize, width: usize) -> u16
-    requires fact_1 { Whole 2 width }
-    requires fact_2 { at + width ≤ length bytes.now }
+    requires whole { Whole 2 width }
+    requires room { at + width ≤ length bytes.now }
     ensures { result ≡ number_at bytes.now at width }
 {
     if width == 0 {
@@ -49,8 +49,8 @@ pub fn word_at(bytes: &[u8], at: usize, width: usize) -> u16
 
 // The number in four bytes, or in none, from `at`.
 pub fn long_at(bytes: &[u8], at: usize, width: usize) -> u32
-    requires fact_1 { Whole 4 width }
-    requires fact_2 { at + width ≤ length bytes.now }
+    requires whole { Whole 4 width }
+    requires room { at + width ≤ length bytes.now }
     ensures { result ≡ number_at bytes.now at width }
 {
     if width == 0 {
@@ -63,8 +63,8 @@ pub fn long_at(bytes: &[u8], at: usize, width: usize) -> u32
 
 // Puts a number into one byte, or into none, at `at`.
 pub fn put_byte(target: &mut [u8], at: usize, width: usize, x: u8)
-    requires fact_1 { Whole 1 width }
-    requires fact_2 { at + width ≤ length target.old }
+    requires whole { Whole 1 width }
+    requires room { at + width ≤ length target.old }
     ensures { target.new ≡ sets target.old at (bytes_of width x) }
 {
     if width == 0 {
@@ -75,8 +75,8 @@ pub fn put_byte(target: &mut [u8], at: usize, width: usize, x: u8)
 
 // Puts a number into two bytes, or into none, from `at`.
 pub fn put_word(target: &mut [u8], at: usize, width: usize, x: u16)
-    requires fact_1 { Whole 2 width }
-    requires fact_2 { at + width ≤ length target.old }
+    requires whole { Whole 2 width }
+    requires room { at + width ≤ length target.old }
     ensures { target.new ≡ sets target.old at (bytes_of width x) }
 {
     if width == 0 {
@@ -88,8 +88,8 @@ pub fn put_word(target: &mut [u8], at: usize, width: usize, x: u16)
 
 // Puts a number into four bytes, or into none, from `at`.
 pub fn put_long(target: &mut [u8], at: usize, width: usize, x: u32)
-    requires fact_1 { Whole 4 width }
-    requires fact_2 { at + width ≤ length target.old }
+    requires whole { Whole 4 width }
+    requires room { at + width ≤ length target.old }
     ensures { target.new ≡ sets target.old at (bytes_of width x) }
 {
     if width == 0 {

@@ -51,6 +51,7 @@ told_at_not (inl e) = eqb-false 4 3 refl e.0
 told_at_not (inr (inl e)) = clash false e.1 refl
 told_at_not (inr (inr (inl e))) = clash false e.1 refl
 told_at_not (inr (inr (inr (inl e)))) = clash false e.1 refl
+told_at_not (inr (inr (inr (inr x)))) = elim x [ ]
 
 -- session 0's commit, at place 4, is one to cell 1 and to no other, and before place 5 and not before place 4; the reader's is to no cell
 pub commits_to : CommitsTo first committing 1 5 (name 1 0)

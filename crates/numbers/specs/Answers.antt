@@ -7,43 +7,43 @@ use Rattle.records.specs.Records.{number, value_of}
 use Rattle.numbers.specs.declared.NumberReply.{NumberReply}
 
 -- a reply in numbers
-abbrev pub numbersOf : SessionReply → NumberReply
-numbersOf r = record { number = number r.answer; value = value_of r.answer; session = r.session }
+abbrev pub numbers_of : SessionReply → NumberReply
+numbers_of r = record { number = number r.answer; value = value_of r.answer; session = r.session }
 
 -- the number of a refusal, 0 of any other answer
-abbrev pub refusalOf : Answer → ℕ
-refusalOf Done = 0
-refusalOf (Value v) = 0
-refusalOf Sealed = 0
-refusalOf Moved = 0
-refusalOf (Waiting k) = 0
-refusalOf Committed = 0
-refusalOf (Refused k) = k
+abbrev pub refusal_of : Answer → ℕ
+refusal_of Done = 0
+refusal_of (Value v) = 0
+refusal_of Sealed = 0
+refusal_of Moved = 0
+refusal_of (Waiting k) = 0
+refusal_of Committed = 0
+refusal_of (Refused k) = k
 
 -- the answers that a begin, a read or a hold, and a seal give
-abbrev pub ofBegin : Answer → Bool
-ofBegin Done = true
-ofBegin (Value v) = false
-ofBegin Sealed = false
-ofBegin Moved = false
-ofBegin (Waiting k) = false
-ofBegin Committed = false
-ofBegin (Refused k) = true
+abbrev pub of_begin : Answer → Bool
+of_begin Done = true
+of_begin (Value v) = false
+of_begin Sealed = false
+of_begin Moved = false
+of_begin (Waiting k) = false
+of_begin Committed = false
+of_begin (Refused k) = true
 
-abbrev pub ofRead : Answer → Bool
-ofRead Done = false
-ofRead (Value v) = true
-ofRead Sealed = false
-ofRead Moved = false
-ofRead (Waiting k) = false
-ofRead Committed = false
-ofRead (Refused k) = true
+abbrev pub of_read : Answer → Bool
+of_read Done = false
+of_read (Value v) = true
+of_read Sealed = false
+of_read Moved = false
+of_read (Waiting k) = false
+of_read Committed = false
+of_read (Refused k) = true
 
-abbrev pub ofSeal : Answer → Bool
-ofSeal Done = false
-ofSeal (Value v) = false
-ofSeal Sealed = true
-ofSeal Moved = false
-ofSeal (Waiting k) = false
-ofSeal Committed = true
-ofSeal (Refused k) = true
+abbrev pub of_seal : Answer → Bool
+of_seal Done = false
+of_seal (Value v) = false
+of_seal Sealed = true
+of_seal Moved = false
+of_seal (Waiting k) = false
+of_seal Committed = true
+of_seal (Refused k) = true

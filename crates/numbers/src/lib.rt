@@ -2,7 +2,7 @@
 #![tactic(auto)]
 
 ghost use Rattle.std.specs.Prelude.{◌≡◌, true};
-ghost use Rattle.numbers.specs.Answers.{numbersOf, refusalOf, ofBegin, ofRead, ofSeal};
+ghost use Rattle.numbers.specs.Answers.{numbers_of, refusal_of, of_begin, of_read, of_seal};
 ghost use Rattle.numbers.specs.Places.{ShownAt};
 
 use records::{Answer, Session, SessionReply, Sessions};
@@ -27,7 +27,7 @@ pub struct SetUpReply {
 
 // An answer in numbers.
 pub fn in_numbers(r: SessionReply) -> NumberReply
-    ensures { result ≡ numbersOf r }
+    ensures { result ≡ numbers_of r }
 {
     let answer = r.answer;
     let x = r.session;
@@ -40,8 +40,8 @@ pub fn in_numbers(r: SessionReply) -> NumberReply
 
 // The same for begin, and below for read and seal, each by the answers that it gives: one test or two in place of a jump by the tag.
 pub fn begin_in_numbers(r: SessionReply) -> NumberReply
-    requires { ofBegin r.answer ≡ true }
-    ensures { result ≡ numbersOf r }
+    requires { of_begin r.answer ≡ true }
+    ensures { result ≡ numbers_of r }
 {
     let answer = r.answer;
     let session = r.session;
@@ -61,7 +61,7 @@ pub fn begin_in_numbers(r: SessionReply) -> NumberReply
 
 // The number of a refusal, 0 of any other answer.
 pub fn refusal(answer: Answer) -> u32
-    ensures { result ≡ refusalOf answer }
+    ensures { result ≡ refusal_of answer }
 {
     if let Answer::Refused(number) = answer {
         return number as u32;
@@ -70,8 +70,8 @@ pub fn refusal(answer: Answer) -> u32
 }
 
 pub fn read_in_numbers(r: SessionReply) -> NumberReply
-    requires { ofRead r.answer ≡ true }
-    ensures { result ≡ numbersOf r }
+    requires { of_read r.answer ≡ true }
+    ensures { result ≡ numbers_of r }
 {
     let answer = r.answer;
     let session = r.session;
@@ -90,8 +90,8 @@ pub fn read_in_numbers(r: SessionReply) -> NumberReply
 }
 
 pub fn seal_in_numbers(r: SessionReply) -> NumberReply
-    requires { ofSeal r.answer ≡ true }
-    ensures { result ≡ numbersOf r }
+    requires { of_seal r.answer ≡ true }
+    ensures { result ≡ numbers_of r }
 {
     let answer = r.answer;
     let session = r.session;
