@@ -6,10 +6,9 @@ use mathlib.Core.List.{List, []}
 use Prim.Native.Nat.{ℕ, ◌+◌, ◌*◌, ◌-◌, ◌%◌, ◌<◌, ◌≤◌}
 use native.Mathlib.Omega.{arith}
 use borrow.Author.Tests.{ltb-true, eqb-true}
-use borrow.Rule.Slice.PartAt.{sl_part}
+use borrow.Rule.Slice.PartAt.{sl_partˢ}
 use borrow.Rule.Slice.Shared.{by_size}
-use base.Fml.{GName}
-use denote.Ref.{Bor, MutBor}
+use denote.Ref.{Bor}
 use lib.Dec.{T, ltb, eqb}
 use lib.ListN.{length, take, drop, replicate, get_or-replicate, length-take, length-drop}
 use Rattle.model.specs.Buffers.{Buffers, Limits, ours, Store, size, idle, session_at, entry_at, slot_in, lengths_fit}
@@ -96,8 +95,8 @@ module _ {σ : Store} {s c : ℕ} {p : Plan} where
 -- ---- what each hands back and answers
 
 -- one word from a place i inside, as the code takes it, is the slice's own
-one : (v : MutBor (List ℕ)) (i : ℕ) → i + 1 ≤ length v.now → (γ : GName) → PartOf v i 1 (sl_part v (by_size 4 i v.ref_ptr.1) i (i + 1) γ)
-one v i h γ =
+one : (v : Bor (List ℕ)) (i : ℕ) → i + 1 ≤ length v.now → PartOf v i 1 (sl_partˢ v (by_size 4 i v.ref_ptr.1) i (i + 1))
+one v i h =
     let e : i + 1 - i ≡ 1 = omega arith in
     record {
       block = refl;
@@ -129,15 +128,15 @@ module _ (σ : Store) (s c : ℕ) (p : Plan) (e : p ≡ plan_of (Peek s c) σ) w
   pub peek_neither : Passed 14 p → Passed 15 p → (r : ℕ) × (p ≡ Refuse r)
   peek_neither = of_neither way
 
-  module _ (v logs : MutBor (List ℕ)) where
-    pub hands_store : σ.lent.values ≡ v.now → (k : ℕ) → p ≡ ShowStore k → (γ : GName) → IsPart v logs (peek_shows s c σ) (sl_part v (by_size 4 c v.ref_ptr.1) c (c + 1) γ)
+  module _ (v logs : Bor (List ℕ)) where
+    pub hands_store : σ.lent.values ≡ v.now → (k : ℕ) → p ≡ ShowStore k → IsPart v logs (peek_shows s c σ) (sl_partˢ v (by_size 4 c v.ref_ptr.1) c (c + 1))
     unfolding shown
-    hands_store i k f γ = rw (← e, of_store way k f) (one v c (rw i at (peek_inside (ShowStore k) tt f)) γ)
+    hands_store i k f = rw (← e, of_store way k f) (one v c (rw i at (peek_inside (ShowStore k) tt f)))
 
-    pub hands_log : σ.lent.logs ≡ logs.now → (k : ℕ) → p ≡ ShowLog k → (γ : GName)
-        → IsPart v logs (peek_shows s c σ) (sl_part logs (by_size 4 (128 * s + (4 * k + 2)) logs.ptr.1) (128 * s + (4 * k + 2)) (128 * s + (4 * k + 2) + 1) γ)
+    pub hands_log : σ.lent.logs ≡ logs.now → (k : ℕ) → p ≡ ShowLog k
+        → IsPart v logs (peek_shows s c σ) (sl_partˢ logs (by_size 4 (128 * s + (4 * k + 2)) logs.ref_ptr.1) (128 * s + (4 * k + 2)) (128 * s + (4 * k + 2) + 1))
     unfolding shown
-    hands_log i k f γ = rw (← e, f) (one logs (128 * s + (4 * k + 2)) (rw i at (peek_logged k f)) γ)
+    hands_log i k f = rw (← e, f) (one logs (128 * s + (4 * k + 2)) (rw i at (peek_logged k f)))
 
     pub hands_nothing : Passed 14 p → Passed 15 p → (r : Bor (List ℕ)) → r.now ≡ [] → IsPart v logs (peek_shows s c σ) r
     unfolding shown
