@@ -50,7 +50,7 @@ benchmark() {
 
 check "the second program is built" bash -c '. tests/fuzz/build.sh'
 . tests/fuzz/build.sh
-check "the replay is built" test -x target/bin/replay
+check "the replay is built" bash scripts/program
 check "the replay on the fuzzer's corpus" shown corpus
 check "the proved replay on random files" shown "$compare" replays --program "$PWD/target/bin/replay" --mode spawn --seed "$seed" --count "$replays"
 

@@ -1,6 +1,6 @@
 #!/usr/bin/env bash
 # The orders of document 01 that are not starred, run by the proved replay, and the numbers that no replay shows, run by the calls for C; what
-# they print is held to what is stored or said here. rt ci builds the replay.
+# they print is held to what is stored or said here. scripts/program builds the replay.
 set -uo pipefail
 cd "$(dirname "$0")/.."
 

@@ -42,7 +42,7 @@ def expanded(text):
 
 
 def crates():
-    return re.findall(r"^(\w+):", read("crates.txt"), re.M)
+    return re.findall(r"^(\w+)(?: staticlib)?:", read("crates.txt"), re.M)
 
 
 def declared(crate):

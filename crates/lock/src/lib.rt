@@ -47,6 +47,7 @@ pub fn others(readers: u16, session: u8) -> u32
 // ---- a lock
 
 // Somebody is claimant: any byte but 16.
+#[tactic(auto, unfolding(model::specs::Plans::claimed))]
 pub fn is_claimed(l: Lock) -> bool
     ensures { result ≡ claimed l }
 {
@@ -55,6 +56,7 @@ pub fn is_claimed(l: Lock) -> bool
 }
 
 // The session joins the readers.
+#[tactic(auto, unfolding(model::specs::Buffers::join))]
 pub fn joined(l: Lock, session: u8) -> Lock
     requires { session < 16 }
     ensures { result ≡ join session l }
@@ -67,6 +69,7 @@ pub fn joined(l: Lock, session: u8) -> Lock
 }
 
 // The session leaves the readers.
+#[tactic(auto, unfolding(model::specs::Buffers::leave))]
 pub fn left(l: Lock, session: u8) -> Lock
     requires { session < 16 }
     ensures { result ≡ leave session l }
@@ -79,6 +82,7 @@ pub fn left(l: Lock, session: u8) -> Lock
 }
 
 // The session leaves the readers, and claim and mark go.
+#[tactic(auto, unfolding(model::specs::Buffers::vacate))]
 pub fn vacated(l: Lock, session: u8) -> Lock
     requires { session < 16 }
     ensures { result ≡ vacate session l }
@@ -91,6 +95,7 @@ pub fn vacated(l: Lock, session: u8) -> Lock
 }
 
 // The session leaves the readers, and claim and mark go where the claim is its own.
+#[tactic(auto, unfolding(model::specs::Buffers::withdraw))]
 pub fn withdrawn(l: Lock, session: u8) -> Lock
     requires { session < 16 }
     ensures { result ≡ withdraw session l }
@@ -103,6 +108,7 @@ pub fn withdrawn(l: Lock, session: u8) -> Lock
 }
 
 // The session is claimant.
+#[tactic(auto, unfolding(model::specs::Buffers::claim))]
 pub fn claimed(l: Lock, session: u8) -> Lock
     ensures { result ≡ claim session l }
 {
@@ -114,6 +120,7 @@ pub fn claimed(l: Lock, session: u8) -> Lock
 }
 
 // The session is claimant, with the mark.
+#[tactic(auto, unfolding(model::specs::Buffers::acquire))]
 pub fn acquired(l: Lock, session: u8) -> Lock
     ensures { result ≡ acquire session l }
 {

@@ -1,5 +1,5 @@
 -- The place that a search answers is that of the cell's first entry, or none exactly where there is none, and the cells of the entries alone decide it
--- (document 02, Paper 3). `found m r ≡ slot_in log m c` is what every search for a cell ensures of its answer r; `session_log::locate` says besides whether there is a place
+-- (document 02, Paper 3). `found m r ≡ slot_in log m c` is what every search for a cell ensures of its answer r; `look_ups::locate` says besides whether there is a place
 -- (`Locates`).
 use Prim.Native.Nat.{ℕ, ◌+◌, ◌*◌, ◌-◌, ◌<◌, ◌≤◌}
 use mathlib.Core.Bool.{Bool, true, false}
