@@ -4,6 +4,7 @@
 ghost use Rattle.std.specs.Prelude.{◌≡◌, ◌∷◌, [], ◌++◌, ◌+◌, ◌*◌, ◌≤◌, ◌<◌, length};
 ghost use Rattle.replay_text.specs.Decimal.{decimal};
 ghost use Rattle.replay_text.specs.Lines.{word, space, newline, size_line, set_up_line, field_line, cell_line, answer_line, cell_lines};
+ghost use Rattle.model.specs.Slices.{as_lent};
 ghost use Rattle.lines.specs.Output.{out, put, Puts, stop_line};
 
 use items::Next;
@@ -67,7 +68,7 @@ fn put_text(output: &mut [u8], at: usize, text: &[u8]) -> usize
 // size
 pub fn put_size(output: &mut [u8], at: usize) -> usize
     requires { at + 5 ≤ length output.old }
-    ensures { Puts output at size_line 5 result }
+    ensures { Puts (as_lent output) at size_line 5 result }
 {
     put_text(output, at, b"size\n")
 }
@@ -75,7 +76,7 @@ pub fn put_size(output: &mut [u8], at: usize) -> usize
 // setup N
 pub fn put_set_up(output: &mut [u8], at: usize, n: u8) -> usize
     requires { at + 10 ≤ length output.old }
-    ensures { Puts output at (set_up_line n) 10 result }
+    ensures { Puts (as_lent output) at (set_up_line n) 10 result }
 {
     let a = put_text(output, at, b"setup ");
     put_word(output, a, n as u32, NEWLINE)
@@ -84,7 +85,7 @@ pub fn put_set_up(output: &mut [u8], at: usize, n: u8) -> usize
 // field PLACE N
 fn put_field(output: &mut [u8], at: usize, place: u32, n: u8) -> usize
     requires { (place < 100000) × (at + 16 ≤ length output.old) }
-    ensures { Puts output at (field_line place n) 16 result }
+    ensures { Puts (as_lent output) at (field_line place n) 16 result }
 {
     let a = put_text(output, at, b"field ");
     put_pair(output, a, place, n as u32, NEWLINE)
@@ -93,7 +94,7 @@ fn put_field(output: &mut [u8], at: usize, place: u32, n: u8) -> usize
 // The line of what ends the calls; none where the input ends.
 fn put_stop(output: &mut [u8], at: usize, place: usize, next: Next) -> usize
     requires { (place < 100000) × (at + 16 ≤ length output.old) }
-    ensures { Puts output at (stop_line place next) 16 result }
+    ensures { Puts (as_lent output) at (stop_line place next) 16 result }
 {
     match next {
         Next::Refused { number } => put_field(output, at, place as u32, number),
@@ -110,7 +111,7 @@ fn put_stop(output: &mut [u8], at: usize, place: usize, next: Next) -> usize
 // ORDINAL N VALUE
 fn put_told(output: &mut [u8], at: usize, ordinal: u32, number: u32, value: u32) -> usize
     requires { (ordinal < 100000) × (number < 1000) × (at + 21 ≤ length output.old) }
-    ensures { Puts output at (word ordinal space ++ (word number space ++ word value newline)) 21 result }
+    ensures { Puts (as_lent output) at (word ordinal space ++ (word number space ++ word value newline)) 21 result }
 {
     let a = put_pair(output, at, ordinal, number, SPACE);
     put_word(output, a, value, NEWLINE)
@@ -119,7 +120,7 @@ fn put_told(output: &mut [u8], at: usize, ordinal: u32, number: u32, value: u32)
 // ORDINAL N, and after 101 and 104 the value
 pub fn put_answer(output: &mut [u8], at: usize, ordinal: u32, answer: Answer) -> usize
     requires { (ordinal < 100000) × (at + 21 ≤ length output.old) }
-    ensures { Puts output at (answer_line ordinal answer) 21 result }
+    ensures { Puts (as_lent output) at (answer_line ordinal answer) 21 result }
 {
     let n = answer.number() as u32;
     match answer {
@@ -141,7 +142,7 @@ fn put_cell(output: &mut [u8], at: usize, cell: u32, value: u32) -> usize
 // A line for each cell.
 fn put_cells(output: &mut [u8], at: usize, values: &[u32]) -> usize
     requires { (length values.now ≤ 1024) × (at + 18 * length values.now ≤ length output.old) }
-    ensures { Puts output at (cell_lines 0 values.now) (18 * length values.now) result }
+    ensures { Puts (as_lent output) at (cell_lines 0 values.now) (18 * length values.now) result }
 {
     let mut end = at;
     let mut i = 0;
@@ -155,7 +156,7 @@ fn put_cells(output: &mut [u8], at: usize, values: &[u32]) -> usize
 // The line of what ends the calls, then the cells.
 pub fn put_end(output: &mut [u8], at: usize, place: usize, next: Next, values: &[u32]) -> usize
     requires { (place < 100000) × (length values.now ≤ 1024) × (at + 18448 ≤ length output.old) }
-    ensures { Puts output at (stop_line place next ++ cell_lines 0 values.now) 18448 result }
+    ensures { Puts (as_lent output) at (stop_line place next ++ cell_lines 0 values.now) 18448 result }
 {
     let end = put_stop(output, at, place, next);
     put_cells(output, end, values)

@@ -1,29 +1,26 @@
 -- The line of an answer: the ordinal and the answer's number, and after 101 and 104 the value.
 use Prim.Native.Nat.{ℕ}
 use mathlib.Core.Path.{◌≡◌, refl, sym, ◌∙◌, ap}
-use mathlib.Core.List.{List, [], ◌∷◌, ◌++◌}
-use denote.Enum.Declared.{tag_of}
-use types.Run.{OneOf, miss}
+use mathlib.Core.List.{List, ◌++◌}
 use Rattle.records.specs.declared.Answer.{Answer}
 use Rattle.records.specs.declared.Answer.TheVariants.{Done, Value, Sealed, Moved, Waiting, Committed, Refused}
 use Rattle.model.specs.Effects.{number}
-use Rattle.records.specs.contracts.Answer.{the_type}
 use Rattle.replay_text.specs.Lines.{word, space, newline, answer_words, answer_line}
 
-plain_words : (a : Answer) → OneOf (0 ∷ 2 ∷ 3 ∷ 5 ∷ 6 ∷ []) (tag_of the_type a) → answer_words a ≡ word (number a) newline
+plain_words : (a : Answer) → ((v : ℕ) → a ≡ Value v → ⊥) → ((k : ℕ) → a ≡ Waiting k → ⊥) → answer_words a ≡ word (number a) newline
 unfolding answer_words
-plain_words Done h = refl
-plain_words (Value v) h = absurd (miss (0 ∷ 2 ∷ 3 ∷ 5 ∷ 6 ∷ []) 1 tt h)
-plain_words Sealed h = refl
-plain_words Moved h = refl
-plain_words (Waiting k) h = absurd (miss (0 ∷ 2 ∷ 3 ∷ 5 ∷ 6 ∷ []) 4 tt h)
-plain_words Committed h = refl
-plain_words (Refused k) h = refl
+plain_words Done h w = refl
+plain_words (Value v) h w = absurd (h v refl)
+plain_words Sealed h w = refl
+plain_words Moved h w = refl
+plain_words (Waiting k) h w = absurd (w k refl)
+plain_words Committed h w = refl
+plain_words (Refused k) h w = refl
 
 -- of an answer without a value
-pub plain_line : (i n : ℕ) (a : Answer) → n ≡ number a → OneOf (0 ∷ 2 ∷ 3 ∷ 5 ∷ 6 ∷ []) (tag_of the_type a) → word i space ++ word n newline ≡ answer_line i a
+pub plain_line : (i n : ℕ) (a : Answer) → n ≡ number a → ((v : ℕ) → a ≡ Value v → ⊥) → ((k : ℕ) → a ≡ Waiting k → ⊥) → word i space ++ word n newline ≡ answer_line i a
 unfolding answer_line
-plain_line i n a e h = ap (λ (m : ℕ). word i space ++ word m newline) e ∙ ap (λ (t : List ℕ). word i space ++ t) (sym (plain_words a h))
+plain_line i n a e h w = ap (λ (m : ℕ). word i space ++ word m newline) e ∙ ap (λ (t : List ℕ). word i space ++ t) (sym (plain_words a h w))
 
 -- of a value, and of a wait
 module _ (i n v : ℕ) (a : Answer) (e : n ≡ number a) where

@@ -2,6 +2,7 @@
 #![tactic(auto)]
 
 ghost use Rattle.std.specs.Prelude.{◌≡◌, length, replicate};
+ghost use Rattle.model.specs.Slices.{as_lent};
 ghost use Rattle.contracts.specs.Lent.{SetsUp, SetsUpBy};
 
 use records::{Answer, Reply, Sessions};
@@ -48,7 +49,7 @@ pub fn set_up(
     exclusives: &mut [u8],
     logs: &mut [u32],
 ) -> Reply
-    ensures { SetsUp values classes readers claimants exclusives logs sessions result }
+    ensures { SetsUp values classes (as_lent readers) (as_lent claimants) (as_lent exclusives) (as_lent logs) sessions result }
 {
     if !refusals::lengths_fit(
         values.len(),
@@ -88,7 +89,7 @@ pub fn set_up_with_caps(
     logs: &mut [u32],
     caps: &[u32],
 ) -> Reply
-    ensures { SetsUpBy caps values classes readers claimants exclusives logs sessions result }
+    ensures { SetsUpBy caps values classes (as_lent readers) (as_lent claimants) (as_lent exclusives) (as_lent logs) sessions result }
 {
     if caps.len() != 16 {
         return Reply {
