@@ -5,6 +5,7 @@ ghost use Rattle.std.specs.Prelude.{◌≡◌, true, ◌*◌, ◌<◌, ◌≤◌
 ghost use Rattle.model.specs.Search.{below};
 ghost use Rattle.model.specs.Buffers.{cell_at, slot_in};
 ghost use Rattle.model.specs.ManyReads.{list_refusal};
+ghost use Rattle.model.specs.Slices.{as_lent};
 ghost use Rattle.session_log.specs.Slots.{found};
 ghost use Rattle.cell_reads.specs.Cells.{Covers, Enters, ReadsCell, ReadsCells, Fits};
 
@@ -62,7 +63,7 @@ fn enter(
     cell: u32,
 ) -> u32
     requires { (session < 16) × (count < 32) × (length log.old ≡ 128) × (cell < length values.now) × (length readers.old ≡ length values.now) }
-    ensures { Enters values readers log count session cell result }
+    ensures { Enters values (as_lent readers) (as_lent log) count session cell result }
 {
     let c = cell as usize;
     let value = values[c];
@@ -103,7 +104,7 @@ fn read_cell(
     cell: u32,
 ) -> CellReply
     requires { Fits session (length values.now) (length readers.old) (length claimants.now) log.old count × Covers entered.old log.old count }
-    ensures { ReadsCell values readers claimants log entered count session cell result }
+    ensures { ReadsCell values (as_lent readers) claimants (as_lent log) (as_lent entered) count session cell result }
 {
     let c = cell as usize;
     if values.len() <= c {
@@ -154,7 +155,7 @@ pub fn read_cells(
     target: &mut [u32],
 ) -> CellsReply
     requires { Fits session (length values.now) (length readers.old) (length claimants.now) log.old count × (length cells.now ≤ 32) × (length cells.now ≤ length target.old) }
-    ensures { ReadsCells values readers claimants log count session cells target result }
+    ensures { ReadsCells values (as_lent readers) claimants (as_lent log) count session cells (as_lent target) result }
 {
     let mut entered = [0u64; 16];
     mark_entries(&log[..], count, &mut entered);

@@ -10,8 +10,6 @@ use lib.Dec.{T, leb, eqb}
 use lib.ListN.{length, take, set, length-append}
 use lib.Seq.{take-suc-set, length-take-le}
 use borrow.Author.Tests.{leb-true}
-use denote.Enum.Declared.{tag_of}
-use types.Run.{OneOf, miss}
 use Rattle.field.specs.declared.Kind.{Kind}
 use Rattle.field.specs.declared.Kind.TheVariants as kind
 use Rattle.field.specs.declared.Call.{Call as Numbers}
@@ -28,7 +26,6 @@ use Rattle.items.specs.declared.Next.{Next}
 use Rattle.items.specs.declared.Next.TheVariants as next
 use Rattle.items.specs.Items.{next_of_field, next_of, Item, cell, asked, following, items_within, items_at, values, classes, later}
 use Rattle.items.specs.Leading.{Leading}
-use Rattle.items.specs.contracts.Next.{the_type}
 
 -- ---- every field has a body
 
@@ -134,9 +131,9 @@ pub record Closed (items : List Item) : Type 0 where
   pub classes : classes items ≡ []
   pub later : later items ≡ items
 
-pub closed : (place : ℕ) (x : Next) (f : ℕ → List Item) → OneOf (1 ∷ 2 ∷ 3 ∷ []) (tag_of the_type x) → Closed (following place x f)
+pub closed : (place : ℕ) (x : Next) (f : ℕ → List Item) → ((class value n : ℕ) → x ≡ next.Cell class value n → ⊥) → Closed (following place x f)
 unfolding following values classes later
-closed place (next.Cell class value n) f h = absurd (miss (1 ∷ 2 ∷ 3 ∷ []) 0 tt h)
+closed place (next.Cell class value n) f h = absurd (h class value n refl)
 closed place (next.Call k n) f h = record { values = refl; classes = refl; later = refl }
 closed place next.End f h = record { values = refl; classes = refl; later = refl }
 closed place (next.Refused number) f h = record { values = refl; classes = refl; later = refl }

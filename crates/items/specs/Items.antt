@@ -45,7 +45,7 @@ unfoldable pub items_within : ℕ → List ℕ → ℕ → List Item
 items_within zero bytes place = []
 items_within (suc more) bytes place = following place (next_of (reading_at bytes place)) (items_within more bytes)
 
--- there are not more items than bytes (proofs/Scanning.antt: items-step)
+-- there are not more items than bytes (proofs/Scanning.antt: items_step)
 unfoldable pub items_at : List ℕ → ℕ → List Item
 items_at bytes place = items_within (length bytes) bytes place
 

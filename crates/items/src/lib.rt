@@ -35,6 +35,7 @@ pub enum Cells {
 }
 
 // What a field is to the replay.
+#[tactic(auto, unfolding(crate::specs::Items::next_of_field))]
 fn next_of(kind: Kind, numbers: field::Call, length: usize) -> Next
     ensures { result ≡ next_of_field kind numbers length }
 {
@@ -78,6 +79,7 @@ fn next_of(kind: Kind, numbers: field::Call, length: usize) -> Next
 }
 
 // What stands at a place of the input.
+#[tactic(auto, unfolding(crate::specs::Items::next_of))]
 pub fn next_at(input: &[u8], place: usize) -> Next
     ensures { result ≡ next_of (reading_at input.now place) }
 {

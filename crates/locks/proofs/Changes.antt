@@ -1,11 +1,9 @@
 -- What each change of the locks asks, that the stores at its cell are that change, and that the three functions together carry a change out.
 use Prim.Native.Nat.{ℕ, ◌<◌, ◌≤◌}
-use mathlib.Core.List.{List, [], ◌∷◌}
+use mathlib.Core.List.{List, []}
 use mathlib.Core.Path.{◌≡◌, refl}
 use lib.ListN.{get_or, set}
 use lib.Seq.{set-get_or}
-use types.Run.{OneOf, miss}
-use denote.Enum.Declared.{tag_of}
 use Rattle.model.specs.Buffers.{Locks, lock_at, set_lock, on_lock, join, claim, acquire, vacate}
 use Rattle.model.specs.Effects.{rolled_back, reads_dropped}
 use Rattle.model.specs.Readers.{with_reader, without_reader}
@@ -18,7 +16,6 @@ use Rattle.records.specs.declared.Change.TheVariants.{Keep, Join, Claim, Acquire
 use Rattle.contracts.specs.Lent.{locks_of}
 use Rattle.sweeps.specs.Sweeps.{Swept, DropsReads}
 use Rattle.locks.specs.Changes.{LockFor, one_of, withdraw_of, drop_of, ChangeFits, DropsIf}
-use Rattle.records.specs.contracts.Change as change
 use Rattle.records.proofs.Tags.{Passed, passed, clashes}
 
 -- ---- the lock of a plan
@@ -147,17 +144,17 @@ module _ (d : Change) (s : ℕ) (R C E : List ℕ) where
     unfolding changed one_of on_lock lock_at set_lock vacate
     vacates e v f = rw (e, f)
 
-unwithdrawn : (d : Change) → OneOf (0 ∷ 1 ∷ 2 ∷ 3 ∷ 4 ∷ 6 ∷ []) (tag_of change.the_type d) → withdraw_of d ≡ Keep
+unwithdrawn : (d : Change) → (d ≡ Withdraw → ⊥) → withdraw_of d ≡ Keep
 unfolding withdraw_of
 unwithdrawn Keep h = refl
 unwithdrawn (Join c) h = refl
 unwithdrawn (Claim c) h = refl
 unwithdrawn (Acquire c) h = refl
 unwithdrawn (Vacate c) h = refl
-unwithdrawn Withdraw h = absurd (miss (0 ∷ 1 ∷ 2 ∷ 3 ∷ 4 ∷ 6 ∷ []) 5 tt h)
+unwithdrawn Withdraw h = absurd (h refl)
 unwithdrawn DropReads h = refl
 
-undropped : (d : Change) → OneOf (0 ∷ 1 ∷ 2 ∷ 3 ∷ 4 ∷ 5 ∷ []) (tag_of change.the_type d) → drop_of d ≡ Keep
+undropped : (d : Change) → (d ≡ DropReads → ⊥) → drop_of d ≡ Keep
 unfolding drop_of
 undropped Keep h = refl
 undropped (Join c) h = refl
@@ -165,7 +162,7 @@ undropped (Claim c) h = refl
 undropped (Acquire c) h = refl
 undropped (Vacate c) h = refl
 undropped Withdraw h = refl
-undropped DropReads h = absurd (miss (0 ∷ 1 ∷ 2 ∷ 3 ∷ 4 ∷ 5 ∷ []) 6 tt h)
+undropped DropReads h = absurd (h refl)
 
 module _ (d : Change) (log : List ℕ) (m s : ℕ) where
   pub withdraws : d ≡ Withdraw → (L M : Locks) → M ≡ rolled_back log m s L → M ≡ changed (withdraw_of d) log m s L
@@ -173,11 +170,11 @@ module _ (d : Change) (log : List ℕ) (m s : ℕ) where
   withdraws e L M f = rw e f
 
   -- the match has passed over rolling back, or over sealing
-  pub not_withdraws : OneOf (0 ∷ 1 ∷ 2 ∷ 3 ∷ 4 ∷ 6 ∷ []) (tag_of change.the_type d) → (L : Locks) → L ≡ changed (withdraw_of d) log m s L
+  pub not_withdraws : (d ≡ Withdraw → ⊥) → (L : Locks) → L ≡ changed (withdraw_of d) log m s L
   unfolding changed
   not_withdraws h L = rw (unwithdrawn d h)
 
-  pub not_drops : OneOf (0 ∷ 1 ∷ 2 ∷ 3 ∷ 4 ∷ 5 ∷ []) (tag_of change.the_type d) → (R : List ℕ) → DropsIf d log m s R R
+  pub not_drops : (d ≡ DropReads → ⊥) → (R : List ℕ) → DropsIf d log m s R R
   unfolding changed
   not_drops h R C E p q = rw (undropped d h)
 

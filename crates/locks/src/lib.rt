@@ -3,6 +3,7 @@
 
 ghost use Rattle.std.specs.Prelude.{◌≡◌, [], ◌<◌, length};
 ghost use Rattle.model.specs.Buffers.{lock_at};
+ghost use Rattle.model.specs.Slices.{as_lent};
 ghost use Rattle.contracts.specs.Lent.{locks_before};
 ghost use Rattle.locks.specs.Changes.{LockFor, one_of, ChangeFits, ChangesOne, Withdraws, CarriesOut, DropsIf};
 
@@ -62,7 +63,7 @@ fn change_one(
     session: u8,
 )
     requires { (session < 16) × (ChangeFits (one_of change) session [] 0 (length readers.old)) × (length claimants.old ≡ length readers.old) × (length exclusives.old ≡ length readers.old) }
-    ensures { ChangesOne change session readers claimants exclusives }
+    ensures { ChangesOne change session (as_lent readers) (as_lent claimants) (as_lent exclusives) }
 {
     match change {
         Change::Keep => {}
@@ -102,7 +103,7 @@ fn change_withdraw(
     session: u8,
 )
     requires { (ChangeFits change session log.now count (length readers.old)) × (length claimants.old ≡ length readers.old) × (length exclusives.old ≡ length readers.old) }
-    ensures { Withdraws change log count session readers claimants exclusives }
+    ensures { Withdraws change log count session (as_lent readers) (as_lent claimants) (as_lent exclusives) }
 {
     if let Change::Withdraw = change {
         sweeps::roll_back(log, count, readers, claimants, exclusives, session);
@@ -121,7 +122,7 @@ pub fn carry_out(
     session: u8,
 )
     requires { (session < 16) × (ChangeFits change session log.now count (length readers.old)) × (length claimants.old ≡ length readers.old) × (length exclusives.old ≡ length readers.old) }
-    ensures { CarriesOut change log count session readers claimants exclusives }
+    ensures { CarriesOut change log count session (as_lent readers) (as_lent claimants) (as_lent exclusives) }
 {
     change_one(change, readers, claimants, exclusives, session);
     change_withdraw(change, log, count, readers, claimants, exclusives, session);

@@ -1,7 +1,8 @@
 -- What is lent to a call, as contracts see it: a slice or a number as it is passed and as it is left; of one lent to read, the two are equal. A lent table of
 -- caps as the limits, and the part that a peek hands back, as a place in memory.
 use Rattle.std.specs.Prelude.{◌≡◌, ℕ, ◌+◌, ◌*◌, List, [], length, take, drop}
-use Rattle.std.specs.Borrow.{Bor}
+use Rattle.std.specs.Borrow.{Bor, MutBor}
+use denote.MutBor.{as_bor}
 use denote.Triple.Both.{Both}
 use Rattle.model.specs.Buffers.{Limits}
 use Rattle.model.specs.Effects.{Part, store_word, log_word, no_word}
@@ -11,6 +12,10 @@ Slice = Both (Bor (List ℕ)) (Bor (List ℕ))
 
 abbrev pub Number : Type 0
 Number = Both (Bor ℕ) (Bor ℕ)
+
+-- one lent to be written, as these see it
+abbrev pub as_lent : {A : Type 0} → Both (MutBor A) (MutBor A) → Both (Bor A) (Bor A)
+as_lent x = record { entry = as_bor x.entry; exit = as_bor x.exit }
 
 -- a lent table of caps as the limits, before the call and after it
 abbrev pub caps_before : Slice → Limits

@@ -10,20 +10,20 @@ use Rattle.model.specs.Effects.{number}
 use Rattle.records.specs.contracts.Answer.{the_type}
 use Rattle.replay_text.specs.Lines.{word, space, newline, answer_words, answer_line}
 
-plain-words : (a : Answer) → OneOf (0 ∷ 2 ∷ 3 ∷ 5 ∷ 6 ∷ []) (tag_of the_type a) → answer_words a ≡ word (number a) newline
+plain_words : (a : Answer) → OneOf (0 ∷ 2 ∷ 3 ∷ 5 ∷ 6 ∷ []) (tag_of the_type a) → answer_words a ≡ word (number a) newline
 unfolding answer_words
-plain-words Done h = refl
-plain-words (Value v) h = absurd (miss (0 ∷ 2 ∷ 3 ∷ 5 ∷ 6 ∷ []) 1 tt h)
-plain-words Sealed h = refl
-plain-words Moved h = refl
-plain-words (Waiting k) h = absurd (miss (0 ∷ 2 ∷ 3 ∷ 5 ∷ 6 ∷ []) 4 tt h)
-plain-words Committed h = refl
-plain-words (Refused k) h = refl
+plain_words Done h = refl
+plain_words (Value v) h = absurd (miss (0 ∷ 2 ∷ 3 ∷ 5 ∷ 6 ∷ []) 1 tt h)
+plain_words Sealed h = refl
+plain_words Moved h = refl
+plain_words (Waiting k) h = absurd (miss (0 ∷ 2 ∷ 3 ∷ 5 ∷ 6 ∷ []) 4 tt h)
+plain_words Committed h = refl
+plain_words (Refused k) h = refl
 
 -- of an answer without a value
-pub plain-line : (i n : ℕ) (a : Answer) → n ≡ number a → OneOf (0 ∷ 2 ∷ 3 ∷ 5 ∷ 6 ∷ []) (tag_of the_type a) → word i space ++ word n newline ≡ answer_line i a
+pub plain_line : (i n : ℕ) (a : Answer) → n ≡ number a → OneOf (0 ∷ 2 ∷ 3 ∷ 5 ∷ 6 ∷ []) (tag_of the_type a) → word i space ++ word n newline ≡ answer_line i a
 unfolding answer_line
-plain-line i n a e h = ap (λ (m : ℕ). word i space ++ word m newline) e ∙ ap (λ (t : List ℕ). word i space ++ t) (sym (plain-words a h))
+plain_line i n a e h = ap (λ (m : ℕ). word i space ++ word m newline) e ∙ ap (λ (t : List ℕ). word i space ++ t) (sym (plain_words a h))
 
 -- of a value, and of a wait
 module _ (i n v : ℕ) (a : Answer) (e : n ≡ number a) where
@@ -31,6 +31,6 @@ module _ (i n v : ℕ) (a : Answer) (e : n ≡ number a) where
   unfolding answer_line answer_words
   value_line h = rw (e, h)
 
-  pub wait-line : a ≡ Waiting v → word i space ++ (word n space ++ word v newline) ≡ answer_line i a
+  pub wait_line : a ≡ Waiting v → word i space ++ (word n space ++ word v newline) ≡ answer_line i a
   unfolding answer_line answer_words
-  wait-line h = rw (e, h)
+  wait_line h = rw (e, h)

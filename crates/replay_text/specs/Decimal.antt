@@ -10,6 +10,6 @@ unfoldable pub digits : ℕ → ℕ → List ℕ
 digits zero n = digit n ∷ []
 digits (suc divisions) n = cond (ltb n 10) (digit n ∷ []) (digits divisions (n / 10) ++ digit (n % 10) ∷ [])
 
--- n divisions are enough (proofs/Decimals.antt: decimal-digit, decimal-more)
+-- n divisions are enough (proofs/Decimals.antt: decimal_digit, decimal_more)
 unfoldable pub decimal : ℕ → List ℕ
 decimal n = digits n n

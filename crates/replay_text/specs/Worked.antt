@@ -1,5 +1,5 @@
 -- Worked inputs with what the replay prints, byte by byte (document 01, "Call fields"; document 02, Papers 4 and 6). A new row is written here and nowhere
--- else: that the definitions print it is found by computation (proofs/Worked.antt: worked-print).
+-- else: that the definitions print it is found by computation (proofs/Worked.antt: worked_print).
 use Rattle.std.specs.Prelude.{ℕ, List, [], ◌∷◌, replicate}
 use Rattle.replay_text.specs.Transcript.{transcript}
 

@@ -23,6 +23,7 @@ pub enum Change {
 }
 
 // How many locks are changed, one after the other.
+#[tactic(auto, unfolding(crate::specs::Run::count_of))]
 pub fn count_of(change: Change) -> usize
     ensures { result ≡ count_of change }
 {
@@ -61,6 +62,7 @@ fn unpublished_cell(logs: &[u32], session: u8, m: u8, i: usize) -> usize
 }
 
 // The cell whose lock is changed i-th, from 0.
+#[tactic(auto, unfolding(crate::specs::Run::cell_of, crate::specs::Run::count_of))]
 pub fn cell_of(logs: &[u32], change: Change, i: usize) -> usize
     requires { (ChangeFits logs.now change) × (i < count_of change) }
     ensures { result ≡ cell_of logs.now change i }
@@ -78,6 +80,7 @@ pub fn cell_of(logs: &[u32], change: Change, i: usize) -> usize
 }
 
 // What becomes of a lock.
+#[tactic(auto, unfolding(crate::specs::Run::change_of))]
 pub fn changed(l: Lock, change: Change) -> Lock
     requires { SessionFits change }
     ensures { result ≡ change_of change l }

@@ -4,6 +4,7 @@
 ghost use Rattle.std.specs.Prelude.{◌≡◌, ◌+◌, ◌*◌, ◌<◌, ◌≤◌, length, get_or, set};
 ghost use Rattle.model.specs.Readers.{without_reader};
 ghost use Rattle.model.specs.Buffers.{cell_at, on_lock, withdraw};
+ghost use Rattle.model.specs.Slices.{as_lent};
 ghost use Rattle.contracts.specs.Lent.{locks_before, locks_after};
 ghost use Rattle.sweeps.specs.Sweeps.{Swept, DropsReads, DroppedSoFar, NonePublished, marked, mark, RollsBack, DropsAt};
 
@@ -28,7 +29,7 @@ fn withdraw_at(
     session: u8,
 )
     requires { (session < 16) × (cell < length readers.old) × (length claimants.old ≡ length readers.old) × (length exclusives.old ≡ length readers.old) }
-    ensures { locks_after readers claimants exclusives ≡ on_lock cell (withdraw session) (locks_before readers claimants exclusives) }
+    ensures { locks_after (as_lent readers) (as_lent claimants) (as_lent exclusives) ≡ on_lock cell (withdraw session) (locks_before (as_lent readers) (as_lent claimants) (as_lent exclusives)) }
 {
     leave_at(readers, cell, session);
     let c = cell as usize;
@@ -48,7 +49,7 @@ pub fn roll_back(
     session: u8,
 )
     requires { (Swept session log.now count (length readers.old)) × (length claimants.old ≡ length readers.old) × (length exclusives.old ≡ length readers.old) }
-    ensures { RollsBack log count session readers claimants exclusives }
+    ensures { RollsBack log count session (as_lent readers) (as_lent claimants) (as_lent exclusives) }
 {
     let mut i = 0;
     while i < count {
@@ -85,7 +86,7 @@ pub fn put_mark(cells: &mut [u64; 16], cell: u32)
 // Entry k at sealing: a cell that the entry publishes is marked; of one that it does not publish, and that no entry before it does, the session leaves the readers.
 fn drop_at(log: &[u32], k: usize, readers: &mut [u16], written: &mut [u64; 16], session: u8)
     requires { (session < 16) × (4 * k + 3 < length log.now) × (cell_at log.now k < 1024) × (cell_at log.now k < length readers.old) }
-    ensures { DropsAt log k session written readers }
+    ensures { DropsAt log k session (as_lent written) (as_lent readers) }
 {
     let cell = session_log::cell_at(log, k);
     if session_log::publishes(log, k) {

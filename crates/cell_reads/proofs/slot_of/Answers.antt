@@ -1,0 +1,7 @@
+-- A cell that is not marked is not in the log.
+use Rattle.std.proofs.Common.{sym, ◌∙◌}
+use Rattle.cell_reads.proofs.Marks.{unmarked}
+use Rattle.cell_reads.proofs.slot_of.Goals as goal
+
+pub returns-then-not-is_marked : goal.returns-then-not-is_marked
+returns-then-not-is_marked c = unmarked _ _ _ _ c.requires.2 (sym c.is_marked.ensures ∙ c.if-not-is_marked.true)
