@@ -4,6 +4,7 @@
 #![tactic(auto)]
 
 ghost use Rattle.records.specs.declared.Call.TheVariants.{Write};
+ghost use Rattle.model.specs.Slices.{as_lent};
 ghost use Rattle.lock_records.specs.Lent.{Takes, TakesBy, SetsUp, SetsUpBy, Loads, HandsBack};
 
 use records::{Call, Lock, Reply, Sessions};
@@ -16,7 +17,7 @@ pub fn set_up(
     locks: &mut [Lock],
     logs: &mut [u32],
 ) -> Reply
-    ensures { SetsUp values classes locks logs sessions result }
+    ensures { SetsUp values classes (as_lent locks) (as_lent logs) sessions result }
 {
     let t = run_turns::set_up_turn(sessions, values, classes, locks.len(), logs);
     lock_run::sweep(locks, logs, t.change);
@@ -32,7 +33,7 @@ pub fn set_up_with_caps(
     logs: &mut [u32],
     caps: &[u32],
 ) -> Reply
-    ensures { SetsUpBy caps values classes locks logs sessions result }
+    ensures { SetsUpBy caps values classes (as_lent locks) (as_lent logs) sessions result }
 {
     let t = run_turns::set_up_turn_by(sessions, values, classes, locks.len(), logs, caps);
     lock_run::sweep(locks, logs, t.change);
@@ -49,7 +50,7 @@ pub fn load_caps(
     caps: &mut [u32],
     table: &[u32],
 ) -> Reply
-    ensures { Loads caps table values classes locks logs sessions result }
+    ensures { Loads (as_lent caps) table values classes locks logs sessions result }
 {
     run_turns::load_turn(
         sessions,
@@ -71,7 +72,7 @@ pub fn step(
     locks: &mut [Lock],
     logs: &mut [u32],
 ) -> Reply
-    ensures { Takes call values classes locks logs sessions result }
+    ensures { Takes call (as_lent values) classes (as_lent locks) (as_lent logs) sessions result }
 {
     let cell = run_turns::look_up(
         call,
@@ -99,7 +100,7 @@ pub fn write_with_caps(
     cell: u32,
     value: u32,
 ) -> Reply
-    ensures { TakesBy caps (Write session cell value) values classes locks logs sessions result }
+    ensures { TakesBy caps (Write session cell value) values classes (as_lent locks) (as_lent logs) sessions result }
 {
     let l = lock_run::lock_at(locks, cell as usize);
     let t = run_turns::write_turn(

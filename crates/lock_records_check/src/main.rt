@@ -3,12 +3,13 @@
 // It writes each list as the replay does, with a line for a peek's number too; last, whether the two forms agreed throughout.
 #![tactic(auto)]
 
+ghost use Rattle.model.specs.Slices.{as_lent};
 ghost use Rattle.lock_records.specs.Lent.{TakesRun, SetsUpRun};
 
-use libc::STDOUT_FILENO;
 use records::{Call, Lock, Reply, Session, Sessions};
+use std::io;
 
-// ---- calls on a run that is an array by value, so that whoever calls them is covered
+// ---- calls on a run that is an array by value
 
 // A reply, and the run as it was left.
 #[derive(Clone, Copy)]
@@ -24,7 +25,7 @@ fn set_up_on(
     locks: [Lock; 2],
     logs: &mut [u32],
 ) -> RunReply
-    ensures { SetsUpRun values classes locks result.locks logs sessions result.reply }
+    ensures { SetsUpRun values classes locks result.locks (as_lent logs) sessions result.reply }
 {
     let mut run = locks;
     let reply = lock_records::set_up(sessions, values, classes, &mut run, logs);
@@ -39,7 +40,7 @@ fn step_on(
     locks: [Lock; 2],
     logs: &mut [u32],
 ) -> RunReply
-    ensures { TakesRun call values classes locks result.locks logs sessions result.reply }
+    ensures { TakesRun call (as_lent values) classes locks result.locks (as_lent logs) sessions result.reply }
 {
     let mut run = locks;
     let reply = lock_records::step(call, sessions, values, classes, &mut run, logs);
@@ -164,34 +165,27 @@ fn same_locks(
 
 // ---- what is written
 
-// A number below 1,000 in decimal, and a byte after it.
-fn print(x: u32, after: u8) {
-    if 99 < x {
-        io::write_all(STDOUT_FILENO, &[b'0' + (x / 100 % 10) as u8]);
-    }
-    if 9 < x {
-        io::write_all(STDOUT_FILENO, &[b'0' + (x / 10 % 10) as u8]);
-    }
-    io::write_all(STDOUT_FILENO, &[b'0' + (x % 10) as u8, after]);
+// A number in decimal, and a character after it.
+fn print(rt: &impl Print, x: u32, after: char) -> io::Result<()> {
+    print!(rt; "{x}{after}")
 }
 
-fn print_call(ordinal: u32, r: Reply) {
+fn print_call(rt: &impl Print, ordinal: u32, r: Reply) -> io::Result<()> {
     let answer = r.answer;
-    print(ordinal, b' ');
+    print(rt, ordinal, ' ')?;
     let number = answer.number();
     if (number == 101) | (number == 104) {
-        print(number as u32, b' ');
-        print(answer.value(), b'\n');
-        return;
+        print(rt, number as u32, ' ')?;
+        return print(rt, answer.value(), '\n');
     }
-    print(number as u32, b'\n');
+    print(rt, number as u32, '\n')
 }
 
-fn print_cells(values: &[u32; 2]) {
-    io::write_all(STDOUT_FILENO, b"c 0 ");
-    print(values[0], b'\n');
-    io::write_all(STDOUT_FILENO, b"c 1 ");
-    print(values[1], b'\n');
+fn print_cells(rt: &impl Print, values: &[u32; 2]) -> io::Result<()> {
+    print!(rt; "c 0 ")?;
+    print(rt, values[0], '\n')?;
+    print!(rt; "c 1 ")?;
+    print(rt, values[1], '\n')
 }
 
 // ---- a list on both forms
@@ -241,7 +235,7 @@ fn call_both(
 }
 
 // Set-up and the list that starts at a call, on both forms, and written; whether all was the same.
-fn run_both(first: u8) -> bool {
+fn run_both(rt: &impl Print, first: u8) -> io::Result<bool> {
     let classes = [2u8; 2];
     let mut values = [3u32, 5];
     let mut values2 = [3u32, 5];
@@ -294,21 +288,21 @@ fn run_both(first: u8) -> bool {
         );
         i += 1;
         let reply = both.slices;
-        print_call(i, reply);
+        print_call(rt, i, reply)?;
     }
-    print_cells(&values);
-    both.same
+    print_cells(rt, &values)?;
+    Ok(both.same)
 }
 
-fn main() {
-    let listing = run_both(0);
-    let mixed = run_both(13);
-    let written_back = run_both(26);
-    let held = run_both(39);
-    let waits = run_both(52);
+fn main(rt: HostRuntime) -> io::Result<()> {
+    let listing = run_both(&rt, 0)?;
+    let mixed = run_both(&rt, 13)?;
+    let written_back = run_both(&rt, 26)?;
+    let held = run_both(&rt, 39)?;
+    let waits = run_both(&rt, 52)?;
     if listing & mixed & written_back & held & waits {
-        io::write_all(STDOUT_FILENO, b"both forms agree\n");
+        println!(rt; "both forms agree")
     } else {
-        io::write_all(STDOUT_FILENO, b"the forms differ\n");
+        println!(rt; "the forms differ")
     }
 }

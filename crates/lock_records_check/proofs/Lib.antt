@@ -1,2 +1,0 @@
-pub mod LentArray
-pub mod Run
