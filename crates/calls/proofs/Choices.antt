@@ -17,7 +17,7 @@ use Rattle.records.specs.declared.Plan.{Plan}
 use Rattle.records.specs.declared.Plan.TheVariants.{Refuse, Tell, Enter, Update, EnterUpdate, Mark, EnterMark, RollBack}
 use Rattle.model.proofs.Tools.{test, which}
 use Rattle.session_log.proofs.Targets.{slot_some}
-use Rattle.records.proofs.Tags.{tag, Passed, Passes, passed, clashes}
+use Rattle.records.proofs.Tags.{tag, clashes}
 use Rattle.model.proofs.Passing.{Entries, record_entries}
 
 -- p is decided as if nobody were claimant, q with the lock l: both refuse; both are that of entry k in the log; or the cell is new
@@ -91,12 +91,12 @@ module _ {n : ℕ} {log : List ℕ} {x : Session} {l : Lock} {c : ℕ} {p q : Pl
   when_told (knows k i f g) o t e = g ∙ sym f ∙ e
   when_told (enters i j w f g) o t e = absurd (clashes p new o t f e)
 
-  -- past a known cell's variant a and the refusals, the cell is new
-  pub when_new : Choice n log x l c known new p q → (a : ℕ) → ((k : ℕ) → Passes a (known k)) → Passed a p → Passed 0 p
+  -- past a known cell's plans and the refusals, the cell is new
+  pub when_new : Choice n log x l c known new p q → ((k : ℕ) → p ≡ known k → ⊥) → ((r : ℕ) → p ≡ Refuse r → ⊥)
       → (c < n) × (x.count < 32) × Entries n log x × (q ≡ cond (claimed l) RollBack new)
-  when_new (refuses r f g) a t i j = absurd (passed 0 p (Refuse r) tt f j)
-  when_new (knows k h f g) a t i j = absurd (passed a p (known k) (t k) f i)
-  when_new (enters h m w f g) a t i j = (h, m, w, g)
+  when_new (refuses r f g) a b = absurd (b r f)
+  when_new (knows k h f g) a b = absurd (a k f)
+  when_new (enters h m w f g) a b = (h, m, w, g)
 
   -- a plan that is neither a refusal nor the new cell's is that of an entry
   when_known : Choice n log x l c known new p q → (o : Plan) (k : ℕ) → T (not (eqb 0 (tag o))) → T (not (eqb (tag new) (tag o)))

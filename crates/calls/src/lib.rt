@@ -5,6 +5,7 @@
 ghost use Rattle.std.specs.Prelude.{◌≡◌, ◌||◌, ◌≤◌, eqb, length};
 ghost use Rattle.model.specs.Buffers.{free};
 ghost use Rattle.model.specs.Plans.{guard, read_plan, hold_plan, seal_plan};
+ghost use Rattle.model.specs.Slices.{as_lent};
 ghost use Rattle.model.specs.Turns.{TakesTurn, TurnsLog};
 ghost use Rattle.records.specs.declared.Plan.TheVariants.{Start, Cancel};
 ghost use Rattle.calls.specs.Pieces.{WriteDecided, TurnsWrite};
@@ -45,7 +46,7 @@ pub fn take_abandon(log: &[u32], n: usize, x: Session) -> Turn
 // Read: running only. 101 with a known cell's present value; a new cell is entered, or, where it is claimed, the session rolled back, 6.
 pub fn take_read(values: &[u32], log: &mut [u32], x: Session, l: Lock, cell: u32, p: Plan) -> Turn
     requires { (length log.old ≡ 128) × (p ≡ read_plan (length values.now) log.old x free cell) }
-    ensures { TakesTurn (read_plan (length values.now) log.old x l cell) values log x result }
+    ensures { TakesTurn (read_plan (length values.now) log.old x l cell) values (as_lent log) x result }
 {
     if let Plan::Tell(value) = p {
         return records::keeps(Answer::Value(value), x);
@@ -65,7 +66,7 @@ pub fn take_read(values: &[u32], log: &mut [u32], x: Session, l: Lock, cell: u32
 // Hold: running only. As read, and with 101 the entry is held.
 pub fn take_hold(values: &[u32], log: &mut [u32], x: Session, l: Lock, cell: u32, p: Plan) -> Turn
     requires { (length log.old ≡ 128) × (p ≡ hold_plan (length values.now) log.old x free cell) }
-    ensures { TakesTurn (hold_plan (length values.now) log.old x l cell) values log x result }
+    ensures { TakesTurn (hold_plan (length values.now) log.old x l cell) values (as_lent log) x result }
 {
     if let Plan::Mark(k, value) = p {
         session_log::mark(log, k as usize);
@@ -95,7 +96,7 @@ pub fn take_write(
     p: Plan,
 ) -> Turn
     requires { (length log.old ≡ 128) × (WriteDecided (length values.now) log.old x cell written p) }
-    ensures { TurnsWrite values log x l cell written p result }
+    ensures { TurnsWrite values (as_lent log) x l cell written p result }
 {
     if let Plan::Update(k, value) = p {
         session_log::update(log, k as usize, value);

@@ -1,0 +1,12 @@
+-- Each return is the turn of its plan.
+use Rattle.std.proofs.Common.{sym}
+use Rattle.refusals.proofs.Ways.{begin_starts, begin_refused}
+use Rattle.refusals.proofs.Turned.{turn_refused}
+use Rattle.calls.proofs.Turning.{turn_started}
+use Rattle.calls.proofs.take_begin.Goals as goal
+
+pub returns-then-phase-ne0 : goal.returns-then-phase-ne0
+returns-then-phase-ne0 c = λ vs. turn_refused vs _ _ _ _ _ (sym (begin_refused _ _ _ c.if-phase-ne0.true _ c.tests.ensures)) c.keeps.ensures
+
+pub returns : goal.returns
+returns c = λ vs. turn_started vs _ _ _ _ _ (sym (begin_starts _ _ _ c.if-phase-ne0.false)) c.begun-y.ensures c.keeps-2.ensures

@@ -1,0 +1,55 @@
+-- Each return is the turn of what is decided with the lock.
+use Rattle.std.proofs.Common.{◌≡◌, ℕ, List, length, refl, sym, ◌∙◌, arith}
+use Rattle.model.specs.Buffers.{free, entry_at}
+use Rattle.model.specs.Plans.{read_plan}
+use Rattle.records.specs.declared.Session.{Session}
+use Rattle.records.specs.declared.Lock.{Lock}
+use Rattle.records.specs.declared.Plan.{Plan}
+use Rattle.records.specs.declared.Plan.TheVariants.{Tell, Enter}
+use Rattle.calls.proofs.Choices.{Choice, read_choice, when_told, when_new}
+use Rattle.refusals.proofs.Turned.{turn_refused, turn_rolled_back}
+use Rattle.calls.proofs.Turning.{turn_told, turn_entered}
+use Rattle.calls.proofs.take_read.Goals as goal
+
+-- what is decided, with the lock
+chosen : (vs log : List ℕ) (x : Session) (l : Lock) (c : ℕ) (p : Plan) → p ≡ read_plan (length vs) log x free c
+    → Choice (length vs) log x l c (λ k. Tell (entry_at log k).current) (Enter c) p (read_plan (length vs) log x l c)
+chosen vs log x l c p e = rw e (read_choice _ _ _ _ _)
+
+pub returns-in-Tell : goal.returns-in-Tell
+returns-in-Tell c =
+    let a = c.args in
+    turn_told _ _ _ _ _ _ (when_told (chosen a.values.now a.log.now a.x a.l a.cell a.p c.requires.1) _ tt c.in-Tell.is) c.keeps.ensures
+
+pub returns-in-Refuse : goal.returns-in-Refuse
+returns-in-Refuse c =
+    let a = c.args in
+    turn_refused _ _ _ _ _ _ (when_told (chosen a.values.now a.log.now a.x a.l a.cell a.p c.requires.1) _ tt c.in-Refuse.is) c.keeps-in-Refuse.ensures
+
+pub returns-then-is_claimed : goal.returns-then-is_claimed
+returns-then-is_claimed c =
+    let a = c.args in
+    let w = when_new (chosen a.values.now a.log.now a.x a.l a.cell a.p c.requires.1) (λ k. c.in_default.not-Tell _) (λ r. c.in_default-p.not-Refuse r) in
+    turn_rolled_back _ _ _ _ _ (rw (sym c.is_claimed.ensures ∙ c.if-is_claimed.true) at w.3) c.rolled_back.ensures
+
+pub bounds-values-cell : goal.bounds-values-cell
+bounds-values-cell c =
+    let a = c.args in
+    (when_new (chosen a.values.now a.log.now a.x a.l a.cell a.p c.requires.1) (λ k. c.in_default.not-Tell _) (λ r. c.in_default-p.not-Refuse r)).0
+
+pub append-requires : goal.append-requires
+append-requires c =
+    let a = c.args in
+    let w = when_new (chosen a.values.now a.log.now a.x a.l a.cell a.p c.requires.1) (λ k. c.in_default.not-Tell _) (λ r. c.in_default-p.not-Refuse r) in
+    omega (arith, w.1, c.requires.0)
+
+pub enters-requires : goal.enters-requires
+enters-requires c =
+    let a = c.args in
+    (when_new (chosen a.values.now a.log.now a.x a.l a.cell a.p c.requires.1) (λ k. c.in_default.not-Tell _) (λ r. c.in_default-p.not-Refuse r)).1
+
+pub returns : goal.returns
+returns c =
+    let a = c.args in
+    let w = when_new (chosen a.values.now a.log.now a.x a.l a.cell a.p c.requires.1) (λ k. c.in_default.not-Tell _) (λ r. c.in_default-p.not-Refuse r) in
+    turn_entered _ _ _ _ _ _ _ _ (rw (sym c.is_claimed.ensures ∙ c.if-is_claimed.false) at w.3) refl c.append.ensures c.enters.ensures
