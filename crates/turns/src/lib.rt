@@ -5,6 +5,7 @@
 ghost use Rattle.std.specs.Prelude.{◌≡◌, ◌<◌, ◌%◌, length};
 ghost use Rattle.model.specs.Buffers.{free, session_at, with_session, log_in};
 ghost use Rattle.model.specs.Plans.{read_plan, hold_plan};
+ghost use Rattle.model.specs.Slices.{as_lent};
 ghost use Rattle.turns.specs.InLogs.{TakesIn, TakesWriteIn};
 ghost use Rattle.calls.specs.Pieces.{WriteDecided};
 
@@ -23,7 +24,7 @@ pub fn read(
     p: Plan,
 ) -> Turn
     requires { (session < 16) × (length logs.old ≡ 2048) × (p ≡ read_plan (length values.now) (log_in logs.old session) x free cell) }
-    ensures { TakesIn session (read_plan (length values.now) (log_in logs.old session) x l cell) values logs x result }
+    ensures { TakesIn session (read_plan (length values.now) (log_in logs.old session) x l cell) values (as_lent logs) x result }
 {
     let a = 128 * (session as usize);
     let e = a + 128;
@@ -41,7 +42,7 @@ pub fn hold(
     p: Plan,
 ) -> Turn
     requires { (session < 16) × (length logs.old ≡ 2048) × (p ≡ hold_plan (length values.now) (log_in logs.old session) x free cell) }
-    ensures { TakesIn session (hold_plan (length values.now) (log_in logs.old session) x l cell) values logs x result }
+    ensures { TakesIn session (hold_plan (length values.now) (log_in logs.old session) x l cell) values (as_lent logs) x result }
 {
     let a = 128 * (session as usize);
     let e = a + 128;
@@ -60,7 +61,7 @@ pub fn write(
     p: Plan,
 ) -> Turn
     requires { (session < 16) × (length logs.old ≡ 2048) × (WriteDecided (length values.now) (log_in logs.old session) x cell written p) }
-    ensures { TakesWriteIn session values logs x l cell written p result }
+    ensures { TakesWriteIn session values (as_lent logs) x l cell written p result }
 {
     let a = 128 * (session as usize);
     let e = a + 128;
