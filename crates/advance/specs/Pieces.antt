@@ -16,7 +16,7 @@ use Rattle.advance.specs.declared.Due.{Due}
 use Rattle.advance.specs.declared.Due.TheVariants.{Refused, Slot}
 use Rattle.advance.specs.declared.Handled.{Handled}
 
--- the entry that an advance handles (its `target_slot`, log/specs/Slots.antt), or 9 or 2; the last cause of 9 is one of phases 2 to 4 alone, so it can come after 2
+-- the entry that an advance handles (its `target_slot`, session_log/specs/Slots.antt), or 9 or 2; the last cause of 9 is one of phases 2 to 4 alone, so it can come after 2
 unfoldable pub due_at : List ℕ → ℕ → Option ℕ → Due
 due_at log m none = Refused 9
 due_at log m (some k) = Slot k (is_more log m (some k))

@@ -4,6 +4,7 @@
 ghost use Rattle.std.specs.Prelude.{◌≡◌, not, ◌&&◌, ◌<◌, ◌≤◌, eqb, length};
 ghost use Rattle.model.specs.InTheWay.{TellsOthers};
 ghost use Rattle.model.specs.Plans.{claimed};
+ghost use Rattle.model.specs.Slices.{as_lent};
 ghost use Rattle.model.specs.Turns.{TakesTurn};
 ghost use Rattle.advance.specs.declared.Due.TheVariants.{Slot};
 ghost use Rattle.advance.specs.Pieces.{due_on, due_cell, DueFits, advance_on, due_plan, Promotes, handled_by};
@@ -135,7 +136,7 @@ fn take_entry(
     more: bool,
 ) -> Turn
     requires { (length log.now ≡ 128) × (length values.old ≤ 1024) × (session < 16) × (Slot k more ≡ due_on (length values.old) log.now x) }
-    ensures { TakesTurn (advance_on log.now x l session k) values log x result }
+    ensures { TakesTurn (advance_on log.now x l session k) (as_lent values) log x result }
 {
     let phase = x.phase;
     let cell = session_log::cell_at(log, k as usize);
@@ -166,7 +167,7 @@ pub fn take_advance(
     due: Due,
 ) -> Turn
     requires { (length log.now ≡ 128) × (length values.old ≤ 1024) × (session < 16) × (due ≡ due_on (length values.old) log.now x) }
-    ensures { TakesTurn (due_plan session log.now x l due) values log x result }
+    ensures { TakesTurn (due_plan session log.now x l due) (as_lent values) log x result }
 {
     match due {
         Due::Refused(number) => records::keeps(Answer::Refused(number), x),

@@ -1,5 +1,5 @@
 -- The records of all sessions: what one more makes of whether those before it are idle, and a session that is not.
-use Prim.Native.Nat.{ℕ, suc, ◌+◌, ◌<◌}
+use Prim.Native.Nat.{ℕ, zero, suc, ◌+◌, ◌<◌}
 use mathlib.Core.Path.{◌≡◌}
 use mathlib.Core.Bool.{true, false}
 use native.Mathlib.Numerals.{add-one}
@@ -18,6 +18,7 @@ module _ (ss : Sessions) where
   -- one that is not idle is among the first m
   not_below : (i : ℕ) → ((session_at ss i).phase ≡ 0 → ⊥) → (m : ℕ) → i < m → false ≡ idle_below m ss
   unfolding idle_below
+  not_below i q zero l = elim l [ ]
   not_below i q (suc m) l =
       same i m (λ e. rw (← e, ne_eqb (session_at ss i).phase 0 q, and-false)) (λ n. rw (← not_below i q m (omega arith)))
 

@@ -3,6 +3,7 @@
 
 ghost use Rattle.std.specs.Prelude.{◌≡◌, length};
 ghost use Rattle.model.specs.Load.{all_idle};
+ghost use Rattle.model.specs.Slices.{as_lent};
 ghost use Rattle.loads.specs.Loads.{table_refusal, LoadsCaps};
 
 use records::{Answer, Sessions};
@@ -54,7 +55,7 @@ pub fn load_caps(
     caps: &mut [u32],
     table: &[u32],
 ) -> Answer
-    ensures { LoadsCaps values classes readers claimants exclusives logs caps table sessions result }
+    ensures { LoadsCaps values classes readers claimants exclusives logs (as_lent caps) table sessions result }
 {
     if caps.len() != 16 {
         return Answer::Refused(7);
