@@ -71,6 +71,7 @@ pub fn write(
 // ---- the records of all sixteen
 
 // The record of a session, which is taken modulo 16.
+#[tactic(auto, unfolding(model::specs::Buffers::session_at))]
 pub fn record_of(sessions: Sessions, session: u8) -> Session
     ensures { result ≡ session_at sessions (session % 16) }
 {
@@ -78,6 +79,7 @@ pub fn record_of(sessions: Sessions, session: u8) -> Session
 }
 
 // A turn's answer, with its record put back in its place.
+#[tactic(auto, unfolding(model::specs::Buffers::with_session))]
 pub fn put_back(t: Turn, mut sessions: Sessions, session: u8) -> Reply
     ensures { result ≡ record { answer = t.answer; sessions = with_session sessions (session % 16) t.session } }
 {
