@@ -4,6 +4,7 @@
 ghost use Rattle.std.specs.Prelude.{◌≡◌, ◌<◌, ◌≤◌, length};
 ghost use Rattle.model.specs.Buffers.{log_in};
 ghost use Rattle.model.specs.Plans.{peek_plan};
+ghost use Rattle.model.specs.Slices.{as_lent};
 ghost use Rattle.model.specs.Step.{session_of};
 ghost use Rattle.model.specs.Turns.{TakesTurn, TurnsLog};
 ghost use Rattle.turns.specs.InLogs.{TakesIn};
@@ -12,6 +13,7 @@ ghost use Rattle.any_call.specs.AnyCall.{cell_for, plan_with};
 use records::{Answer, Call, Change, Lock, Plan, Session, Turn};
 
 // The cell whose lock a call may need, by its session's log and record; 0 where it needs none.
+#[tactic(auto, unfolding(crate::specs::AnyCall::cell_for))]
 pub fn cell_for(call: Call, log: &[u32], n: usize, x: Session) -> u32
     requires { (length log.now ≡ 128) × (n ≤ 1024) }
     ensures { result ≡ cell_for call n log.now x }
@@ -61,7 +63,7 @@ fn take_call(
     l: Lock,
 ) -> Turn
     requires { (length log.old ≡ 128) × (length values.old ≤ 1024) × (length classes.now ≡ length values.old) × (session_of call < 16) }
-    ensures { TakesTurn (plan_with call (length values.old) classes.now log.old x l) values log x result }
+    ensures { TakesTurn (plan_with call (length values.old) classes.now log.old x l) (as_lent values) (as_lent log) x result }
 {
     let n = values.len();
     match call {
@@ -99,7 +101,7 @@ pub fn any(
     session: u8,
 ) -> Turn
     requires { (session < 16) × (length logs.old ≡ 2048) × (length values.old ≤ 1024) × (length classes.now ≡ length values.old) × (session ≡ session_of call) }
-    ensures { TakesIn session (plan_with call (length values.old) classes.now (log_in logs.old session) x l) values logs x result }
+    ensures { TakesIn session (plan_with call (length values.old) classes.now (log_in logs.old session) x l) (as_lent values) (as_lent logs) x result }
 {
     let a = 128 * (session as usize);
     let e = a + 128;

@@ -13,15 +13,14 @@ use Rattle.records.specs.declared.Change.TheVariants.{Keep}
 use Rattle.records.specs.declared.Plan.{Plan}
 use Rattle.records.specs.declared.Plan.TheVariants.{Refuse}
 use Rattle.model.proofs.Tools.{split}
-use Rattle.records.proofs.Tags.{Passed, passed}
 
 module _ (vs log : List ℕ) (x : Session) where
   -- a peek that is no refusal answers 100
   abbrev Shows : Plan → Type 0
-  Shows p = Passed 0 p → leaves Done vs log x Keep ≡ turn_of p vs log x
+  Shows p = ((r : ℕ) → p ≡ Refuse r → ⊥) → leaves Done vs log x Keep ≡ turn_of p vs log x
 
   turned : (r : ℕ) → Shows (Refuse r)
-  turned r h = absurd (passed 0 (Refuse r) (Refuse r) tt refl h)
+  turned r h = absurd (h r refl)
 
   by_slot : (c : ℕ) (o : Option ℕ) → Shows (peek_slot log c o)
   unfolding peek_slot turn_of
@@ -40,5 +39,5 @@ module _ (vs log : List ℕ) (x : Session) where
     unfolding turn_of
     peek_turned r h = rw (← e, h)
 
-    pub peek_shown : Passed 0 p → leaves Done vs log x Keep ≡ turn_of (peek_plan n log x c) vs log x
+    pub peek_shown : ((r : ℕ) → p ≡ Refuse r → ⊥) → leaves Done vs log x Keep ≡ turn_of (peek_plan n log x c) vs log x
     peek_shown h = shows n c (rw e at h)
