@@ -2,6 +2,7 @@
 // It takes the turn of the call by its kind (crate any_call), and carries its change out as the calls on one record do (crate store).
 #![tactic(auto)]
 
+ghost use Rattle.model.specs.Slices.{as_lent};
 ghost use Rattle.contracts.specs.Lent.{Takes};
 
 use records::{Answer, Call, Reply, Sessions};
@@ -17,7 +18,7 @@ pub fn step(
     exclusives: &mut [u8],
     logs: &mut [u32],
 ) -> Reply
-    ensures { Takes call values classes readers claimants exclusives logs sessions result }
+    ensures { Takes call (as_lent values) classes (as_lent readers) (as_lent claimants) (as_lent exclusives) (as_lent logs) sessions result }
 {
     let session = call.session();
     let n = values.len();
