@@ -1,10 +1,8 @@
 -- One call: after the store's step and the answer's line the rest of the text is that of the items behind it.
 use Prim.Native.Nat.{ℕ, ◌+◌}
 use native.Mathlib.Numerals.{add-one}
-use mathlib.Core.Path.{◌≡◌, sym, ◌∙◌, ap}
+use mathlib.Core.Path.{◌≡◌, refl, sym, ◌∙◌, ap}
 use mathlib.Core.List.{List, [], ◌∷◌, ◌++◌}
-use denote.Enum.Declared.{tag_of}
-use types.Run.{OneOf, miss}
 use Rattle.records.specs.declared.Answer.{Answer}
 use Rattle.records.specs.declared.Call.{Call}
 use Rattle.model.specs.Buffers.{Store, ours}
@@ -17,7 +15,6 @@ use Rattle.replay_text.specs.Lines.{answer_line, cell_lines}
 use Rattle.lines.specs.Output.{out, put, stop_line}
 use Rattle.replay_text.specs.Transcript.{calls_text}
 use Rattle.replay_text.proofs.Forward.{text_asked, text_end, text_refused, text_late_cell}
-use Rattle.items.specs.contracts.Next.{the_type}
 use Rattle.lines.proofs.Puts.{after}
 
 module _ (k : Call) (i : ℕ) (o : List ℕ) (at : ℕ) (σ : Store) where
@@ -32,9 +29,9 @@ module _ (k : Call) (i : ℕ) (o : List ℕ) (at : ℕ) (σ : Store) where
       rw (add-one, left) (after o at _ _ line ∙ ap (put o at) (sym (text_asked σ k i items)))
 
 -- what is no call ends them
-pub stops : (place : ℕ) (x : Next) (f : ℕ → List Item) (i : ℕ) (σ : Store) → OneOf (0 ∷ 2 ∷ 3 ∷ []) (tag_of the_type x) → calls_text i σ (following place x f) ≡ stop_line place x ++ cell_lines 0 σ.lent.values
+pub stops : (place : ℕ) (x : Next) (f : ℕ → List Item) (i : ℕ) (σ : Store) → ((k : Call) (n : ℕ) → x ≡ next.Call k n → ⊥) → calls_text i σ (following place x f) ≡ stop_line place x ++ cell_lines 0 σ.lent.values
 unfolding following stop_line
 stops place (next.Cell class value n) f i σ h = text_late_cell i σ place class value (f (place + n))
-stops place (next.Call k n) f i σ h = absurd (miss (0 ∷ 2 ∷ 3 ∷ []) 1 tt h)
+stops place (next.Call k n) f i σ h = absurd (h k n refl)
 stops place next.End f i σ h = text_end i σ
 stops place (next.Refused number) f i σ h = text_refused i σ place number []

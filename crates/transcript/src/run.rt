@@ -1,6 +1,7 @@
 // The cells, set-up, and the calls.
 ghost use Rattle.std.specs.Prelude.{◌≡◌, ◌≤◌, length};
 ghost use Rattle.model.specs.Buffers.{ours};
+ghost use Rattle.model.specs.Slices.{as_lent};
 ghost use Rattle.contracts.specs.Lent.{before};
 ghost use Rattle.lines.specs.Output.{Puts};
 ghost use Rattle.transcript.specs.Output.{PutsCalls, PutsSetUp, Fitted};
@@ -23,7 +24,7 @@ fn run_calls(
     logs: &mut [u32],
 ) -> usize
     requires { (place ≤ length input.now) × (length input.now ≤ 65536) × (409600 ≤ length output.old) × (length values.old ≤ 1024) }
-    ensures { PutsCalls input place output (before ours values classes readers claimants exclusives logs sessions) result }
+    ensures { PutsCalls input place (as_lent output) (before ours (as_lent values) classes (as_lent readers) (as_lent claimants) (as_lent exclusives) (as_lent logs) sessions) result }
 {
     let mut ordinal: u32 = 1;
     let mut at = 0;
@@ -57,7 +58,7 @@ fn set_up_and_run(
 ) -> usize
     requires fact_1 { (from ≤ length input.now) × (length input.now ≤ 65536) × (409600 ≤ length output.old) }
     requires fact_2 { Fitted values.old classes.now readers.old claimants.old exclusives.old logs.old }
-    ensures { PutsSetUp input from output values classes result }
+    ensures { PutsSetUp input from (as_lent output) (as_lent values) classes result }
 {
     let reply = set_up::set_up(
         records::all_idle(),
@@ -88,7 +89,7 @@ fn run_cells(
     classes: &[u8],
 ) -> usize
     requires { (from ≤ length input.now) × (length input.now ≤ 65536) × (409600 ≤ length output.old) × (length values.old ≤ 1024) × (length classes.now ≡ length values.old) }
-    ensures { PutsSetUp input from output values classes result }
+    ensures { PutsSetUp input from (as_lent output) (as_lent values) classes result }
 {
     let mut readers = [0u16; 1024];
     let mut claimants = [0u8; 1024];
@@ -111,7 +112,7 @@ fn run_cells(
 // The whole text.
 pub(crate) fn print(input: &[u8], output: &mut [u8]) -> usize
     requires { 409600 ≤ length output.old }
-    ensures { Puts output 0 (transcript input.now) 409600 result }
+    ensures { Puts (as_lent output) 0 (transcript input.now) 409600 result }
 {
     if 65536 < input.len() {
         return lines::put_size(output, 0);
