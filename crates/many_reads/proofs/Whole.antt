@@ -9,7 +9,7 @@ use lib.Dec.{leb, ltb, eqb}
 use lib.ListN.{length, drop, get_or-eq_default}
 use lib.Seq.{sets-eq}
 use Rattle.model.specs.Buffers.{Limits, Locks, Buffers, Store, idle, with_entries, session_at, with_session, log_in, on_log, lengths_match}
-use Rattle.model.specs.Effects.{number, answer, after, rolled_back}
+use Rattle.model.specs.Effects.{answer, after, rolled_back}
 use Rattle.model.specs.ManyReads.{reads, list_refusal, read_many, read_many_effect, TakesReads}
 use Rattle.model.specs.Plans.{record_fits, read_plan, plan}
 use Rattle.model.specs.Step.{plan_of, step, answer_of}

@@ -4,6 +4,7 @@
 
 ghost use Rattle.std.specs.Prelude.{◌≡◌, ◌≤◌, length};
 ghost use Rattle.model.specs.Buffers.{log_in};
+ghost use Rattle.model.specs.Slices.{as_lent};
 ghost use Rattle.cell_reads.specs.Cells.{Fits};
 ghost use Rattle.many_reads.specs.Lent.{ReadsMany};
 ghost use Rattle.many_reads.specs.InLogs.{ReadsIn};
@@ -25,7 +26,7 @@ fn read_in(
     target: &mut [u32],
 ) -> CellsReply
     requires { (length logs.old ≡ 2048) × Fits session (length values.now) (length readers.old) (length claimants.now) (log_in logs.old session) count × (length cells.now ≤ 32) × (length cells.now ≤ length target.old) }
-    ensures { ReadsIn values readers claimants logs count session cells target result }
+    ensures { ReadsIn values (as_lent readers) claimants (as_lent logs) count session cells (as_lent target) result }
 {
     let a = 128 * (session as usize);
     let e = a + 128;
@@ -67,7 +68,7 @@ pub fn read_many(
     cells: &[u32],
     target: &mut [u32],
 ) -> ReadManyReply
-    ensures { ReadsMany session cells values classes readers claimants exclusives logs target x result }
+    ensures { ReadsMany session cells values classes (as_lent readers) (as_lent claimants) (as_lent exclusives) (as_lent logs) (as_lent target) x result }
 {
     let refusal = cell_reads::list_refusal(cells.len(), target.len());
     if refusal != 0 {
