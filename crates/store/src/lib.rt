@@ -7,6 +7,7 @@ ghost use Rattle.std.specs.Prelude.{◌≡◌};
 ghost use Rattle.records.specs.declared.Answer.TheVariants.{Refused};
 ghost use Rattle.records.specs.declared.Call.TheVariants.{Begin, Read, Write, Seal, Advance, Abandon, Hold};
 ghost use Rattle.contracts.specs.Lent.{TakesOne, TakesOneBy, Loads};
+ghost use Rattle.model.specs.Slices.{as_lent};
 
 use records::{Answer, Reply, Session, SessionReply, Sessions, Turn};
 
@@ -24,7 +25,7 @@ pub fn load_caps(
     caps: &mut [u32],
     table: &[u32],
 ) -> Reply
-    ensures { Loads caps table values classes readers claimants exclusives logs sessions result }
+    ensures { Loads (as_lent caps) table values classes readers claimants exclusives logs sessions result }
 {
     let answer = loads::load_caps(
         sessions,
@@ -99,7 +100,7 @@ pub fn read(
     session: u8,
     cell: u32,
 ) -> SessionReply
-    ensures { TakesOne (Read session cell) values classes readers claimants exclusives logs x result }
+    ensures { TakesOne (Read session cell) values classes (as_lent readers) (as_lent claimants) (as_lent exclusives) (as_lent logs) x result }
 {
     let n = values.len();
     let k = classes.len();
@@ -139,7 +140,7 @@ pub fn hold(
     session: u8,
     cell: u32,
 ) -> SessionReply
-    ensures { TakesOne (Hold session cell) values classes readers claimants exclusives logs x result }
+    ensures { TakesOne (Hold session cell) values classes (as_lent readers) (as_lent claimants) (as_lent exclusives) (as_lent logs) x result }
 {
     let n = values.len();
     let k = classes.len();
@@ -180,7 +181,7 @@ pub fn write(
     cell: u32,
     value: u32,
 ) -> SessionReply
-    ensures { TakesOne (Write session cell value) values classes readers claimants exclusives logs x result }
+    ensures { TakesOne (Write session cell value) values classes (as_lent readers) (as_lent claimants) (as_lent exclusives) (as_lent logs) x result }
 {
     let n = values.len();
     let k = classes.len();
@@ -228,7 +229,7 @@ pub fn write_with_caps(
     cell: u32,
     value: u32,
 ) -> SessionReply
-    ensures { TakesOneBy caps (Write session cell value) values classes readers claimants exclusives logs x result }
+    ensures { TakesOneBy caps (Write session cell value) values classes (as_lent readers) (as_lent claimants) (as_lent exclusives) (as_lent logs) x result }
 {
     let n = values.len();
     let k = classes.len();
@@ -277,7 +278,7 @@ pub fn seal(
     logs: &[u32],
     session: u8,
 ) -> SessionReply
-    ensures { TakesOne (Seal session) values classes readers claimants exclusives logs x result }
+    ensures { TakesOne (Seal session) values classes (as_lent readers) claimants exclusives logs x result }
 {
     let n = values.len();
     let k = classes.len();
@@ -307,7 +308,7 @@ pub fn advance(
     logs: &[u32],
     session: u8,
 ) -> SessionReply
-    ensures { TakesOne (Advance session) values classes readers claimants exclusives logs x result }
+    ensures { TakesOne (Advance session) (as_lent values) classes (as_lent readers) (as_lent claimants) (as_lent exclusives) logs x result }
 {
     let n = values.len();
     let k = classes.len();
@@ -340,7 +341,7 @@ pub fn abandon(
     logs: &[u32],
     session: u8,
 ) -> SessionReply
-    ensures { TakesOne (Abandon session) values classes readers claimants exclusives logs x result }
+    ensures { TakesOne (Abandon session) values classes (as_lent readers) (as_lent claimants) (as_lent exclusives) logs x result }
 {
     let n = values.len();
     let k = classes.len();
