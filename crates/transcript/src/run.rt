@@ -56,8 +56,8 @@ fn set_up_and_run(
     exclusives: &mut [u8],
     logs: &mut [u32],
 ) -> usize
-    requires fact_1 { (from ≤ length input.now) × (length input.now ≤ 65536) × (409600 ≤ length output.old) }
-    requires fact_2 { Fitted values.old classes.now readers.old claimants.old exclusives.old logs.old }
+    requires bounds { (from ≤ length input.now) × (length input.now ≤ 65536) × (409600 ≤ length output.old) }
+    requires fitted { Fitted values.old classes.now readers.old claimants.old exclusives.old logs.old }
     ensures { PutsSetUp input from (as_lent output) (as_lent values) classes result }
 {
     let reply = set_up::set_up(

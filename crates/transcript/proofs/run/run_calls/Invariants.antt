@@ -20,7 +20,7 @@ invariant-loop-call l =
           (calls_text l.ordinal (store_of ours l.values l.classes l.readers l.claimants l.exclusives l.logs l.sessions) (items_at l.input l.place))
           ≡ put l.initial.output 0
           (calls_text 1 (store_of ours l.initial.values l.classes l.initial.readers l.initial.claimants l.initial.exclusives l.initial.logs l.initial.sessions)
-          (items_at l.input l.initial.place))
+          (items_at l.input l.initial.place));
     }
 
 abbrev pub decreases-loop-call : goal.decreases-loop-call

@@ -7,9 +7,9 @@ use Rattle.transcript.proofs.run.set_up_and_run.Goals as goal
 pub returns-then-n-ne100 : goal.returns-then-n-ne100
 returns-then-n-ne100 c =
     let line = c.put_set_up.ensures in
-    (line.0 ∙ ap (put _ _) (refused_text _ _ _ _ _ _ _ c.requires.fact_2 c.set_up-reply.ensures _ _ c.number-n.ensures c.if-n-ne100.true), omega arith)
+    (line.0 ∙ ap (put _ _) (refused_text _ _ _ _ _ _ _ c.requires.fitted c.set_up-reply.ensures _ _ c.number-n.ensures c.if-n-ne100.true), omega arith)
 
 pub returns : goal.returns
 returns c =
     let run = c.run_calls.ensures in
-    (run.0 ∙ ap (put _ _) (accepted_text _ _ _ _ _ _ _ c.requires.fact_2 c.set_up-reply.ensures _ _ c.number-n.ensures c.if-n-ne100.false), run.1)
+    (run.0 ∙ ap (put _ _) (accepted_text _ _ _ _ _ _ _ c.requires.fitted c.set_up-reply.ensures _ _ c.number-n.ensures c.if-n-ne100.false), run.1)
