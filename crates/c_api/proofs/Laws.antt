@@ -1,4 +1,4 @@
--- A call's outcome in numbers, from its answer taken apart: the one law behind every exported call; and where a peek's word is, by its plan.
+-- A call's outcome in numbers, from its answer taken apart: what each exported call comes to; and where a peek's word is, by its plan.
 use Prim.Native.Nat.{ℕ, ◌%◌}
 use mathlib.Core.Path.{◌≡◌, sym, ap, ◌∙◌}
 use Rattle.model.specs.Buffers.{Buffers, Limits, Store, session_at, with_session}

@@ -4,6 +4,7 @@
 mod fields;
 
 ghost use Rattle.records.specs.declared.Call.TheVariants.{Begin, Read, Write, Seal, Advance, Abandon, Peek, Hold};
+ghost use Rattle.model.specs.Slices.{as_lent};
 ghost use Rattle.many_reads.specs.Lent.{ReadsMany};
 ghost use Rattle.c_api.specs.InNumbers.{SetsUpInNumbers, SetsUpInNumbersBy, LoadsInNumbers, TakesInNumbers, TakesInNumbersBy, TellsPlace};
 
@@ -21,7 +22,7 @@ pub extern "C" fn rukkanei_set_up(
     exclusives: &mut [u8],
     logs: &mut [u32],
 ) -> SetUpReply
-    ensures { SetsUpInNumbers values classes readers claimants exclusives logs sessions result }
+    ensures { SetsUpInNumbers values classes (as_lent readers) (as_lent claimants) (as_lent exclusives) (as_lent logs) sessions result }
 {
     let reply = set_up::set_up(
         sessions, values, classes, readers, claimants, exclusives, logs,
@@ -47,7 +48,7 @@ pub extern "C" fn rukkanei_set_up_with_caps(
     logs: &mut [u32],
     caps: &[u32],
 ) -> SetUpReply
-    ensures { SetsUpInNumbersBy caps values classes readers claimants exclusives logs sessions result }
+    ensures { SetsUpInNumbersBy caps values classes (as_lent readers) (as_lent claimants) (as_lent exclusives) (as_lent logs) sessions result }
 {
     let reply = set_up::set_up_with_caps(
         sessions, values, classes, readers, claimants, exclusives, logs, caps,
@@ -74,7 +75,7 @@ pub extern "C" fn rukkanei_load_caps(
     caps: &mut [u32],
     table: &[u32],
 ) -> SetUpReply
-    ensures { LoadsInNumbers caps table values classes readers claimants exclusives logs sessions result }
+    ensures { LoadsInNumbers (as_lent caps) table values classes readers claimants exclusives logs sessions result }
 {
     let reply = store::load_caps(
         sessions, values, classes, readers, claimants, exclusives, logs, caps, table,
@@ -120,7 +121,7 @@ pub extern "C" fn rukkanei_read(
     session: u8,
     cell: u32,
 ) -> NumberReply
-    ensures { TakesInNumbers (Read session cell) values classes readers claimants exclusives logs x result }
+    ensures { TakesInNumbers (Read session cell) values classes (as_lent readers) (as_lent claimants) (as_lent exclusives) (as_lent logs) x result }
 {
     numbers::read_in_numbers(store::read(
         x, values, classes, readers, claimants, exclusives, logs, session, cell,
@@ -140,7 +141,7 @@ pub extern "C" fn rukkanei_hold(
     session: u8,
     cell: u32,
 ) -> NumberReply
-    ensures { TakesInNumbers (Hold session cell) values classes readers claimants exclusives logs x result }
+    ensures { TakesInNumbers (Hold session cell) values classes (as_lent readers) (as_lent claimants) (as_lent exclusives) (as_lent logs) x result }
 {
     numbers::read_in_numbers(store::hold(
         x, values, classes, readers, claimants, exclusives, logs, session, cell,
@@ -161,7 +162,7 @@ pub extern "C" fn rukkanei_read_many(
     cells: &[u32],
     target: &mut [u32],
 ) -> ReadManyReply
-    ensures { ReadsMany session cells values classes readers claimants exclusives logs target x result }
+    ensures { ReadsMany session cells values classes (as_lent readers) (as_lent claimants) (as_lent exclusives) (as_lent logs) (as_lent target) x result }
 {
     many_reads::read_many(
         x, values, classes, readers, claimants, exclusives, logs, session, cells, target,
@@ -182,7 +183,7 @@ pub extern "C" fn rukkanei_write(
     cell: u32,
     written: u32,
 ) -> NumberReply
-    ensures { TakesInNumbers (Write session cell written) values classes readers claimants exclusives logs x result }
+    ensures { TakesInNumbers (Write session cell written) values classes (as_lent readers) (as_lent claimants) (as_lent exclusives) (as_lent logs) x result }
 {
     numbers::in_numbers(store::write(
         x, values, classes, readers, claimants, exclusives, logs, session, cell, written,
@@ -204,7 +205,7 @@ pub extern "C" fn rukkanei_write_with_caps(
     cell: u32,
     written: u32,
 ) -> NumberReply
-    ensures { TakesInNumbersBy caps (Write session cell written) values classes readers claimants exclusives logs x result }
+    ensures { TakesInNumbersBy caps (Write session cell written) values classes (as_lent readers) (as_lent claimants) (as_lent exclusives) (as_lent logs) x result }
 {
     numbers::in_numbers(store::write_with_caps(
         x, values, classes, readers, claimants, exclusives, logs, caps, session, cell, written,
@@ -223,7 +224,7 @@ pub extern "C" fn rukkanei_seal(
     logs: &[u32],
     session: u8,
 ) -> NumberReply
-    ensures { TakesInNumbers (Seal session) values classes readers claimants exclusives logs x result }
+    ensures { TakesInNumbers (Seal session) values classes (as_lent readers) claimants exclusives logs x result }
 {
     numbers::seal_in_numbers(store::seal(
         x, values, classes, readers, claimants, exclusives, logs, session,
@@ -242,7 +243,7 @@ pub extern "C" fn rukkanei_advance(
     logs: &[u32],
     session: u8,
 ) -> NumberReply
-    ensures { TakesInNumbers (Advance session) values classes readers claimants exclusives logs x result }
+    ensures { TakesInNumbers (Advance session) (as_lent values) classes (as_lent readers) (as_lent claimants) (as_lent exclusives) logs x result }
 {
     numbers::in_numbers(store::advance(
         x, values, classes, readers, claimants, exclusives, logs, session,
@@ -261,7 +262,7 @@ pub extern "C" fn rukkanei_abandon(
     logs: &[u32],
     session: u8,
 ) -> NumberReply
-    ensures { TakesInNumbers (Abandon session) values classes readers claimants exclusives logs x result }
+    ensures { TakesInNumbers (Abandon session) values classes (as_lent readers) (as_lent claimants) (as_lent exclusives) logs x result }
 {
     numbers::in_numbers(store::abandon(
         x, values, classes, readers, claimants, exclusives, logs, session,
@@ -302,7 +303,7 @@ pub extern "C" fn rukkanei_peek_place(
     cell: u32,
     index: &mut usize,
 ) -> u8
-    ensures { TellsPlace session cell values classes readers claimants exclusives logs x index result }
+    ensures { TellsPlace session cell values classes readers claimants exclusives logs x (as_lent index) result }
 {
     let p = peeks::peek_plan(
         x, values, classes, readers, claimants, exclusives, logs, session, cell,
