@@ -29,7 +29,8 @@ def files(root, ends):
 
 
 def is_of_function(path):
-    return os.path.basename(path) in ("Proof.antt", "Invariants.antt", "Answers.antt")
+    folder, name = os.path.split(path)
+    return name in ("Proof.antt", "Invariants.antt", "Answers.antt") and os.path.basename(folder) != "proofs"
 
 
 def snake(name):

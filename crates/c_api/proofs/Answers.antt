@@ -26,9 +26,9 @@ use Rattle.numbers.specs.Answers.{of_begin, of_read, of_seal}
 admitted : (Q : Plan → Type 0) → ((k : ℕ) → Q (Refuse k)) → (B : Buffers) (s : ℕ) (p : Plan) → Q p → Q (admit B s p)
 admitted Q f B s p q = required Q f (lengths_fit B) 7 (require (ltb s 16) (Refuse 1) p) (λ t. required Q f (ltb s 16) 1 p (λ u. q))
 
-begin-answers : (s : ℕ) (σ : Store) → of_begin (answer_of (Begin s) σ) ≡ true
+begin_answers : (s : ℕ) (σ : Store) → of_begin (answer_of (Begin s) σ) ≡ true
 unfolding answer_of plan_of plan answer plan_effect
-begin-answers s σ =
+begin_answers s σ =
     let Q : Plan → Type 0 = λ p. of_begin (answer s p σ) ≡ true in
     admitted Q (λ k. refl) σ.lent s _ (guarded Q (λ k. refl) (size σ.lent) (log_of σ s) (record_of σ s) (eqb (record_of σ s).phase 0) _ (λ t u. refl))
 
@@ -50,19 +50,19 @@ module _ (s c : ℕ) (σ : Store) where
   unfolding new_cell answer plan_effect
   enters l p q = required Reads (λ k. refl) (ltb x.count 32) 5 _ (λ t. split Reads (claimed l) (λ u. refl) (λ u. q))
 
-  read-answers : of_read (answer_of (Read s c) σ) ≡ true
+  read_answers : of_read (answer_of (Read s c) σ) ≡ true
   unfolding answer_of plan_of plan read_plan read_slot answer plan_effect
-  read-answers =
+  read_answers =
       looks _ (which (slot_in (log_of σ s) x.count c) (λ e. rw e (enters (lock_at σ.lent.locks c) (Enter c) refl)) (λ k e. rw e))
 
-  hold-answers : of_read (answer_of (Hold s c) σ) ≡ true
+  hold_answers : of_read (answer_of (Hold s c) σ) ≡ true
   unfolding answer_of plan_of plan hold_plan hold_slot answer plan_effect
-  hold-answers =
+  hold_answers =
       looks _ (which (slot_in (log_of σ s) x.count c) (λ e. rw e (enters (lock_at σ.lent.locks c) (EnterMark c) refl)) (λ k e. rw e))
 
-seal-answers : (s : ℕ) (σ : Store) → of_seal (answer_of (Seal s) σ) ≡ true
+seal_answers : (s : ℕ) (σ : Store) → of_seal (answer_of (Seal s) σ) ≡ true
 unfolding answer_of plan_of plan seal_plan seal_target answer plan_effect
-seal-answers s σ =
+seal_answers s σ =
     let Q : Plan → Type 0 = λ p. of_seal (answer s p σ) ≡ true in
     let x = record_of σ s in
     let target : Q (seal_target (target_in (log_of σ s) x.count 0)) = which (target_in (log_of σ s) x.count 0) (λ e. rw e) (λ c e. rw e) in
@@ -79,14 +79,14 @@ given P k B C x y a h t =
     ap (λ (o : Outcome). P o.answer) e ∙ h (record { lent = B; limits = ours; sessions = ss })
 
 module _ (s : ℕ) (B C : Buffers) (x y : Session) (a : Answer) where
-  pub begin-gives : TakesRecord (Begin s) B x a C y → of_begin a ≡ true
-  begin-gives = given of_begin (Begin s) B C x y a (begin-answers s)
+  pub begin_gives : TakesRecord (Begin s) B x a C y → of_begin a ≡ true
+  begin_gives = given of_begin (Begin s) B C x y a (begin_answers s)
 
-  pub read-gives : (c : ℕ) → TakesRecord (Read s c) B x a C y → of_read a ≡ true
-  read-gives c = given of_read (Read s c) B C x y a (read-answers s c)
+  pub read_gives : (c : ℕ) → TakesRecord (Read s c) B x a C y → of_read a ≡ true
+  read_gives c = given of_read (Read s c) B C x y a (read_answers s c)
 
-  pub hold-gives : (c : ℕ) → TakesRecord (Hold s c) B x a C y → of_read a ≡ true
-  hold-gives c = given of_read (Hold s c) B C x y a (hold-answers s c)
+  pub hold_gives : (c : ℕ) → TakesRecord (Hold s c) B x a C y → of_read a ≡ true
+  hold_gives c = given of_read (Hold s c) B C x y a (hold_answers s c)
 
-  pub seal-gives : TakesRecord (Seal s) B x a C y → of_seal a ≡ true
-  seal-gives = given of_seal (Seal s) B C x y a (seal-answers s)
+  pub seal_gives : TakesRecord (Seal s) B x a C y → of_seal a ≡ true
+  seal_gives = given of_seal (Seal s) B C x y a (seal_answers s)
