@@ -2,9 +2,8 @@
 use mathlib.Core.Path.{◌≡◌, refl, ◌∙◌}
 use mathlib.Core.List.{List, []}
 use Prim.Native.Nat.{ℕ, ◌+◌, ◌*◌, ◌≤◌}
-use borrow.Rule.Slice.PartAt.{sl_part}
+use borrow.Rule.Slice.PartAt.{sl_partˢ}
 use borrow.Rule.Slice.Shared.{by_size}
-use base.Fml.{GName}
 use denote.Ref.{Bor}
 use lib.ListN.{length, get_or, replicate, length-replicate}
 use Rattle.model.specs.Buffers.{Limits, ours, Store, size, free, idle, session_at, log_in, lengths_match}
@@ -22,7 +21,7 @@ use Rattle.turns.proofs.Whole.{planned}
 use Rattle.plans.proofs.Peeks.{peek_inside, peek_logged, hands_store, hands_log, hands_nothing}
 use Rattle.run_changes.specs.Run.{store_on}
 use Rattle.run_turns.specs.Turns.{IsPeekPlan, IsPeekPart}
-use Rattle.run_turns.proofs.OnRun.{refuses, admits, low}
+use Rattle.run_turns.proofs.OnRun.{refuses, admits}
 
 -- ---- plans, by the number r of refusals 7 and 1: n values, k classes, m locks
 
@@ -57,12 +56,12 @@ module _ (v w : Bor (List ℕ)) (k m : ℕ) (ss : Sessions) (s c : ℕ) (p : Pla
   pub log_there : {i : ℕ} → p ≡ ShowLog i → 128 * s + (4 * i + 2) + 1 ≤ length w.now
   log_there {i} h = peek_logged (σ ours (replicate k 0) (replicate m free)) s c p at_one i h
 
-  pub gives_store : {i : ℕ} (γ : GName) → p ≡ ShowStore i → IsPeekPart v k m w ss s c (sl_part v (by_size 4 c v.ptr.1) c (c + 1) γ)
-  gives_store {i} γ h G cs L j q = hands_store (σ G cs L) s c p (f G v.now cs L refl j q) v w refl i h γ
+  pub gives_store : {i : ℕ} → p ≡ ShowStore i → IsPeekPart v k m w ss s c (sl_partˢ v (by_size 4 c v.ref_ptr.1) c (c + 1))
+  gives_store {i} h G cs L j q = hands_store (σ G cs L) s c p (f G v.now cs L refl j q) v w refl i h
 
-  pub gives_log : {i : ℕ} (γ : GName) → p ≡ ShowLog i
-      → IsPeekPart v k m w ss s c (sl_part w (by_size 4 (128 * s + (4 * i + 2)) w.ptr.1) (128 * s + (4 * i + 2)) (128 * s + (4 * i + 2) + 1) γ)
-  gives_log {i} γ h G cs L j q = hands_log (σ G cs L) s c p (f G v.now cs L refl j q) v w refl i h γ
+  pub gives_log : {i : ℕ} → p ≡ ShowLog i
+      → IsPeekPart v k m w ss s c (sl_partˢ w (by_size 4 (128 * s + (4 * i + 2)) w.ref_ptr.1) (128 * s + (4 * i + 2)) (128 * s + (4 * i + 2) + 1))
+  gives_log {i} h G cs L j q = hands_log (σ G cs L) s c p (f G v.now cs L refl j q) v w refl i h
 
   pub gives_nothing : Passed 14 p → Passed 15 p → (r : Bor (List ℕ)) → r.now ≡ [] → IsPeekPart v k m w ss s c r
   gives_nothing a b r n G cs L j q = hands_nothing (σ G cs L) s c p (f G v.now cs L refl j q) v w a b r n

@@ -3,6 +3,7 @@
 #![tactic(auto)]
 
 ghost use Rattle.std.specs.Prelude.{◌≡◌};
+ghost use Rattle.model.specs.Slices.{as_lent};
 ghost use Rattle.run_changes.specs.Run.{on_run};
 ghost use Rattle.run_turns.specs.Turns.{only_answer, look_of, IsPeekPlan, IsPeekPart, TakesOnRun, WritesOnRun, SetsUpTurn, SetsUpTurnBy, LoadsOnRun};
 
@@ -37,7 +38,7 @@ pub fn set_up_turn(
     locks: usize,
     logs: &mut [u32],
 ) -> Turn
-    ensures { SetsUpTurn values classes locks logs sessions result }
+    ensures { SetsUpTurn values classes locks (as_lent logs) sessions result }
 {
     let n = values.len();
     if !refusals::lengths_fit(n, classes.len(), locks, locks, locks, logs.len()) {
@@ -67,7 +68,7 @@ pub fn set_up_turn_by(
     logs: &mut [u32],
     caps: &[u32],
 ) -> Turn
-    ensures { SetsUpTurnBy caps values classes locks logs sessions result }
+    ensures { SetsUpTurnBy caps values classes locks (as_lent logs) sessions result }
 {
     if caps.len() != 16 {
         return only_answer(sessions, Answer::Refused(7));
@@ -116,6 +117,7 @@ pub fn look_up(
 }
 
 // A turn's change as one of the run.
+#[tactic(auto, unfolding(run_changes::specs::Run::on_run))]
 fn on_run(change: records::Change, session: u8, count: u8) -> Change
     ensures { result ≡ on_run change session count }
 {
@@ -140,7 +142,7 @@ pub fn take_turn(
     l: Lock,
     logs: &mut [u32],
 ) -> Turn
-    ensures { TakesOnRun call values classes locks l logs sessions result }
+    ensures { TakesOnRun call (as_lent values) classes locks l (as_lent logs) sessions result }
 {
     let session = call.session();
     let refusal = refusals::admit(
@@ -182,7 +184,7 @@ pub fn write_turn(
     cell: u32,
     value: u32,
 ) -> Turn
-    ensures { WritesOnRun caps session cell value values classes locks l logs sessions result }
+    ensures { WritesOnRun caps session cell value values classes locks l (as_lent logs) sessions result }
 {
     if caps.len() != 16 {
         return only_answer(sessions, Answer::Refused(7));
@@ -233,7 +235,7 @@ pub fn load_turn(
     caps: &mut [u32],
     table: &[u32],
 ) -> Reply
-    ensures { LoadsOnRun caps table values classes locks logs sessions result }
+    ensures { LoadsOnRun (as_lent caps) table values classes locks logs sessions result }
 {
     let answer = loads::load_caps(
         sessions, values, classes, locks, locks, locks, logs, caps, table,
