@@ -30,7 +30,7 @@ def files(root, ends):
 
 def is_of_function(path):
     folder, name = os.path.split(path)
-    return name in ("Proof.antt", "Invariants.antt", "Answers.antt") and os.path.basename(folder) != "proofs"
+    return name in ("Proof.antt", "Invariants.antt", "Answers.antt") and os.path.basename(folder) not in ("specs", "proofs")
 
 
 def snake(name):
