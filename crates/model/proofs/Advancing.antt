@@ -12,7 +12,6 @@ use borrow.Author.Tests.{eq-eqb, ne_eqb, leb-true, leb-false, le-leb, lt-leb}
 use Rattle.records.specs.declared.Session.{Session}
 use Rattle.records.specs.declared.Lock.{Lock}
 use Rattle.model.specs.Buffers.{Locks, Store, idle, move_to, cell_at, slot_in, publishes, is_published, publishes_in, target_in, current_of, lock_at, on_lock, vacate, claim, acquire}
-use Rattle.model.specs.Isolation.{at}
 use Rattle.model.specs.Readers.{member, other_readers}
 use Rattle.model.specs.Search.{find, tally}
 use Rattle.model.specs.Effects.{change, change_locks, record_of, log_of}

@@ -21,9 +21,9 @@ snapshot_any x [] a h = absurd (omega arith)
 snapshot_any x (i ∷ t) a h =
     test (seals i.told) (λ y. rw y (inl (refl, refl), a.0 y))
     (λ y.
-      let e : snapshot (i ∷ t) ≡ snapshot t = rw y in
-      let w = snapshot_any x t a.1 (rw y at h) in
-      subst (λ (k : ℕ). Any (λ (j : Item). (j.place ≡ k) × (seals j.told ≡ true)) (i ∷ t) × (x.place < k)) (sym e) (inr w.0, w.1))
+    let e : snapshot (i ∷ t) ≡ snapshot t = rw y in
+    let w = snapshot_any x t a.1 (rw y at h) in
+    subst (λ (k : ℕ). Any (λ (j : Item). (j.place ≡ k) × (seals j.told ≡ true)) (i ∷ t) × (x.place < k)) (sym e) (inr w.0, w.1))
 
 move_any : (m : ℕ) (t : List Item) → 0 < move_number m t → Any (λ (i : Item). (i.place ≡ move_number m t) × (moves i.told ≡ true)) t
 unfolding move_number
@@ -31,8 +31,8 @@ move_any m [] h = absurd (omega arith)
 move_any m (i ∷ t) h =
     test (moves i.told && eqb (suc (moves_in t)) m) (λ y. rw y (inl (refl, both_l (moves i.told) (eqb (suc (moves_in t)) m) y)))
     (λ y.
-      let e : move_number m (i ∷ t) ≡ move_number m t = rw y in
-      subst (λ (k : ℕ). Any (λ (j : Item). (j.place ≡ k) × (moves j.told ≡ true)) (i ∷ t)) (sym e) (inr (move_any m t (rw y at h))))
+    let e : move_number m (i ∷ t) ≡ move_number m t = rw y in
+    subst (λ (k : ℕ). Any (λ (j : Item). (j.place ≡ k) × (moves j.told ≡ true)) (i ∷ t)) (sym e) (inr (move_any m t (rw y at h))))
 
 module _ (start : List ℕ) (h : List Item) (x : Name) (stands : All (Stands x) (at start h x)) where
   pub snapshot_own : 0 < snapshot_of start h x → ToldAt start h x (snapshot_of start h x) seals × (x.place < snapshot_of start h x)

@@ -13,7 +13,7 @@ use Rattle.records.specs.declared.Plan.TheVariants.{Refuse}
 use Rattle.model.specs.Buffers.{Buffers, Store, size, lock_at, our_caps, has_caps, passes, all_fit, lengths_match, lengths_fit}
 use Rattle.model.specs.Plans.{require, plan, table_fits}
 use Rattle.model.specs.Computing.{computing}
-use Rattle.model.specs.Effects.{Part, number, record_of, log_of, answer, shown, after}
+use Rattle.model.specs.Effects.{Part, number, record_of, log_of, answer, after}
 use Rattle.model.specs.Step.{session_of, plan_of, step, answer_of, set_up_refusal, set_up_answer}
 use Rattle.model.specs.Cases.{State, store_with, Result, result, Case, actual, expected, steps, refusals, order, Phased, answered, phases, damaged, Peeked, handed, parts}
 use Rattle.model.specs.SetUpCases.{Started, started_by, starts_by, lendings, Cap, of_class, judged, caps}

@@ -11,14 +11,13 @@ use Rattle.records.specs.declared.Session.{Session}
 use Rattle.records.specs.declared.Lock.{Lock}
 use Rattle.records.specs.declared.Call.TheVariants.{Write, Hold}
 use Rattle.model.specs.Buffers.{Locks, Store, idle, running, with_entry, Entry, word, cell_at, entry_at, slot_in, entry_of, look_in, found_of, appended, with_dirty, with_held, updated, marked, lock_at, on_lock, join, withdraw, on_log}
-use Rattle.model.specs.Isolation.{at}
 use Rattle.model.specs.Readers.{odd}
 use Rattle.model.specs.Search.{find}
 use Rattle.model.specs.Effects.{rolled_back, change, change_logs, record_of, log_of}
 use Rattle.model.specs.Told.{found_by}
 use Rattle.model.proofs.Invariant.{role_in, role_of, role, Running, Link, Shape, just_map, Inv, Frame, role_other, assemble, quiet}
 use Rattle.model.proofs.Laws.{Long, lock_same, lock_other, long_set, long_sweep, lock_sweep, withdraw_withdraw, log_length, log_same, log_other, length-on, grown_find, grown_new, grown_old, changed_old, changed_new, dirty_set, held_set, marked_words, session_same, session_other, length-records}
-use Rattle.model.proofs.Ledger.{Txn, opened, saw, wrote_to, holds_to, Commit, Ledger, blank}
+use Rattle.model.proofs.Ledger.{Txn, opened, saw, wrote_to, holds_to, Commit, Ledger}
 use Rattle.model.proofs.Roles.{Role, out, reading, holds, owns, pends, claims?, Locked, Valued, unowned, kept, joins, withdraws, stays, sees}
 use Rattle.model.proofs.Running.{run_enter, run_note, run_hold, run_saw}
 use Rattle.model.proofs.Tools.{same, which, nothing, clash, upd}

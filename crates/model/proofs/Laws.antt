@@ -14,7 +14,6 @@ use Rattle.records.specs.declared.Session.{Session}
 use Rattle.records.specs.declared.Sessions.{Sessions}
 use Rattle.records.specs.declared.Lock.{Lock}
 use Rattle.model.specs.Buffers.{Locks, idle, session_at, with_session, log_in, on_log, word, cell_at, entry_at, slot_in, entry_of, look_in, appended, with_dirty, with_held, marked, lock_at, set_lock, on_lock, sweep, leave, vacate, withdraw}
-use Rattle.model.specs.Isolation.{at}
 use Rattle.model.specs.Readers.{odd, assign}
 use Rattle.model.specs.Search.{some?, or_else, find, lower, lowest, below, tally}
 use Rattle.model.proofs.Tools.{same, split, test, which, nothing, clash, both_l, both_r, and-false, or_else-none, half_assign}

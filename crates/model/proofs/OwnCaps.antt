@@ -1,8 +1,7 @@
 -- Tables of caps, and set-up, writes, loads and lists by them, give and leave what the rows of specs/OwnCaps.antt say, by computation over the definitions.
-use Prim.Native.Nat.{ℕ}
 use mathlib.Core.Path.{◌≡◌, refl}
 use mathlib.Core.Bool.{Bool}
-use mathlib.Core.List.{List, [], ◌∷◌, map}
+use mathlib.Core.List.{[], ◌∷◌, map}
 use Rattle.model.specs.Buffers.{passes}
 use Rattle.model.specs.Cases.{Result}
 use Rattle.model.specs.Computing.{computing}

@@ -16,7 +16,7 @@ use Rattle.records.specs.declared.Plan.{Plan}
 use Rattle.records.specs.declared.Plan.TheVariants.{Refuse, Start, Enter, Update, EnterUpdate, Mark, EnterMark, Cancel, Acquire, Publish, Release}
 use Rattle.model.specs.Buffers.{Store, size, idle, move_to, Entry, cell_at, entry_at, slot_in, is_published, target_in, current_of, lock_at, cap, has_caps}
 use Rattle.model.specs.History.{Action, one_call, many_reads, load_caps, event, with_found, leaves, event_of}
-use Rattle.model.specs.Isolation.{All, at}
+use Rattle.model.specs.Isolation.{All}
 use Rattle.model.specs.ManyReads.{read_many}
 use Rattle.model.specs.Readers.{other_readers}
 use Rattle.model.specs.Search.{some?, find, below, tally}

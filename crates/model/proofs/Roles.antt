@@ -8,7 +8,6 @@ use lib.Dec.{eqb}
 use borrow.Author.Tests.{eqb-true, eqb-false}
 use Rattle.records.specs.declared.Lock.{Lock}
 use Rattle.model.specs.Buffers.{join, leave, vacate, withdraw, claim, acquire}
-use Rattle.model.specs.Isolation.{at}
 use Rattle.model.specs.Readers.{member, assign}
 use Rattle.model.proofs.Tools.{same, split, clash, member_assign_same, member_assign_other}
 

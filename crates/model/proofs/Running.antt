@@ -6,7 +6,7 @@ use mathlib.Core.Option.{Option, none, some}
 use lib.Dec.{eqb}
 use Rattle.model.specs.Buffers.{Entry, is_dirty}
 use Rattle.model.specs.Told.{ReadOf}
-use Rattle.model.specs.Isolation.{All, at}
+use Rattle.model.specs.Isolation.{All}
 use Rattle.model.proofs.Invariant.{all_map, Running}
 use Rattle.model.proofs.Ledger.{Txn, saw, wrote_to, holds_to}
 use Rattle.model.proofs.Tools.{same, split, test, nothing, clash, upd_same, upd_other}

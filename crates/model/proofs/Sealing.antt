@@ -10,7 +10,7 @@ use lib.ListN.{length, get_or}
 use borrow.Author.Tests.{ne_eqb, le-leb}
 use Rattle.model.specs.Buffers.{Locks, Store, idle, move_to, Entry, cell_at, entry_at, slot_in, publishes_in, lock_at, leave}
 use Rattle.model.specs.Told.{ReadOf}
-use Rattle.model.specs.Isolation.{All, at}
+use Rattle.model.specs.Isolation.{All}
 use Rattle.model.specs.Search.{find, tally}
 use Rattle.model.specs.Effects.{reads_dropped, change, record_of, log_of}
 use Rattle.model.proofs.Effects.{not_pending, Acts, ses_same, frame, look_mine, role_gone, shaped, link_mine, unknown, running_role, look_is, slot_none, slot_some, acts, amended, joined}

@@ -9,7 +9,7 @@ use lib.ListN.{length, get_or-eq_default}
 use borrow.Author.Tests.{ltb-true, ltb-false, le-leb, lt-leb}
 use Rattle.model.specs.Buffers.{Locks, Store, lock_at}
 use Rattle.model.specs.History.{Action, one_call, many_reads, load_caps, actor, action_tells, Event, tells_of, event_of, Item, add, run, history, Name, transaction, is_open, held_in, changed_in, wrote, snapshot, commit, committed}
-use Rattle.model.specs.Isolation.{All, at, Isolated, Holds, firsts, HoldsAtCommit}
+use Rattle.model.specs.Isolation.{All, Isolated, Holds, firsts, HoldsAtCommit}
 use Rattle.model.specs.Effects.{number, record_of}
 use Rattle.model.specs.Step.{session_of}
 use Rattle.model.specs.Told.{Told, sealed, ended, ending, reads_tell, writes, holds, seals, begins}

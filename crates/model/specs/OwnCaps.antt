@@ -7,7 +7,7 @@ use Rattle.records.specs.declared.Call.TheVariants.{Begin, Read, Write, Seal, Ad
 use Rattle.model.specs.Buffers.{Store, ours}
 use Rattle.model.specs.Cases.{session, Result, result}
 use Rattle.model.specs.Effects.{number, value_of, log_of}
-use Rattle.model.specs.History.{Action, one_call, many_reads, load_caps, Event, run, events}
+use Rattle.model.specs.History.{Action, one_call, load_caps, Event, run, events}
 use Rattle.model.specs.Load.{load_answer, load}
 use Rattle.model.specs.Step.{step, answer_of, set_up_answer, set_up}
 
