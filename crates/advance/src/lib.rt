@@ -108,7 +108,8 @@ fn promote(x: Session, l: Lock, session: u8, cell: u32, more: bool) -> Turn
         return records::rolled_back(x);
     }
     let readers = l.readers;
-    if !lock::alone(readers, session) {
+    let waits = !lock::alone(readers, session);
+    if waits {
         let others = lock::others(readers, session);
         return Turn {
             answer: Answer::Waiting(others),
@@ -146,7 +147,8 @@ fn take_entry(
     let h = handle(x, cell, more);
     let answer = h.answer;
     let y = h.session;
-    if phase == 3 {
+    let publishing = phase == 3;
+    if publishing {
         values[cell as usize] = session_log::current(log, k as usize);
         return records::keeps(Answer::Moved, y);
     }

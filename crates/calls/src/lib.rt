@@ -18,7 +18,8 @@ pub fn take_begin(log: &[u32], n: usize, x: Session) -> Turn
     ensures { TurnsLog (guard n log.now x (eqb x.phase 0) Start) log x result }
 {
     let phase = x.phase;
-    if phase != 0 {
+    let open = phase != 0;
+    if open {
         return records::keeps(Answer::Refused(refusals::tests(log, n, x, false)), x);
     }
     let y = x.begun();
@@ -124,7 +125,8 @@ pub fn take_seal(log: &[u32], n: usize, x: Session) -> Turn
     if !refusals::runs(log, n, x) {
         return records::keeps(Answer::Refused(refusals::running_refusal(log, n, x)), x);
     }
-    if targets::any_publishes(log, count, 0) {
+    let publishes = targets::any_publishes(log, count, 0);
+    if publishes {
         let y = x.sealed();
         return Turn {
             answer: Answer::Sealed,

@@ -60,7 +60,8 @@ pub fn all_classed(classes: &[u8]) -> bool
 {
     let mut i = 0;
     while i < classes.len() {
-        if 15 < classes[i] {
+        let outside = 15 < classes[i];
+        if outside {
             return false;
         }
         i += 1;

@@ -44,7 +44,8 @@ fn slot_of(log: &[u32], count: usize, entered: &[u64; 16], cell: u32) -> usize
     requires { (4 * count ≤ length log.now) × (cell < 1024) × Covers entered.now log.now count }
     ensures { found count result ≡ slot_in log.now count cell }
 {
-    if !sweeps::is_marked(entered, cell) {
+    let unmarked = !sweeps::is_marked(entered, cell);
+    if unmarked {
         return count;
     }
     let place = look_ups::locate(log, count, cell);

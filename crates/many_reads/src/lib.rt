@@ -109,7 +109,8 @@ pub fn read_many(
     let number = reads.number;
     let obtained = reads.count as u32;
     let entries = reads.entries;
-    if number != 6 {
+    let unclaimed = number != 6;
+    if unclaimed {
         let y = x.with_entries(entries as u8);
         return ReadManyReply {
             number,

@@ -151,7 +151,8 @@ pub fn running_refusal(log: &[u32], n: usize, x: Session) -> u8
     ensures { result ≡ tested (record_fits n log.now x) (eqb x.phase 1) }
 {
     let phase = x.phase;
-    if phase == 1 {
+    let running = phase == 1;
+    if running {
         return 9;
     }
     tests(log, n, x, false)

@@ -89,7 +89,8 @@ fn drop_at(log: &[u32], k: usize, readers: &mut [u16], written: &mut [u64; 16], 
     ensures { DropsAt log k session (as_lent written) (as_lent readers) }
 {
     let cell = session_log::cell_at(log, k);
-    if session_log::publishes(log, k) {
+    let stays = session_log::publishes(log, k);
+    if stays {
         put_mark(written, cell);
         return;
     }

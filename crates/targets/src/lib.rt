@@ -15,7 +15,8 @@ fn lower(log: &[u32], i: usize, from: u32, best: u32) -> u32
     if cell < from {
         return best;
     }
-    if best <= cell {
+    let stands = best <= cell;
+    if stands {
         return best;
     }
     if session_log::publishes(log, i) {

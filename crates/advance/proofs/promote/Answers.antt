@@ -12,18 +12,18 @@ returns-then-loses c = (
   tells_lost c.args.l _ _ (ap (λ (t : Turn). t.answer) c.rolled_back.ensures),
 )
 
-pub returns-then-not-alone : goal.returns-then-not-alone
-returns-then-not-alone c = (
+pub returns-then-waits : goal.returns-then-waits
+returns-then-waits c = (
   λ vs log m.
       turn_waiting _ _ _ _ _ _
-      (sym (promote_waits _ _ _ _ c.loses.ensures c.if-loses.false _ c.alone.ensures c.if-not-alone.true _ c.others-others.ensures)),
-  tells_others c.args.l _ c.requires.2 _ c.alone.ensures c.if-not-alone.true _ c.others-others.ensures,
+      (sym (promote_waits _ _ _ _ c.loses.ensures c.if-loses.false _ c.alone-waits.ensures c.if-waits.true _ c.others-others.ensures)),
+  tells_others c.args.l _ c.requires.2 _ c.alone-waits.ensures c.if-waits.true _ c.others-others.ensures,
 )
 
 pub returns : goal.returns
 returns c = (
   λ vs log m.
       turn_acquired _ _ _ _ _ _ m _ c.handle-h.ensures
-      (sym (promote_acquires _ _ _ _ c.loses.ensures c.if-loses.false _ c.alone.ensures c.if-not-alone.false)),
+      (sym (promote_acquires _ _ _ _ c.loses.ensures c.if-loses.false _ c.alone-waits.ensures c.if-waits.false)),
   tells_acquired c.args.l c.args.session,
 )

@@ -27,10 +27,10 @@ current-requires c = let a = known _ _ _ _ _ c.requires.3 in omega (arith, a.slo
 pub bounds-values-cell : goal.bounds-values-cell
 bounds-values-cell c = let a = known _ _ _ _ _ c.requires.3 in omega (arith, a.cell, c.cell_at-cell.ensures)
 
-pub returns-then-phase-eq3 : goal.returns-then-phase-eq3
-returns-then-phase-eq3 c =
+pub returns-then-publishing : goal.returns-then-publishing
+returns-then-publishing c =
     turn_published _ _ _ _ _ _ _ _ _
-    (sym (advance_publishes _ _ _ _ _ _ c.cell_at-cell.ensures c.if-phase-eq2.false c.if-phase-eq3.true _ c.current.ensures))
+    (sym (advance_publishes _ _ _ _ _ _ c.cell_at-cell.ensures c.if-phase-eq2.false c.if-publishing.true _ c.current.ensures))
     (left_at _ _ _ _ _ c.requires.3 _ c.cell_at-cell.ensures)
     c.handle-h.ensures
     c.keeps.ensures
@@ -42,5 +42,5 @@ returns c =
     (left_at _ _ _ _ _ c.requires.3 _ c.cell_at-cell.ensures)
     _
     c.handle-h.ensures
-    (sym (advance_releases _ _ _ _ _ _ c.cell_at-cell.ensures c.if-phase-eq2.false c.if-phase-eq3.false))
-    (omega (arith, a.from, a.upto, c.if-phase-eq2.false, c.if-phase-eq3.false))
+    (sym (advance_releases _ _ _ _ _ _ c.cell_at-cell.ensures c.if-phase-eq2.false c.if-publishing.false))
+    (omega (arith, a.from, a.upto, c.if-phase-eq2.false, c.if-publishing.false))

@@ -5,8 +5,8 @@ use Rattle.refusals.proofs.Turned.{turn_refused}
 use Rattle.calls.proofs.Turning.{turn_started}
 use Rattle.calls.proofs.take_begin.Goals as goal
 
-pub returns-then-phase-ne0 : goal.returns-then-phase-ne0
-returns-then-phase-ne0 c = λ vs. turn_refused vs _ _ _ _ _ (sym (begin_refused _ _ _ c.if-phase-ne0.true _ c.tests.ensures)) c.keeps.ensures
+pub returns-then-open : goal.returns-then-open
+returns-then-open c = λ vs. turn_refused vs _ _ _ _ _ (sym (begin_refused _ _ _ c.if-open.true _ c.tests.ensures)) c.keeps.ensures
 
 pub returns : goal.returns
-returns c = λ vs. turn_started vs _ _ _ _ _ (sym (begin_starts _ _ _ c.if-phase-ne0.false)) c.begun-y.ensures c.keeps-2.ensures
+returns c = λ vs. turn_started vs _ _ _ _ _ (sym (begin_starts _ _ _ c.if-open.false)) c.begun-y.ensures c.keeps-2.ensures

@@ -11,11 +11,11 @@ pub returns-then-not-runs : goal.returns-then-not-runs
 unfolding seal_plan
 returns-then-not-runs c = λ vs. turn_refused vs _ _ _ _ _ (sym (run_refused _ _ _ _ c.runs.ensures c.if-not-runs.true _ c.running_refusal.ensures _)) c.keeps.ensures
 
-pub any_publishes-requires : goal.any_publishes-requires
-any_publishes-requires c = room _ _ _ _ c.runs.ensures c.if-not-runs.false c.requires.0
+pub any_publishes-publishes-requires : goal.any_publishes-publishes-requires
+any_publishes-publishes-requires c = room _ _ _ _ c.runs.ensures c.if-not-runs.false c.requires.0
 
-pub returns-then-any_publishes : goal.returns-then-any_publishes
-returns-then-any_publishes c = λ vs. turn_sealed vs _ _ _ _ (sym (seal_writes _ _ _ _ c.runs.ensures c.if-not-runs.false _ c.any_publishes.ensures c.if-any_publishes.true)) c.sealed-y.ensures
+pub returns-then-publishes : goal.returns-then-publishes
+returns-then-publishes c = λ vs. turn_sealed vs _ _ _ _ (sym (seal_writes _ _ _ _ c.runs.ensures c.if-not-runs.false _ c.any_publishes-publishes.ensures c.if-publishes.true)) c.sealed-y.ensures
 
 pub returns : goal.returns
-returns c = λ vs. turn_committed vs _ _ _ _ (sym (seal_reads _ _ _ _ c.runs.ensures c.if-not-runs.false _ c.any_publishes.ensures c.if-any_publishes.false)) c.idled-y.ensures
+returns c = λ vs. turn_committed vs _ _ _ _ (sym (seal_reads _ _ _ _ c.runs.ensures c.if-not-runs.false _ c.any_publishes-publishes.ensures c.if-publishes.false)) c.idled-y.ensures

@@ -3,5 +3,5 @@ use Rattle.std.proofs.Common.{sym, ◌∙◌}
 use Rattle.cell_reads.proofs.Marks.{unmarked}
 use Rattle.cell_reads.proofs.slot_of.Goals as goal
 
-pub returns-then-not-is_marked : goal.returns-then-not-is_marked
-returns-then-not-is_marked c = unmarked _ _ _ _ c.requires.2 (sym c.is_marked.ensures ∙ c.if-not-is_marked.true)
+pub returns-then-unmarked : goal.returns-then-unmarked
+returns-then-unmarked c = unmarked _ _ _ _ c.requires.2 (sym c.is_marked-unmarked.ensures ∙ c.if-unmarked.true)

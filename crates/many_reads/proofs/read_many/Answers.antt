@@ -85,14 +85,14 @@ overflow_cast-entries c =
     let f = few_entries B _ z _ _ t c.if-not-runs.false _ _ l _ _ _ _ c.read_in-reads.ensures in
     omega arith
 
-pub returns-then-number-ne6 : goal.returns-then-number-ne6
-returns-then-number-ne6 c =
+pub returns-then-unclaimed : goal.returns-then-unclaimed
+returns-then-unclaimed c =
     let a = c.args in
     let B = buffers_of a.values.now a.classes.now a.readers.now a.claimants.now a.exclusives.now a.logs.now in
     let z = admitted_by B _ _ c.admits.ensures c.if-not-admits.false in
     let t = rw c.of_session.ensures at c.runs.ensures in
     let l = list_fits a.session _ _ (sym c.list_refusal-refusal.ensures ∙ c.if-refusal-ne0.false) in
-    runs_on B _ z _ _ t c.if-not-runs.false _ _ l _ _ _ _ c.read_in-reads.ensures c.if-number-ne6.true _ c.with_entries-y.ensures
+    runs_on B _ z _ _ t c.if-not-runs.false _ _ l _ _ _ _ c.read_in-reads.ensures c.if-unclaimed.true _ c.with_entries-y.ensures
 
 pub of_session-requires-2 : goal.of_session-requires-2
 of_session-requires-2 c =
@@ -117,4 +117,4 @@ returns c =
     let z = admitted_by B _ _ c.admits.ensures c.if-not-admits.false in
     let t = rw c.of_session.ensures at c.runs.ensures in
     let l = list_fits a.session _ _ (sym c.list_refusal-refusal.ensures ∙ c.if-refusal-ne0.false) in
-    rolls_back B _ z _ _ t c.if-not-runs.false _ _ l _ _ _ _ c.read_in-reads.ensures _ c.of_session-2.ensures c.if-number-ne6.false _ c.roll_back.ensures _ c.idled-y.ensures
+    rolls_back B _ z _ _ t c.if-not-runs.false _ _ l _ _ _ _ c.read_in-reads.ensures _ c.of_session-2.ensures c.if-unclaimed.false _ c.roll_back.ensures _ c.idled-y.ensures

@@ -2,8 +2,8 @@
 use Rattle.refusals.proofs.Ways.{refusal_running, refusal_else}
 use Rattle.refusals.proofs.running_refusal.Goals as goal
 
-pub returns-then-phase-eq1 : goal.returns-then-phase-eq1
-returns-then-phase-eq1 c = refusal_running _ _ _ c.requires.2 c.if-phase-eq1.true
+pub returns-then-running : goal.returns-then-running
+returns-then-running c = refusal_running _ _ _ c.requires.2 c.if-running.true
 
 pub returns : goal.returns
-returns c = refusal_else _ _ _ c.if-phase-eq1.false _ c.tests.ensures
+returns c = refusal_else _ _ _ c.if-running.false _ c.tests.ensures
