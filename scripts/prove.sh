@@ -17,9 +17,9 @@ under() {
         }' crates.txt
 }
 
-# told COUNT: says on standard error, for each crate of rt's output that is proved, in what time, and how many of COUNT are left.
+# told: says on standard error, for each crate of rt's output that is proved, in what time. Of a crate that an earlier run proved rt says nothing.
 told() {
-    local left=$1 since=$SECONDS line crate=""
+    local since=$SECONDS line crate=""
     while IFS= read -r line; do
         case $line in
         "crate "*": modules loaded="*)
@@ -27,8 +27,7 @@ told() {
             crate=${crate%%:*}
             ;;
         "logic=proved "*)
-            left=$((left - 1))
-            echo "   $crate proved in $((SECONDS - since)) s, $left left" >&2
+            echo "   $crate proved in $((SECONDS - since)) s" >&2
             since=$SECONDS
             ;;
         esac
@@ -40,7 +39,7 @@ told() {
 prove() {
     local log
     log=$(mktemp)
-    if ! (cd "crates/$2" && rt "$1") 2>&1 </dev/null | tee "$log" | told "$(under "$2" | wc -l)"; then
+    if ! (cd "crates/$2" && rt "$1") 2>&1 </dev/null | tee "$log" | told; then
         tail -n 20 "$log" >&2
         rm -f "$log"
         return 1
