@@ -1,5 +1,5 @@
--- Laws of bodies, of the table, of the reader and of the writer (up to `Writings`), and the theorems on fields (`RoundTrip`, `Files`, `Worked`, and in `Readings`
--- that on a refusal's place).
+-- Laws of bodies, of the table, of the reader and of the writer (up to `Writings`), and the theorems on fields (`RoundTrip`, `Files`, `Worked`, `Instances`, and in
+-- `Readings` that on a refusal's place).
 pub mod Bodies
 pub mod Rows
 pub mod Readings
@@ -8,3 +8,4 @@ pub mod Inverse
 pub mod RoundTrip
 pub mod Files
 pub mod Worked
+pub mod Instances

@@ -11,7 +11,13 @@ use Rattle.field.specs.Table.{table, find, layout_of}
 use Rattle.field.specs.Field.{call, call_at, reading_of, reading_at, body_of, field_of, writing_of, writing}
 use Rattle.field.specs.Exported.{handing}
 use Rattle.field.specs.RoundTrip.{Reads, ends, goes, writes}
+use Rattle.field.specs.Tags.{if_known, known_among, known_tags}
 use Rattle.field.specs.Worked.{FieldRow, both_ways, fields, ReadRow, read_there, readings, WriteRow, written_there, writings}
+
+-- Of the 256 tags these are known, each with its layout, and no other.
+pub tags_hold : known_among 256 0 ≡ known_tags
+unfolding known_among if_known known_tags layout_of find table
+tags_hold = refl
 
 pub fields_hold : map {B = FieldRow} both_ways fields ≡ fields
 unfolding both_ways fields reading_at reading_of call_at handing writing writing_of field_of body_of layout_of find table number_at number bytes_of

@@ -5,4 +5,5 @@ pub mod Answer
 pub mod Field
 pub mod Exported
 pub mod RoundTrip
+pub mod Tags
 pub mod Worked

@@ -1,3 +1,4 @@
+pub mod Accepting
 pub mod Answers
 pub mod CellLines
 pub mod Decimals
