@@ -14,3 +14,5 @@ pub mod PastTheCount
 pub mod TableUnread
 pub mod HoldAsRead
 pub mod Crowds
+pub mod Excluded
+pub mod Instances
