@@ -107,7 +107,8 @@ pub fn read_cells(input: &[u8], values: &mut [u32], classes: &mut [u8]) -> Cells
         else {
             return Cells::Found { count, place };
         };
-        if count == 1024 {
+        let full = count == 1024;
+        if full {
             return Cells::TooMany;
         }
         values[count] = value;

@@ -10,13 +10,13 @@ returns-in_default c =
     let inv = c.loop-class.invariant in
     closes _ _ _ _ _ inv.4 (subst Closed (sym (items_by _ _ _ c.next_at-next.ensures)) (closed _ _ _ c.in_default.not-Cell)) inv.0 inv.1
 
-pub returns-then-count-eq1024 : goal.returns-then-count-eq1024
+pub returns-then-full : goal.returns-then-full
 unfolding following
-returns-then-count-eq1024 c =
+returns-then-full c =
     let seen = c.in-Cell.ensures in
     let here = items_by _ _ _ seen in
     let step = subst (Advances _ _) (sym seen) (advances _ _) in
-    too_many _ _ _ _ _ _ _ _ c.loop-class.invariant.4 here c.if-count-eq1024.true (omega arith)
+    too_many _ _ _ _ _ _ _ _ c.loop-class.invariant.4 here c.if-full.true (omega arith)
 
 pub overflow_add-place : goal.overflow_add-place
 overflow_add-place c =
