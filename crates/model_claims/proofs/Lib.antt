@@ -13,6 +13,7 @@ pub mod ReadClaims
 pub mod PastTheCount
 pub mod TableUnread
 pub mod HoldAsRead
+pub mod Ending
 pub mod Crowds
 pub mod Excluded
 pub mod Instances
