@@ -14,6 +14,9 @@ pub mod PastTheCount
 pub mod TableUnread
 pub mod HoldAsRead
 pub mod Ending
+pub mod OfCode
+pub mod Lists
+pub mod Theorems
 pub mod Crowds
 pub mod Excluded
 pub mod Instances

@@ -1,1 +1,3 @@
+pub mod Theorems
 pub mod Ending
+pub mod OfCode
