@@ -14,6 +14,7 @@ pub mod PastTheCount
 pub mod TableUnread
 pub mod HoldAsRead
 pub mod Ending
+pub mod EndingExcluded
 pub mod OfCode
 pub mod Lists
 pub mod Theorems
