@@ -13,6 +13,11 @@ pub mod ReadClaims
 pub mod PastTheCount
 pub mod TableUnread
 pub mod HoldAsRead
+pub mod Ending
+pub mod EndingExcluded
+pub mod OfCode
+pub mod Lists
+pub mod Theorems
 pub mod Crowds
 pub mod Excluded
 pub mod Instances

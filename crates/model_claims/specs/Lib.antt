@@ -1,0 +1,3 @@
+pub mod Theorems
+pub mod Ending
+pub mod OfCode
