@@ -34,7 +34,7 @@ def is_of_function(path):
 
 
 def snake(name):
-    name = name.replace("getD", "get_or").replace("orElse", "or_else")
+    name = name.replace("getD", "get_or").replace("get_d_", "get_or_").replace("orElse", "or_else")
     head, dash, tail = name.partition("-")
     keeps = bool(dash) and (re.search(r"[A-Z_]", head) is not None or head in KEEPS_DASH)
     name = re.sub(r"(?<=[a-z0-9])([A-Z])|(?<=[A-Z])([A-Z])(?=[a-z])", lambda m: "_" + m[0], name)

@@ -26,8 +26,8 @@ use Rattle.sweeps.proofs.Marks.{marked_same, marked_other}
 -- ---- one lock
 
 -- within a list the default does not matter
-get_d_any : (l : List ℕ) (i d e : ℕ) → i < length l → get_or l i d ≡ get_or l i e
-get_d_any l i d e h = sym (get_or-set_same l i (get_or l i d) e h) ∙ ap (λ (k : List ℕ). get_or k i e) (set-get_or l i d)
+get_or_any : (l : List ℕ) (i d e : ℕ) → i < length l → get_or l i d ≡ get_or l i e
+get_or_any l i d e h = sym (get_or-set_same l i (get_or l i d) e h) ∙ ap (λ (k : List ℕ). get_or k i e) (set-get_or l i d)
 
 pub leave_on : (R C E : List ℕ) (c s : ℕ) → locks_of (set R c (without_reader s (get_or R c 0))) C E ≡ on_lock c (leave s) (locks_of R C E)
 unfolding on_lock lock_at set_lock leave
@@ -41,17 +41,17 @@ module _ (R C E : List ℕ) (c : ℕ) (eC : length C ≡ length R) (eE : length 
   module _ (h : c < length R) where
     pub lock_here : record { readers = get_or R c 0; claimant = get_or C c 0; exclusive = get_or E c 0 } ≡ lock_at (locks_of R C E) c
     unfolding lock_at
-    lock_here = rw (get_d_any C c 0 16 (omega arith))
+    lock_here = rw (get_or_any C c 0 16 (omega arith))
 
     pub withdraw_own : (s : ℕ) → get_or C c 0 ≡ s
         → locks_of (set R c (without_reader s (get_or R c 0))) (set C c 16) (set E c 0) ≡ on_lock c (withdraw s) (locks_of R C E)
     unfolding on_lock lock_at set_lock withdraw vacate
-    withdraw_own s e = rw (eq-eqb (get_or C c 16) s (get_d_any C c 16 0 (omega arith) ∙ e))
+    withdraw_own s e = rw (eq-eqb (get_or C c 16) s (get_or_any C c 16 0 (omega arith) ∙ e))
 
     pub withdraw_other : (s : ℕ) → (get_or C c 0 ≡ s → ⊥)
         → locks_of (set R c (without_reader s (get_or R c 0))) C E ≡ on_lock c (withdraw s) (locks_of R C E)
     unfolding on_lock lock_at withdraw
-    withdraw_other s n = rw (ne_eqb (get_or C c 16) s (λ e. n (get_d_any C c 0 16 (omega arith) ∙ e))) (leave_on R C E c s)
+    withdraw_other s n = rw (ne_eqb (get_or C c 16) s (λ e. n (get_or_any C c 0 16 (omega arith) ∙ e))) (leave_on R C E c s)
 
 -- the lock that is there, put again
 put_same : (c : ℕ) (L : Locks) → set_lock c (lock_at L c) L ≡ L
