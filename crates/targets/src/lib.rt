@@ -102,18 +102,22 @@ fn lower_two(log: &[u32], i: usize, from: u32, best: Two) -> Two
     best
 }
 
-// The lowest two cells not below from and below n of the first count entries that publish, each judged by itself; n for each that there is not.
+// The lowest two cells not below from and below n of the first count entries that publish, each judged by itself; n for each that there is not. The loop over the log
+// that yields an advance's cell by break.
 fn lowest_two(log: &[u32], count: usize, n: u32, from: u32) -> Two
     requires { 4 * count ≤ length log.now }
     ensures { LowestTwo log.now n from count result.low result.high }
 {
     let mut i = 0;
     let mut best = Two { low: n, high: n };
-    while i < count {
+    let cells = loop {
+        if count <= i {
+            break best;
+        }
         best = lower_two(log, i, from, best);
         i += 1;
-    }
-    best
+    };
+    cells
 }
 
 // The entry that an advance handles, count where there is none, and whether another cell that publishes is left above its cell.
