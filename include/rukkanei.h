@@ -91,7 +91,7 @@ extern "C" {
  *
  * With 100, *tag, *session, *cell_class, *cell and *value hold the call's numbers, those that the tag does not carry as 0, and *length holds
  * the field's length: the next field starts at `place + *length`. With any other answer all six are as before. A refused field's place, its
- * first byte, is always the `place` that was passed, so it is not handed back (`refused-where-asked`, crates/field/proofs/Readings.antt). */
+ * first byte, is always the `place` that was passed, so it is not handed back (`refused_where_asked`, crates/field/proofs/Readings.antt). */
 uint8_t rukkanei_field_read(const uint8_t *bytes, size_t bytes_len, size_t place, uint8_t *tag, uint8_t *session, uint8_t *cell_class,
                             uint16_t *cell, uint32_t *value, size_t *length);
 

@@ -1,4 +1,4 @@
--- What the covered code of a call sees of the run is its length and one lock. So what it ensures, it ensures of every run of that length with that lock.
+-- What the code of a call sees of the run is its length and one lock. So what it ensures, it ensures of every run of that length with that lock.
 use Rattle.std.specs.Prelude.{◌≡◌, ℕ, List, eqb, length}
 use Rattle.std.specs.Borrow.{Bor}
 use Rattle.model.specs.Buffers.{Limits, ours, session_at, log_in, lengths_match}
