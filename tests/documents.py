@@ -76,7 +76,7 @@ def named(text, known):
         first = word.split("/")[0]
         if re.fullmatch(PATH, word) and "/" in word and os.path.isdir(os.path.join(ROOT, first)):
             yield from (("path", path, there(path)) for path in expanded(word))
-        if re.fullmatch(r"\w+/(?:src|specs|proofs|must-fail)(?:/%s)?" % PATH, word) and first in known:
+        if re.fullmatch(r"\w+/(?:src|specs|proofs|must-fail)(?:/%s)?" % PATH, word) and not there(first):
             yield from (("path", f"crates/{path}", there(f"crates/{path}")) for path in expanded(word))
         parts = re.fullmatch(r"(\w+)::(\w+|\{[\w, ]+\})", word)
         if parts and parts.group(1) in known:
