@@ -35,13 +35,13 @@ use Rattle.model.proofs.CommitOrder.{one_order}
 use Rattle.model.proofs.Names.{name_by_test, committed_in}
 use Rattle.model.proofs.Tools.{clash, split}
 
-abbrev first : List ℕ
+abbrev pub first : List ℕ
 first = 3 ∷ 5 ∷ []
 
 -- ---- the order by commits
 
 -- told that a hold got and found 4 in cell 0, where the starting value is 3; it commits
-abbrev held_four : List Event
+abbrev pub held_four : List Event
 held_four = event (Advance 0) Moved ∷ event (Seal 0) Sealed ∷ with_found 4 (event (Hold 0 0) (Value 4)) ∷ event (Begin 0) Done ∷ []
 
 abbrev h : List Item

@@ -20,4 +20,6 @@ pub mod Lists
 pub mod Theorems
 pub mod Crowds
 pub mod Excluded
+pub mod AsTheModel
+pub mod PromisedExcluded
 pub mod Instances
