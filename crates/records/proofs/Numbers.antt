@@ -5,10 +5,16 @@ use mathlib.Core.List.{List, [], ◌∷◌, map}
 use Rattle.records.specs.declared.Session.{Session}
 use Rattle.records.specs.declared.Call.TheVariants.{Begin, Read, Write, Seal, Advance, Abandon, Peek, Hold}
 use Rattle.records.specs.declared.Answer.TheVariants.{Done, Value, Sealed, Moved, Waiting, Committed, Refused}
-use Rattle.records.specs.Records.{idle, running, with_entry, with_entries, move_to, number, value_of, session_of}
+use Rattle.records.specs.declared.Refusal.TheVariants.{UnknownSession, WrongPhase, UnknownCell, AboveCap, FullLog, Conflict, WrongLengths, UnknownClass, DamagedRecord, ShortTarget, NotEntered, WrongList, WrongCaps, ValueAboveCaps}
+use Rattle.records.specs.Records.{idle, running, with_entry, with_entries, move_to, number, value_of, session_of, refusal_number}
 
 pub numbers_hold : map {B = ℕ} number (Done ∷ Value 7 ∷ Sealed ∷ Moved ∷ Waiting 3 ∷ Committed ∷ Refused 9 ∷ []) ≡ 100 ∷ 101 ∷ 102 ∷ 103 ∷ 104 ∷ 105 ∷ 9 ∷ []
 numbers_hold = refl
+
+pub refusals_hold : map {B = ℕ} refusal_number
+    (UnknownSession ∷ WrongPhase ∷ UnknownCell ∷ AboveCap ∷ FullLog ∷ Conflict ∷ WrongLengths ∷ UnknownClass ∷ DamagedRecord ∷ ShortTarget ∷ NotEntered ∷ WrongList ∷ WrongCaps ∷ ValueAboveCaps ∷ [])
+    ≡ 1 ∷ 2 ∷ 3 ∷ 4 ∷ 5 ∷ 6 ∷ 7 ∷ 8 ∷ 9 ∷ 13 ∷ 14 ∷ 15 ∷ 16 ∷ 17 ∷ []
+refusals_hold = refl
 
 pub values_hold : map {B = ℕ} value_of (Done ∷ Value 7 ∷ Sealed ∷ Moved ∷ Waiting 3 ∷ Committed ∷ Refused 9 ∷ []) ≡ 0 ∷ 7 ∷ 0 ∷ 0 ∷ 3 ∷ 0 ∷ 0 ∷ []
 values_hold = refl

@@ -1,9 +1,11 @@
 -- A session's record in its phases, an answer's number and value, and the session of a call.
-use Rattle.std.specs.Prelude.{ℕ, suc}
+use Rattle.std.specs.Prelude.{ℕ, suc, Result, Ok, Err}
 use Rattle.records.specs.declared.Session.{Session}
 use Rattle.records.specs.declared.Call.{Call}
 use Rattle.records.specs.declared.Call.TheVariants.{Begin, Read, Write, Seal, Advance, Abandon, Peek, Hold}
 use Rattle.records.specs.declared.Answer.{Answer}
+use Rattle.records.specs.declared.Refusal.{Refusal}
+use Rattle.records.specs.declared.Refusal.TheVariants.{UnknownSession, WrongPhase, UnknownCell, AboveCap, FullLog, Conflict, WrongLengths, UnknownClass, DamagedRecord, ShortTarget, NotEntered, WrongList, WrongCaps, ValueAboveCaps}
 use Rattle.records.specs.declared.Answer.TheVariants.{Done, Value, Sealed, Moved, Waiting, Committed, Refused}
 
 -- ---- session records
@@ -35,6 +37,28 @@ number Moved = 103
 number (Waiting k) = 104
 number Committed = 105
 number (Refused k) = k
+
+-- document 01's number of a refusal
+abbrev pub refusal_number : Refusal → ℕ
+refusal_number UnknownSession = 1
+refusal_number WrongPhase = 2
+refusal_number UnknownCell = 3
+refusal_number AboveCap = 4
+refusal_number FullLog = 5
+refusal_number Conflict = 6
+refusal_number WrongLengths = 7
+refusal_number UnknownClass = 8
+refusal_number DamagedRecord = 9
+refusal_number ShortTarget = 13
+refusal_number NotEntered = 14
+refusal_number WrongList = 15
+refusal_number WrongCaps = 16
+refusal_number ValueAboveCaps = 17
+
+-- the number of a test's refusal; 0 where it refuses nothing
+abbrev pub refusal_of : {A : Type 0} → Result A Refusal → ℕ
+refusal_of (Ok _) = 0
+refusal_of (Err r) = refusal_number r
 
 -- 0 except with 101 and 104 (document 02, Paper 6)
 abbrev pub value_of : Answer → ℕ

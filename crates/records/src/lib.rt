@@ -4,12 +4,13 @@
 
 ghost use Rattle.std.specs.Prelude.{◌≡◌, suc, ◌<◌, replicate};
 ghost use Rattle.records.specs.declared.Answer.TheVariants.{Refused};
+ghost use Rattle.records.specs.declared.Plan.TheVariants.{Refuse};
 ghost use Rattle.records.specs.declared.Change.TheVariants.{Keep, Join, Withdraw};
-ghost use Rattle.records.specs.Records.{idle, running, with_entry, with_entries, move_to, number, value_of, session_of};
+ghost use Rattle.records.specs.Records.{idle, running, with_entry, with_entries, move_to, number, value_of, session_of, refusal_number};
 
 // A session's record: phase (0 idle, 1 running, 2 promoting, 3 publishing, 4 releasing), entry count, next cell.
 #[repr(C)]
-#[derive(Clone, Copy)]
+#[derive(Clone, Copy, PartialEq, Eq)]
 pub struct Session {
     pub phase: u8,
     pub count: u8,
@@ -18,13 +19,13 @@ pub struct Session {
 
 // The records of the sixteen sessions, which the caller keeps: a call takes that of its session and hands it back, set-up all sixteen.
 #[repr(C)]
-#[derive(Clone, Copy)]
+#[derive(Clone, Copy, PartialEq, Eq)]
 pub struct Sessions {
     pub records: [Session; 16],
 }
 
 // A cell's lock: the reader set (bit s for session s), the claimant (16 is nobody) and the writer mark.
-#[derive(Clone, Copy)]
+#[derive(Clone, Copy, PartialEq, Eq)]
 pub struct Lock {
     pub readers: u16,
     pub claimant: u8,
@@ -63,7 +64,7 @@ impl Call {
 }
 
 // What a call answers.
-#[derive(Clone, Copy)]
+#[derive(Clone, Copy, PartialEq, Eq)]
 pub enum Answer {
     Done,
     Value(u32),
@@ -73,6 +74,52 @@ pub enum Answer {
     Waiting(u32),
     Committed,
     Refused(u8),
+}
+
+// Why a call is refused, with document 01's number.
+#[derive(Clone, Copy, PartialEq, Eq)]
+pub enum Refusal {
+    UnknownSession = 1,
+    WrongPhase = 2,
+    UnknownCell = 3,
+    AboveCap = 4,
+    FullLog = 5,
+    Conflict = 6,
+    WrongLengths = 7,
+    UnknownClass = 8,
+    DamagedRecord = 9,
+    ShortTarget = 13,
+    NotEntered = 14,
+    WrongList = 15,
+    WrongCaps = 16,
+    ValueAboveCaps = 17,
+}
+
+impl Refusal {
+    // Document 01's number.
+    pub fn number(self) -> u8
+        ensures { result ≡ refusal_number self }
+    {
+        self as u8
+    }
+}
+
+// A refusal as an answer.
+impl From<Refusal> for Answer {
+    ghost from_gives = { λ r a. a ≡ Refused (refusal_number r) };
+
+    fn from(refusal: Refusal) -> Answer {
+        Answer::Refused(refusal.number())
+    }
+}
+
+// A refusal as what a call decides.
+impl From<Refusal> for Plan {
+    ghost from_gives = { λ r p. p ≡ Refuse (refusal_number r) };
+
+    fn from(refusal: Refusal) -> Plan {
+        Plan::Refuse(refusal.number())
+    }
 }
 
 impl Answer {
@@ -170,6 +217,29 @@ pub struct SessionReply {
     pub session: Session,
 }
 
+impl From<Turn> for SessionReply {
+    ghost from_gives = { λ t r. r ≡ record { answer = t.answer; session = t.session } };
+
+    fn from(t: Turn) -> SessionReply {
+        SessionReply {
+            answer: t.answer,
+            session: t.session,
+        }
+    }
+}
+
+impl SessionReply {
+    // A refusal, with the record as it came.
+    pub fn refused(refusal: Refusal, session: Session) -> SessionReply
+        ensures { result ≡ record { answer = Refused (refusal_number refusal); session = session } }
+    {
+        SessionReply {
+            answer: Answer::from(refusal),
+            session,
+        }
+    }
+}
+
 // What many reads reply: the last answer's number, how many values were obtained, and the record.
 #[repr(C)]
 #[derive(Clone, Copy)]
@@ -180,7 +250,7 @@ pub struct ReadManyReply {
 }
 
 // A call's answer and the records that it hands back.
-#[derive(Clone, Copy)]
+#[derive(Clone, Copy, PartialEq, Eq)]
 pub struct Reply {
     pub answer: Answer,
     pub sessions: Sessions,
@@ -215,9 +285,8 @@ impl Session {
         ensures { result ≡ with_entry self }
     {
         Session {
-            phase: self.phase,
             count: self.count + 1,
-            next: self.next,
+            ..self
         }
     }
 
@@ -225,11 +294,7 @@ impl Session {
     pub fn with_entries(self, count: u8) -> Session
         ensures { result ≡ with_entries count self }
     {
-        Session {
-            phase: self.phase,
-            count,
-            next: self.next,
-        }
+        Session { count, ..self }
     }
 
     // Sealed with a cell that publishes: promotion begins.
@@ -238,8 +303,8 @@ impl Session {
     {
         Session {
             phase: 2,
-            count: self.count,
             next: 0,
+            ..self
         }
     }
 
@@ -247,11 +312,7 @@ impl Session {
     pub fn moved(self, next: u16) -> Session
         ensures { result ≡ move_to self.phase next self }
     {
-        Session {
-            phase: self.phase,
-            count: self.count,
-            next,
-        }
+        Session { next, ..self }
     }
 
     // The last cell is handled: the phase rises.
@@ -261,8 +322,8 @@ impl Session {
     {
         Session {
             phase: self.phase + 1,
-            count: self.count,
             next: 0,
+            ..self
         }
     }
 }
