@@ -14,7 +14,7 @@ use Rattle.records.specs.declared.Answer.TheVariants.{Done, Refused}
 use Rattle.model.proofs.Tables.{has_caps_lem, has_not}
 use Rattle.model.proofs.Tools.{test, clash, and-false}
 use Rattle.loads.specs.Loads.{table_refusal, Lends}
-use Rattle.refusals.proofs.Lengths.{match_is}
+use Rattle.refusals.proofs.Admission.{match_is}
 
 -- ---- past 7
 

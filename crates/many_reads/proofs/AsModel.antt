@@ -16,7 +16,7 @@ use Rattle.records.specs.declared.Sessions.{Sessions}
 use Rattle.records.specs.declared.Answer.{Answer}
 use Rattle.records.specs.declared.Call.TheVariants.{Read}
 use Rattle.model.proofs.Tools.{test}
-use Rattle.refusals.proofs.Lengths.{Admitted}
+use Rattle.refusals.proofs.Admission.{Admitted}
 use Rattle.cell_reads.specs.Cells.{Fits, CellRead, read_cell, CellsRead, read_cells}
 use Rattle.many_reads.proofs.OneRead.{store_with, rolled_with, read_is}
 use Rattle.cell_reads.proofs.Ways.{fits_still}

@@ -28,7 +28,7 @@ use Rattle.contracts.specs.Lent.{locks_of}
 use Rattle.locks.specs.Changes.{one_of}
 use Rattle.locks.proofs.Changes.{joins}
 use Rattle.sweeps.proofs.Sweeps.{lock_here}
-use Rattle.refusals.proofs.Lengths.{Admitted}
+use Rattle.refusals.proofs.Admission.{Admitted}
 use Rattle.cell_reads.specs.Cells.{Fits, CellRead, cell_read, new_read, slot_read, read_cell}
 
 -- the lent buffers B, which fit, any limits, and sixteen records; the running session s has this next cell

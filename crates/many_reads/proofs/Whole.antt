@@ -27,7 +27,7 @@ use Rattle.model.proofs.Passing.{record_entries}
 use Rattle.refusals.proofs.Ways.{passes, run_passes, run_refused}
 use Rattle.contracts.specs.Lent.{locks_of}
 use Rattle.sweeps.specs.Sweeps.{Swept}
-use Rattle.refusals.proofs.Lengths.{Admitted, plan_refused_by}
+use Rattle.refusals.proofs.Admission.{Admitted, plan_refused_by}
 use Rattle.turns.proofs.Whole.{is_plan}
 use Rattle.cell_reads.specs.Cells.{Fits, CellsRead, cells_read, read_cells}
 use Rattle.cell_reads.specs.declared.CellsReply.{CellsReply}

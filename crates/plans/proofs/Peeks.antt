@@ -26,7 +26,7 @@ use Rattle.model.proofs.Tools.{split}
 use Rattle.model.proofs.Laws.{find_some}
 use Rattle.model.proofs.Carried.{same_record}
 use Rattle.records.proofs.Tags.{tag, Passed, passed, clashes}
-use Rattle.refusals.proofs.Lengths.{lengths_of, refuses}
+use Rattle.refusals.proofs.Admission.{lengths_of, refuses}
 use Rattle.model.proofs.Passing.{record_entries}
 
 -- ---- what a plan p of a peek can be

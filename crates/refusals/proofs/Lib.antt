@@ -1,4 +1,4 @@
 pub mod Ways
 pub mod Turned
-pub mod Lengths
+pub mod Admission
 pub mod SetUp

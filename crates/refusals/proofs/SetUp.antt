@@ -9,7 +9,7 @@ use Rattle.model.specs.Step.{outcome, set_up_refusal, set_up_answer, set_up, set
 use Rattle.records.specs.declared.Sessions.{Sessions}
 use Rattle.records.specs.declared.Answer.TheVariants.{Done, Refused}
 use Rattle.model.proofs.Tools.{both_r}
-use Rattle.refusals.proofs.Lengths.{lengths_of}
+use Rattle.refusals.proofs.Admission.{lengths_of}
 
 module _ (σ : Store) where
   pub set_7 : (has_caps σ.limits.caps && lengths_fit σ.lent) ≡ false → outcome (Refused 7) σ ≡ set_up_effect σ

@@ -84,42 +84,30 @@ module _ (n : ℕ) (log : List ℕ) (x : Session) where
         unfolding record_fits
         record_late w t = simp (sym e ∙ h, lt-leb x.phase 1 l) t
 
-  -- whether the tests of a call of a running session pass, in their order
-  pub runs_phase : (x.phase ≡ 1 → ⊥) → false ≡ eqb (tested (record_fits n log x) (eqb x.phase 1)) 0
-  unfolding tested
-  runs_phase h = rw (ne_eqb x.phase 1 h) (test (record_fits n log x) (λ w. rw w) (λ w. rw w))
-
+  -- the tests of a call of a running session, in their order
   module _ (h : x.phase ≡ 1) where
-    odd : false ≡ entries_fit n log x → false ≡ eqb (tested (record_fits n log x) (eqb x.phase 1)) 0
+    odd : false ≡ entries_fit n log x → 9 ≡ tested (record_fits n log x) (eqb x.phase 1)
     unfolding tested
     odd e = rw (sym (record_odd false e refl))
 
-    pub runs_many : 32 < x.count → false ≡ eqb (tested (record_fits n log x) (eqb x.phase 1)) 0
+    pub runs_many : 32 < x.count → 9 ≡ tested (record_fits n log x) (eqb x.phase 1)
     runs_many i = odd (entries_many (omega arith) i)
 
-    pub runs_cells : x.count ≤ 32 → (b : Bool) → b ≡ below n (cell_at log) x.count → b ≡ eqb (tested (record_fits n log x) (eqb x.phase 1)) 0
-    unfolding tested
-    runs_cells i b e =
-        let f = entries_cells (omega arith) (omega arith) i b e in
-        test b (λ z. z ∙ rw (sym (record_early b f z (omega arith)), eq-eqb x.phase 1 h)) (λ z. z ∙ odd (sym z ∙ f))
+    -- b is whether each entry's cell is one that there is
+    module _ (i : x.count ≤ 32) (b : Bool) (e : b ≡ below n (cell_at log) x.count) where
+      pub runs_past : b ≡ false → 9 ≡ tested (record_fits n log x) (eqb x.phase 1)
+      runs_past z = odd (sym z ∙ entries_cells (omega arith) (omega arith) i b e)
 
-  -- where they do not: 9 in phase 1, and in any other the number of a call that does not fit
-  pub refusal_running : eqb (tested (record_fits n log x) (eqb x.phase 1)) 0 ≡ false → x.phase ≡ 1 → 9 ≡ tested (record_fits n log x) (eqb x.phase 1)
-  unfolding tested
-  refusal_running z h =
-      test (record_fits n log x) (λ w. absurd (clash true refl (rw (w, eq-eqb x.phase 1 h) at z))) (λ w. rw w)
+      pub runs_whole : b ≡ true → 0 ≡ tested (record_fits n log x) (eqb x.phase 1)
+      unfolding tested
+      runs_whole z =
+          let f = entries_cells (omega arith) (omega arith) i b e in
+          rw (sym (record_early b f z (omega arith)), eq-eqb x.phase 1 h)
 
-  pub refusal_else : (x.phase ≡ 1 → ⊥) → (r : ℕ) → r ≡ tested (record_fits n log x) false → r ≡ tested (record_fits n log x) (eqb x.phase 1)
-  refusal_else h r e = rw (ne_eqb x.phase 1 h) e
-
-  -- so with the answer b: the tests' number is 0, or another
-  module _ (b : Bool) (e : b ≡ eqb (tested (record_fits n log x) (eqb x.phase 1)) 0) where
-    pub run_passes : b ≡ true → tested (record_fits n log x) (eqb x.phase 1) ≡ 0
-    run_passes z = eqb-true _ 0 (sym e ∙ z)
-
-    pub run_refused : b ≡ false → (r : ℕ) → r ≡ tested (record_fits n log x) (eqb x.phase 1) → (p : Plan) → Refuse r ≡ guard n log x (eqb x.phase 1) p
-    unfolding guard
-    run_refused z r o p = turned _ _ r p o (λ i. eqb-false _ 0 (sym e ∙ z) (sym o ∙ i))
+  -- another number of theirs than 0 is the plan's refusal
+  pub run_refused : (r : ℕ) → r ≡ tested (record_fits n log x) (eqb x.phase 1) → (r ≡ 0 → ⊥) → (p : Plan) → Refuse r ≡ guard n log x (eqb x.phase 1) p
+  unfolding guard
+  run_refused r o z p = turned _ _ r p o z
 
   -- begin: in phase 0 the record fits, in any other the number is that of the plan
   pub begin_starts : x.phase ≡ 0 → Start ≡ guard n log x (eqb x.phase 0) Start
@@ -140,13 +128,13 @@ module _ (n : ℕ) (log : List ℕ) (x : Session) where
     unfolding guard
     guard_refuses z = turned (record_fits n log x) fit r p e z
 
-  -- a running session: t is whether the tests pass
-  module _ (t : Bool) (e : t ≡ eqb (tested (record_fits n log x) (eqb x.phase 1)) 0) (z : t ≡ true) where
+  -- a running session, whose tests pass
+  module _ (z : 0 ≡ tested (record_fits n log x) (eqb x.phase 1)) where
     pub whole : record_fits n log x ≡ true
-    whole = (passes _ _ (run_passes t e z)).0
+    whole = (passes _ _ (sym z)).0
 
     pub in_phase_1 : eqb x.phase 1 ≡ true
-    in_phase_1 = (passes (record_fits n log x) _ (run_passes t e z)).1
+    in_phase_1 = (passes (record_fits n log x) _ (sym z)).1
 
     pub few : x.count ≤ 32
     few = let one = eqb-true x.phase 1 in_phase_1 in (record_entries n log x whole (omega arith)).count

@@ -2,81 +2,85 @@
 #![tactic(auto)]
 
 ghost use Rattle.std.specs.Prelude.{◌≡◌, false, ◌≤◌, eqb, length};
-ghost use Rattle.model.specs.Buffers.{lengths_match};
+ghost use Rattle.records.specs.Records.{refusal_number, refusal_of};
 ghost use Rattle.model.specs.Plans.{entries_fit, record_fits};
-ghost use Rattle.refusals.specs.Pieces.{admission, tested};
+ghost use Rattle.refusals.specs.Pieces.{match_of, admission, tested};
 
-use records::Session;
+use records::{Refusal, Session};
 
-// n from 1 to 1,024, classes and locks n long, 2,048 words of logs.
-pub fn lengths_fit(
-    n: usize,
-    classes: usize,
-    readers: usize,
-    claimants: usize,
-    exclusives: usize,
-    logs: usize,
-) -> bool
-    ensures { result ≡ lengths_match n classes readers claimants exclusives logs }
-{
-    if n == 0 {
-        return false;
-    }
-    if 1024 < n {
-        return false;
-    }
-    if classes != n {
-        return false;
-    }
-    if readers != n {
-        return false;
-    }
-    if claimants != n {
-        return false;
-    }
-    if exclusives != n {
-        return false;
-    }
-    logs == 2048
+// The lengths of what the caller lends.
+#[derive(Clone, Copy)]
+pub struct Lengths {
+    pub values: usize,
+    pub classes: usize,
+    pub readers: usize,
+    pub claimants: usize,
+    pub exclusives: usize,
+    pub logs: usize,
 }
 
-// 7 where the lengths do not fit, 1 where the session is above 15, or 0.
-pub fn admit(
-    n: usize,
-    classes: usize,
-    readers: usize,
-    claimants: usize,
-    exclusives: usize,
-    logs: usize,
-    session: u8,
-) -> u8
-    ensures { result ≡ admission (lengths_match n classes readers claimants exclusives logs) session }
-{
-    if !lengths_fit(n, classes, readers, claimants, exclusives, logs) {
-        return 7;
+impl Lengths {
+    // Of number slices.
+    pub fn of(
+        values: &[u32],
+        classes: &[u8],
+        readers: &[u16],
+        claimants: &[u8],
+        exclusives: &[u8],
+        logs: &[u32],
+    ) -> Lengths
+        ensures { result ≡ record { values = length values.now; classes = length classes.now; readers = length readers.now; claimants = length claimants.now; exclusives = length exclusives.now; logs = length logs.now } }
+    {
+        Lengths {
+            values: values.len(),
+            classes: classes.len(),
+            readers: readers.len(),
+            claimants: claimants.len(),
+            exclusives: exclusives.len(),
+            logs: logs.len(),
+        }
     }
-    if 15 < session {
-        return 1;
-    }
-    0
-}
 
-// Whether it is 0.
-pub fn admits(
-    n: usize,
-    classes: usize,
-    readers: usize,
-    claimants: usize,
-    exclusives: usize,
-    logs: usize,
-    session: u8,
-) -> bool
-    ensures { result ≡ eqb (admission (lengths_match n classes readers claimants exclusives logs) session) 0 }
-{
-    if !lengths_fit(n, classes, readers, claimants, exclusives, logs) {
-        return false;
+    // n from 1 to 1,024, classes and locks n long, 2,048 words of logs.
+    #[tactic(auto, unfolding(model::specs::Buffers::lengths_match))]
+    pub fn fit(self) -> bool
+        ensures { result ≡ match_of self }
+    {
+        let n = self.values;
+        if n == 0 {
+            return false;
+        }
+        if 1024 < n {
+            return false;
+        }
+        if self.classes != n {
+            return false;
+        }
+        if self.readers != n {
+            return false;
+        }
+        if self.claimants != n {
+            return false;
+        }
+        if self.exclusives != n {
+            return false;
+        }
+        self.logs == 2048
     }
-    session < 16
+
+    // 7 where the lengths do not fit, 1 where the session is above 15.
+    #[tactic(auto, unfolding(crate::specs::Pieces::admission))]
+    pub fn admit(self, session: u8) -> Result<(), Refusal>
+        ensures { refusal_of result ≡ admission (match_of self) session }
+    {
+        if !self.fit() {
+            return Err(Refusal::WrongLengths);
+        }
+        if 15 < session {
+            return Err(Refusal::UnknownSession);
+        }
+        Ok(())
+    }
 }
 
 // Phase at most 4; in phases 1 to 4 at most 32 entries, each of a cell below n.
@@ -115,45 +119,49 @@ fn record_fits(log: &[u32], n: usize, x: Session) -> bool
     targets::any_publishes(log, count, next)
 }
 
-// 9, or 2 where the call does not fit the phase, or 0.
-pub fn tests(log: &[u32], n: usize, x: Session, fit: bool) -> u8
+// 9, or 2: of a call that does not fit the phase.
+#[tactic(auto, unfolding(crate::specs::Pieces::tested))]
+pub fn unfit(log: &[u32], n: usize, x: Session) -> Refusal
     requires { (length log.now ≡ 128) × (n ≤ 1024) }
-    ensures { result ≡ tested (record_fits n log.now x) fit }
+    ensures { refusal_number result ≡ tested (record_fits n log.now x) false }
+{
+    if record_fits(log, n, x) {
+        Refusal::WrongPhase
+    } else {
+        Refusal::DamagedRecord
+    }
+}
+
+// 9, or 2 where the call does not fit the phase.
+#[tactic(auto, unfolding(crate::specs::Pieces::tested))]
+pub fn tests(log: &[u32], n: usize, x: Session, fit: bool) -> Result<(), Refusal>
+    requires { (length log.now ≡ 128) × (n ≤ 1024) }
+    ensures { refusal_of result ≡ tested (record_fits n log.now x) fit }
 {
     if !record_fits(log, n, x) {
-        return 9;
+        return Err(Refusal::DamagedRecord);
     }
     if !fit {
-        return 2;
+        return Err(Refusal::WrongPhase);
     }
-    0
+    Ok(())
 }
 
-// Whether they pass for a call of a running session. The tests of other phases stand apart, so that a running session is tested by what it needs alone.
-pub fn runs(log: &[u32], n: usize, x: Session) -> bool
+// The same for a call of a running session. The tests of other phases stand apart, so that a running session is tested by what it needs alone.
+pub fn runs(log: &[u32], n: usize, x: Session) -> Result<(), Refusal>
     requires { (length log.now ≡ 128) × (n ≤ 1024) }
-    ensures { result ≡ eqb (tested (record_fits n log.now x) (eqb x.phase 1)) 0 }
+    ensures { refusal_of result ≡ tested (record_fits n log.now x) (eqb x.phase 1) }
 {
-    let phase = x.phase;
     let count = x.count;
-    if phase != 1 {
-        return false;
+    let running = x.phase == 1;
+    if !running {
+        return Err(unfit(log, n, x));
     }
     if 32 < count {
-        return false;
+        return Err(Refusal::DamagedRecord);
     }
-    look_ups::all_below_by_fours(log, count as usize, n as u32)
-}
-
-// The number where they do not pass for a call of a running session: 9 or 2.
-pub fn running_refusal(log: &[u32], n: usize, x: Session) -> u8
-    requires { (length log.now ≡ 128) × (n ≤ 1024) × (eqb (tested (record_fits n log.now x) (eqb x.phase 1)) 0 ≡ false) }
-    ensures { result ≡ tested (record_fits n log.now x) (eqb x.phase 1) }
-{
-    let phase = x.phase;
-    let running = phase == 1;
-    if running {
-        return 9;
+    if !look_ups::all_below_by_fours(log, count as usize, n as u32) {
+        return Err(Refusal::DamagedRecord);
     }
-    tests(log, n, x, false)
+    Ok(())
 }

@@ -20,7 +20,7 @@ use Rattle.refusals.specs.Pieces.{admission}
 use Rattle.calls.specs.Pieces.{WriteDecided}
 use Rattle.turns.specs.InLogs.{in_logs}
 use Rattle.loads.specs.Loads.{Lends}
-use Rattle.refusals.proofs.Lengths
+use Rattle.refusals.proofs.Admission
 use Rattle.run_changes.specs.declared.Change.{Change}
 use Rattle.run_turns.specs.declared.Turn.{Turn}
 use Rattle.run_changes.specs.Run.{lent_on, store_on, count_of, swept, on_run}

@@ -24,8 +24,8 @@ use Rattle.refusals.specs.Pieces.{admission}
 use Rattle.any_call.specs.AnyCall.{cell_for, plan_with}
 use Rattle.turns.specs.InLogs.{in_logs}
 use Rattle.turns.proofs.Fitting.{call_fits}
-use Rattle.refusals.proofs.Lengths
-use Rattle.refusals.proofs.Lengths.{Admitted, plan_refused}
+use Rattle.refusals.proofs.Admission
+use Rattle.refusals.proofs.Admission.{Admitted, plan_refused}
 use Rattle.session_log.proofs.Logs.{log_long}
 use Rattle.turns.proofs.InLogs.{left, still}
 use Rattle.any_call.proofs.AnyCall.{one_lock}

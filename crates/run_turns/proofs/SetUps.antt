@@ -9,7 +9,7 @@ use Rattle.model.specs.Buffers.{Limits, free, idle, has_caps, passes, all_fit, l
 use Rattle.records.specs.declared.Sessions.{Sessions}
 use Rattle.records.specs.declared.Lock.{Lock}
 use Rattle.records.specs.declared.Answer.TheVariants.{Done, Refused}
-use Rattle.refusals.proofs.Lengths.{Lengths, lengths_of, match_is}
+use Rattle.refusals.proofs.Admission.{Lengths, lengths_of, match_is}
 use Rattle.refusals.proofs.SetUp.{set_7, set_16, set_8, set_done}
 use Rattle.run_changes.specs.declared.Change.TheVariants.{Clear}
 use Rattle.run_turns.specs.declared.Turn.{Turn}

@@ -34,7 +34,7 @@ use Rattle.advance.specs.declared.Due.TheVariants.{Refused, Slot}
 use Rattle.advance.proofs.Agree.{advance_agree}
 use Rattle.calls.proofs.Choices.{Choice, refuses, knows, enters, read_choice, hold_choice, write_choice, when_told}
 use Rattle.turns.specs.InLogs.{in_logs}
-use Rattle.refusals.proofs.Lengths.{Admitted, refused_by, refused_under_by}
+use Rattle.refusals.proofs.Admission.{Admitted, refused_by, refused_under_by}
 use Rattle.turns.proofs.Guards.{guarded}
 use Rattle.turns.proofs.InLogs.{kept_in}
 use Rattle.session_log.proofs.Logs.{log_long}

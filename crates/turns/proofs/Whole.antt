@@ -21,7 +21,7 @@ use Rattle.model.proofs.Laws.{log_length}
 use Rattle.model.proofs.Carried.{carries}
 use Rattle.model.proofs.Tables.{goes_fits, goes_plan}
 use Rattle.locks.specs.Changes.{ChangeFits}
-use Rattle.refusals.proofs.Lengths.{Admitted}
+use Rattle.refusals.proofs.Admission.{Admitted}
 use Rattle.turns.specs.InLogs.{in_logs}
 use Rattle.turns.proofs.InLogs.{left}
 use Rattle.turns.proofs.Fitting.{call_fits}

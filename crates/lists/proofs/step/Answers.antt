@@ -2,7 +2,7 @@
 use Rattle.std.proofs.Common.{refl, sym, ◌∙◌}
 use Rattle.model.specs.Buffers.{Buffers}
 use Rattle.model.proofs.Tables.{goes_fits}
-use Rattle.refusals.proofs.Lengths.{admitted_by, plan_refused_by, refuses}
+use Rattle.refusals.proofs.Admission.{admitted_by, plan_refused_by, refuses}
 use Rattle.contracts.specs.Lent.{buffers_of}
 use Rattle.turns.proofs.Forms.{even, log_fits, can_carry, replies}
 use Rattle.lists.proofs.Laws.{any_planned, of_sixteen}

@@ -1,7 +1,7 @@
 -- The call is refused by its list or target, by 7 or 1, or by 9 or 2, or its reads come to what the model says.
 use Rattle.std.proofs.Common.{sym, ◌∙◌, arith}
 use Rattle.contracts.specs.Lent.{buffers_of}
-use Rattle.refusals.proofs.Lengths.{admitted_by}
+use Rattle.refusals.proofs.Admission.{admitted_by}
 use Rattle.turns.proofs.Forms.{log_fits}
 use Rattle.many_reads.proofs.Whole.{refused_list, list_fits, not_admitted, not_running, fits, few_values, few_entries, runs_on, can_roll, rolls_back}
 use Rattle.many_reads.proofs.read_many.Goals as goal

@@ -3,7 +3,7 @@ use Rattle.std.proofs.Common.{refl, ◌∙◌}
 use Rattle.model.specs.Plans.{plan}
 use Rattle.records.specs.declared.Call.TheVariants.{Peek}
 use Rattle.contracts.specs.Lent.{buffers_of}
-use Rattle.refusals.proofs.Lengths.{admitted_by, plan_refused_by}
+use Rattle.refusals.proofs.Admission.{admitted_by, plan_refused_by}
 use Rattle.turns.proofs.Whole.{is_plan}
 use Rattle.turns.proofs.Forms.{log_fits}
 use Rattle.peeks.proofs.peek_plan.Goals as goal

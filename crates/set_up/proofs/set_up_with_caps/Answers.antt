@@ -3,7 +3,7 @@ use Rattle.std.proofs.Common.{◌≡◌, refl, sym, ◌∙◌, true, false, ◌&
 use Rattle.model.specs.Buffers.{Buffers, has_caps, lengths_fit}
 use Rattle.model.proofs.Tables.{has_caps_lem, has_not}
 use Rattle.contracts.specs.Lent.{store_of}
-use Rattle.refusals.proofs.Lengths.{match_is, lengths_of}
+use Rattle.refusals.proofs.Admission.{match_is, lengths_of}
 use Rattle.refusals.proofs.SetUp.{set_7, set_16, set_8, set_done}
 use Rattle.set_up.proofs.set_up_with_caps.Goals as goal
 

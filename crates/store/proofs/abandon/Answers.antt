@@ -3,7 +3,7 @@ use Rattle.std.proofs.Common.{refl, ap, ◌∙◌}
 use Rattle.contracts.specs.Lent.{buffers_of}
 use Rattle.model.specs.Plans.{plan}
 use Rattle.records.specs.declared.Call.TheVariants.{Abandon}
-use Rattle.refusals.proofs.Lengths.{admitted_by}
+use Rattle.refusals.proofs.Admission.{admitted_by}
 use Rattle.locks.specs.Changes.{drop_of}
 use Rattle.turns.proofs.Forms.{log_fits, undropped, abandon_drops_none, kept_change, kept_carry, kept_replies, turned_down}
 use Rattle.store.proofs.abandon.Goals as goal

@@ -2,7 +2,7 @@
 use Rattle.std.proofs.Common.{refl, ap, ◌∙◌, length}
 use Rattle.contracts.specs.Lent.{buffers_of}
 use Rattle.records.specs.declared.Call.TheVariants.{Advance}
-use Rattle.refusals.proofs.Lengths.{admitted_by}
+use Rattle.refusals.proofs.Admission.{admitted_by}
 use Rattle.locks.specs.Changes.{drop_of}
 use Rattle.advance.proofs.Agree.{due_fits}
 use Rattle.turns.proofs.Forms.{even, log_fits, undropped, advance_planned, advance_drops_none, kept_change, kept_carry, kept_replies, turned_down}

@@ -3,7 +3,7 @@ use Rattle.std.proofs.Common.{refl, ◌∙◌}
 use Rattle.contracts.specs.Lent.{buffers_of}
 use Rattle.model.specs.Plans.{plan}
 use Rattle.records.specs.declared.Call.TheVariants.{Begin}
-use Rattle.refusals.proofs.Lengths.{admitted_by}
+use Rattle.refusals.proofs.Admission.{admitted_by}
 use Rattle.turns.proofs.Guards.{begin_keeps}
 use Rattle.turns.proofs.Forms.{log_fits, no_change, kept_change, kept_replies, turned_down}
 use Rattle.store.proofs.begin.Goals as goal

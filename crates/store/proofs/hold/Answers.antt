@@ -3,7 +3,7 @@ use Rattle.std.proofs.Common.{refl, ap, ◌∙◌}
 use Rattle.contracts.specs.Lent.{buffers_of}
 use Rattle.model.specs.Plans.{plan}
 use Rattle.records.specs.declared.Call.TheVariants.{Hold}
-use Rattle.refusals.proofs.Lengths.{admitted_by}
+use Rattle.refusals.proofs.Admission.{admitted_by}
 use Rattle.locks.specs.Changes.{drop_of}
 use Rattle.turns.proofs.Forms.{even, log_fits, undropped, hold_planned, hold_drops_none, change_is, can_carry, replies, turned_down}
 use Rattle.store.proofs.hold.Goals as goal

@@ -3,7 +3,7 @@ use Rattle.std.proofs.Common.{refl}
 use Rattle.contracts.specs.Lent.{buffers_of}
 use Rattle.model.specs.Plans.{plan}
 use Rattle.records.specs.declared.Call.TheVariants.{Seal}
-use Rattle.refusals.proofs.Lengths.{admitted_by}
+use Rattle.refusals.proofs.Admission.{admitted_by}
 use Rattle.turns.proofs.Forms.{even, log_fits, drop_alone, seal_drops, kept_change, kept_carry, kept_replies, turned_down}
 use Rattle.store.proofs.seal.Goals as goal
 

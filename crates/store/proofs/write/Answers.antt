@@ -4,7 +4,7 @@ use Rattle.contracts.specs.Lent.{buffers_of}
 use Rattle.model.specs.Buffers.{our_caps}
 use Rattle.model.specs.Plans.{plan}
 use Rattle.records.specs.declared.Call.TheVariants.{Write}
-use Rattle.refusals.proofs.Lengths.{admitted_by}
+use Rattle.refusals.proofs.Admission.{admitted_by}
 use Rattle.locks.specs.Changes.{drop_of}
 use Rattle.turns.proofs.Forms.{even, log_fits, undropped, write_planned, write_drops_none, change_is, can_carry, replies, turned_down}
 use Rattle.store.proofs.write.Goals as goal

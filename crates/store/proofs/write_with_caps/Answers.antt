@@ -5,7 +5,7 @@ use Rattle.model.specs.Plans.{plan}
 use Rattle.records.specs.declared.Call.TheVariants.{Write}
 use Rattle.model.specs.Turns.{TurnEffect}
 use Rattle.model.proofs.Tables.{has_caps_lem, has_not}
-use Rattle.refusals.proofs.Lengths.{admitted_by, table_refused}
+use Rattle.refusals.proofs.Admission.{admitted_by, table_refused}
 use Rattle.locks.specs.Changes.{drop_of}
 use Rattle.turns.proofs.Forms.{even, log_fits, undropped, write_planned, write_drops_none, can_carry_under, replies_under, turned_down_under}
 use Rattle.store.proofs.write_with_caps.Goals as goal
