@@ -1,22 +1,12 @@
--- A cell that does not fit ends the test with false; one that fits leaves it to the cells behind; behind the last it is true.
-use Rattle.std.proofs.Common.{sym, refl, ◌∙◌, rules}
-use Rattle.model.specs.Buffers.{our_caps, cap}
-use Rattle.caps.proofs.Caps.{fits_not, fits_over, fits_within, fit_fails, fit_on, fit_end}
+-- The chain is the test of each value with its class.
+use Rattle.std.proofs.Common.{◌∙◌, ℕ, rules, tests}
+use Rattle.std.proofs.lemmas.Iterator.{YieldsList-from_slice, YieldsList-from_zip}
+use Rattle.std.proofs.lemmas.Iterator.Search.{all_from_yields_List}
+use Rattle.model.specs.Buffers.{fits, cap}
+use Rattle.caps.proofs.Caps.{all_fit_is}
 use Rattle.caps.proofs.all_fit.Goals as goal
 
-pub returns-then-class-gt15 : goal.returns-then-class-gt15
-returns-then-class-gt15 c =
-    sym (fit_fails _ _ _ _ c.loop-i-test.true c.requires _ (fits_not _ _ _ c.if-class-gt15.true) refl) ∙ c.loop-i.invariant.1
-
-pub returns-then-caps-class : goal.returns-then-caps-class
-unfolding cap our_caps
-returns-then-caps-class c =
-    sym (fit_fails _ _ _ _ c.loop-i-test.true c.requires _ (fits_over _ _ _ _ c.if-class-gt15.false refl c.if-caps-class.true) refl) ∙ c.loop-i.invariant.1
-
-pub loop-i-preserved : goal.loop-i-preserved
-unfolding cap our_caps
-loop-i-preserved c =
-    (search rules, sym (fit_on _ _ _ _ c.loop-i-test.true c.requires _ (fits_within _ _ _ _ c.if-class-gt15.false refl c.if-caps-class.false) refl) ∙ c.loop-i.invariant.1)
-
 pub returns : goal.returns
-returns c = sym (fit_end _ _ _ _ c.loop-i-test.false) ∙ c.loop-i.invariant.1
+unfolding fits cap
+returns c =
+    all_from_yields_List (λ (p : ℕ × ℕ). fits c.args.caps.now p.1 p.0) c.all.new.self _ _ c.all.ensures.ran (YieldsList-from_zip (YieldsList-from_slice c.args.values.now cc) (YieldsList-from_slice c.args.classes.now cc)) (λ x b q k. search (rules, tests)) ∙ all_fit_is _ _ _ c.requires.1
