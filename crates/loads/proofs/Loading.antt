@@ -14,33 +14,9 @@ use Rattle.records.specs.declared.Answer.TheVariants.{Done, Refused}
 use Rattle.model.proofs.Tables.{has_caps_lem, has_not}
 use Rattle.model.proofs.Tools.{test, clash, and-false}
 use Rattle.loads.specs.Loads.{table_refusal, Lends}
+use Rattle.refusals.specs.declared.Lengths.{Lengths}
+use Rattle.refusals.specs.Pieces.{match_of}
 use Rattle.refusals.proofs.Admission.{match_is}
-
--- ---- past 7
-
-module _ (T : List ℕ) (ss : Sessions) (vs ks : List ℕ) where
-  pub refuses_2 : all_idle ss ≡ false → 2 ≡ table_refusal T ss vs ks
-  unfolding table_refusal
-  refuses_2 a = rw a
-
-  module _ (a : all_idle ss ≡ true) where
-    pub refuses_16 : passes T ≡ false → 16 ≡ table_refusal T ss vs ks
-    unfolding table_refusal
-    refuses_16 b = rw (a, b)
-
-    module _ (b : passes T ≡ true) where
-      pub refuses_8 : all_classed ks ≡ false → 8 ≡ table_refusal T ss vs ks
-      unfolding table_refusal
-      refuses_8 c = rw (a, b, c)
-
-      module _ (c : all_classed ks ≡ true) where
-        pub refuses_17 : all_fit T vs ks ≡ false → 17 ≡ table_refusal T ss vs ks
-        unfolding table_refusal
-        refuses_17 d = rw (a, b, c, d)
-
-        pub refuses_none : all_fit T vs ks ≡ true → 0 ≡ table_refusal T ss vs ks
-        unfolding table_refusal
-        refuses_none d = rw (a, b, c, d)
 
 -- ---- on a store
 
@@ -67,42 +43,43 @@ module _ (T : List ℕ) (σ : Store) where
     load_done n = rw (number_is, eq-eqb r 0 n)
 
 -- where the lengths fit the classes are as many as the values
-pub even : (n k r c e w : ℕ) (f : Bool) → f ≡ lengths_match n k r c e w → f ≡ true → k ≡ n
+pub even : (l : Lengths) (n k : ℕ) → (l.values ≡ n) × (l.classes ≡ k) → (f : Bool) → f ≡ match_of l → f ≡ true → k ≡ n
 unfolding lengths_match
-even n k r c e w f q g = eqb-true k n (test (eqb k n) (λ p. p) (λ p. absurd (clash f g (q ∙ rw (p, and-false)))))
+even l n k s f q g =
+    sym s.1 ∙ eqb-true l.classes l.values (test (eqb l.classes l.values) (λ p. p) (λ p. absurd (clash f g (q ∙ rw (p, and-false))))) ∙ s.0
 
 -- ---- as the code has it: the table C in force, the values vs, the classes ks, and the lengths of the rest
 
-module _ (vs ks : List ℕ) (r c e w : ℕ) (C T : List ℕ) (ss : Sessions) where
+module _ (vs ks : List ℕ) (l : Lengths) (C T : List ℕ) (ss : Sessions) where
   abbrev given : Buffers → Store
   given B = record { lent = B; limits = record { caps = C }; sessions = ss }
 
   abbrev Refuses : ℕ → Type 0
-  Refuses n = (B : Buffers) → Lends vs ks r c e w B → outcome (Refused n) (given B) ≡ load_effect T (given B)
+  Refuses n = (B : Buffers) → Lends vs ks l.readers l.claimants l.exclusives l.logs B → outcome (Refused n) (given B) ≡ load_effect T (given B)
 
   pub caps_7 : (length C ≡ 16 → ⊥) → Refuses 7
-  caps_7 n B l = load_7 T (given B) (rw (has_not C n))
+  caps_7 n B h = load_7 T (given B) (rw (has_not C n))
 
   pub table_7 : (length T ≡ 16 → ⊥) → Refuses 7
-  table_7 n B l = load_7 T (given B) (rw (has_not T n, and-false))
+  table_7 n B h = load_7 T (given B) (rw (has_not T n, and-false))
 
-  module _ (f : Bool) (q : f ≡ lengths_match (length vs) (length ks) r c e w) where
-    is_fit : (B : Buffers) → Lends vs ks r c e w B → f ≡ lengths_fit B
-    is_fit B l = (rw (l.values, l.classes, l.readers, l.claimants, l.exclusives, l.logs) at q) ∙ match_is B
+  module _ (s : (l.values ≡ length vs) × (l.classes ≡ length ks)) (f : Bool) (q : f ≡ match_of l) where
+    is_fit : (B : Buffers) → Lends vs ks l.readers l.claimants l.exclusives l.logs B → f ≡ lengths_fit B
+    is_fit B h = (rw (s.0, s.1, h.values, h.classes, h.readers, h.claimants, h.exclusives, h.logs) at q) ∙ match_is B
 
     pub lengths_7 : f ≡ false → Refuses 7
-    lengths_7 g B l = load_7 T (given B) (rw (sym (is_fit B l) ∙ g, and-false))
+    lengths_7 g B h = load_7 T (given B) (rw (sym (is_fit B h) ∙ g, and-false))
 
     module _ (a : length C ≡ 16) (b : length T ≡ 16) (g : f ≡ true) (n : ℕ) (o : n ≡ table_refusal T ss vs ks) where
-      fitting : (B : Buffers) → Lends vs ks r c e w B → fit T (given B) ≡ true
-      fitting B l = rw (has_caps_lem C a, has_caps_lem T b, sym (is_fit B l) ∙ g)
+      fitting : (B : Buffers) → Lends vs ks l.readers l.claimants l.exclusives l.logs B → fit T (given B) ≡ true
+      fitting B h = rw (has_caps_lem C a, has_caps_lem T b, sym (is_fit B h) ∙ g)
 
-      said : (B : Buffers) → Lends vs ks r c e w B → n ≡ table_refusal T ss B.values B.classes
-      said B l = rw (l.values, l.classes) at o
+      said : (B : Buffers) → Lends vs ks l.readers l.claimants l.exclusives l.logs B → n ≡ table_refusal T ss B.values B.classes
+      said B h = rw (h.values, h.classes) at o
 
       pub refuses : (n ≡ 0 → ⊥) → Refuses n
-      refuses z B l = load_refused T (given B) (fitting B l) n (said B l) z
+      refuses z B h = load_refused T (given B) (fitting B h) n (said B h) z
 
-      pub loads : n ≡ 0 → (D : List ℕ) → D ≡ T → (B : Buffers) → Lends vs ks r c e w B
+      pub loads : n ≡ 0 → (D : List ℕ) → D ≡ T → (B : Buffers) → Lends vs ks l.readers l.claimants l.exclusives l.logs B
           → outcome Done (record { lent = B; limits = record { caps = D }; sessions = ss }) ≡ load_effect T (given B)
-      loads z D d B l = rw d (load_done T (given B) (fitting B l) n (said B l) z)
+      loads z D d B h = rw d (load_done T (given B) (fitting B h) n (said B h) z)

@@ -60,6 +60,11 @@ abbrev pub refusal_of : {A : Type 0} → Result A Refusal → ℕ
 refusal_of (Ok _) = 0
 refusal_of (Err r) = refusal_number r
 
+-- what a call that answers nothing but 100 answers
+abbrev pub answered : {A : Type 0} → Result A Refusal → Answer
+answered (Ok _) = Done
+answered (Err r) = Refused (refusal_number r)
+
 -- 0 except with 101 and 104 (document 02, Paper 6)
 abbrev pub value_of : Answer → ℕ
 value_of Done = 0

@@ -6,7 +6,7 @@ ghost use Rattle.std.specs.Prelude.{◌≡◌, suc, ◌<◌, replicate};
 ghost use Rattle.records.specs.declared.Answer.TheVariants.{Refused};
 ghost use Rattle.records.specs.declared.Plan.TheVariants.{Refuse};
 ghost use Rattle.records.specs.declared.Change.TheVariants.{Keep, Join, Withdraw};
-ghost use Rattle.records.specs.Records.{idle, running, with_entry, with_entries, move_to, number, value_of, session_of, refusal_number};
+ghost use Rattle.records.specs.Records.{idle, running, with_entry, with_entries, move_to, number, value_of, session_of, refusal_number, answered};
 
 // A session's record: phase (0 idle, 1 running, 2 promoting, 3 publishing, 4 releasing), entry count, next cell.
 #[repr(C)]
@@ -110,6 +110,18 @@ impl From<Refusal> for Answer {
 
     fn from(refusal: Refusal) -> Answer {
         Answer::Refused(refusal.number())
+    }
+}
+
+// 100, or the refusal.
+impl From<Result<(), Refusal>> for Answer {
+    ghost from_gives = { λ r a. a ≡ answered r };
+
+    fn from(tested: Result<(), Refusal>) -> Answer {
+        match tested {
+            Ok(()) => Answer::Done,
+            Err(refusal) => Answer::from(refusal),
+        }
     }
 }
 

@@ -5,19 +5,17 @@ use Rattle.model.specs.Load.{idle_below}
 use Rattle.loads.proofs.Idling.{idle_fails, idle_on, idle_end}
 use Rattle.loads.proofs.are_idle.Goals as goal
 
-pub loop-i-init : goal.loop-i-init
+pub loop-session-init : goal.loop-session-init
 unfolding idle_below
-loop-i-init c = (omega arith, refl)
+loop-session-init c = refl
 
-pub returns-then-x-ne0 : goal.returns-then-x-ne0
+pub returns-then-session-ne0 : goal.returns-then-session-ne0
 unfolding session_at
-returns-then-x-ne0 c = idle_fails c.args.sessions c.loop-i.i c.loop-i-test.true c.if-x-ne0.true
+returns-then-session-ne0 c = idle_fails c.args.sessions c.loop-session.session-index ? c.if-session-ne0.true
 
-pub loop-i-preserved : goal.loop-i-preserved
+pub loop-session-preserved : goal.loop-session-preserved
 unfolding session_at
-loop-i-preserved c = (omega arith, idle_on c.args.sessions c.loop-i.i c.loop-i.invariant.1 c.if-x-ne0.false)
+loop-session-preserved c = idle_on c.args.sessions c.loop-session.session-index c.loop-session.invariant c.if-session-ne0.false
 
 pub returns : goal.returns
-returns c =
-    let e : c.loop-i.i ≡ 16 = omega (arith, c.loop-i.invariant.0, c.loop-i-test.false) in
-    idle_end c.args.sessions (rw (sym e) c.loop-i.invariant.1)
+returns c = let e : c.loop-session.session-index ≡ 16 = ? in idle_end c.args.sessions (rw (sym e) c.loop-session.invariant)
