@@ -1,6 +1,6 @@
 -- The model's tests of a table and of classes, as the library's tests of each element.
 use Rattle.std.proofs.Common.{◌≡◌, ◌∙◌, refl, ap, arith, ℕ, ◌+◌, ◌≤◌, ◌<◌, add-one, ◌&&◌, true, false, List, [], ◌∷◌, length, drop}
-use Rattle.std.specs.List.{list_all, zip}
+use Rattle.std.specs.List.{list_all}
 use Rattle.std.proofs.lemmas.Bool.{le-ltb, lt-ltb}
 use lib.Dec.{ltb}
 use lib.ListN.{get_or, drop_of_length-le}
@@ -13,12 +13,21 @@ unfolding all_classed
 all_classed_is [] = refl
 all_classed_is (k ∷ ks) = ap (λ b. ltb k 16 && b) (all_classed_is ks)
 
--- as many classes as values
-pub all_fit_is : (T vs ks : List ℕ) → length ks ≡ length vs → list_all (λ (p : ℕ × ℕ). fits T p.1 p.0) (zip vs ks) ≡ all_fit T vs ks
+-- what one cell more makes of the test
+module _ (T vs ks : List ℕ) (i : ℕ) (h : i < length vs) (e : length ks ≡ length vs) where
+  fit_step : all_fit T (drop i vs) (drop i ks) ≡ (fits T (get_or ks i 0) (get_or vs i 0) && all_fit T (drop (i + 1) vs) (drop (i + 1) ks))
+  unfolding all_fit
+  fit_step = let j : i < length ks = omega arith in rw (drop-cons vs i 0 h, drop-cons ks i 0 j, add-one)
+
+  pub fit_stops : fits T (get_or ks i 0) (get_or vs i 0) ≡ false → all_fit T (drop i vs) (drop i ks) ≡ false
+  fit_stops q = fit_step ∙ rw q
+
+  pub fit_goes_on : fits T (get_or ks i 0) (get_or vs i 0) ≡ true → all_fit T (drop i vs) (drop i ks) ≡ all_fit T (drop (i + 1) vs) (drop (i + 1) ks)
+  fit_goes_on q = fit_step ∙ rw q
+
+pub fit_ends : (T vs ks : List ℕ) (i : ℕ) → length vs ≤ i → all_fit T (drop i vs) (drop i ks) ≡ true
 unfolding all_fit
-all_fit_is T [] ks e = refl
-all_fit_is T (v ∷ vs) [] e = search arith
-all_fit_is T (v ∷ vs) (k ∷ ks) e = ap (λ b. fits T k v && b) (all_fit_is T vs ks (omega arith))
+fit_ends T vs ks i h = rw (drop_of_length-le vs h)
 
 -- what one cap more makes of the test, after a cap m
 module _ (T : List ℕ) (i m : ℕ) (h : i < length T) where
