@@ -1,2 +1,3 @@
 pub mod Idling
 pub mod Loading
+pub mod SetUp

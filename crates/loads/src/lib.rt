@@ -34,18 +34,16 @@ pub fn judge_set_up(
     ensures { refusal_of result ≡ set_up_tests caps.now lengths values.now classes.now }
 {
     if caps.len() != 16 {
-        return Err(Refusal::WrongLengths);
+        Err(Refusal::WrongLengths)
+    } else if !lengths.fit() {
+        Err(Refusal::WrongLengths)
+    } else if !caps::caps_pass(caps) {
+        Err(Refusal::WrongCaps)
+    } else if !caps::all_fit_by(caps, values, classes) {
+        Err(Refusal::UnknownClass)
+    } else {
+        Ok(())
     }
-    if !lengths.fit() {
-        return Err(Refusal::WrongLengths);
-    }
-    if !caps::caps_pass(caps) {
-        return Err(Refusal::WrongCaps);
-    }
-    if !caps::all_fit(caps, values, classes) {
-        return Err(Refusal::UnknownClass);
-    }
-    Ok(())
 }
 
 // A table to be loaded: 2, 16, 8 and 17.
@@ -68,7 +66,7 @@ fn judge_table(
     if !caps::all_classed(classes) {
         return Err(Refusal::UnknownClass);
     }
-    if !caps::all_fit(table, values, classes) {
+    if !caps::all_fit_by(table, values, classes) {
         return Err(Refusal::ValueAboveCaps);
     }
     Ok(())

@@ -1,5 +1,6 @@
 -- Refusals 7 and 1, by which every call is admitted: what the number says, and what is known of the buffers past it.
 use mathlib.Core.Path.{◌≡◌, refl, sym, ◌∙◌}
+use Rattle.std.specs.Prelude.{Result, Ok, Err}
 use mathlib.Core.Bool.{Bool, true, false}
 use Prim.Native.Nat.{ℕ, ◌%◌, ◌<◌, ◌≤◌}
 use native.Mathlib.Omega.{arith}
@@ -10,6 +11,9 @@ use Rattle.model.specs.Buffers.{Buffers, Limits, Store, size, lengths_fit, lengt
 use Rattle.model.specs.Effects.{answer, after}
 use Rattle.model.specs.Step.{outcome, answer_of, step, effect, plan_of, session_of, TakesUnder, TakesRecord}
 use Rattle.model.specs.Plans.{table_fits}
+use Rattle.records.specs.declared.Refusal.{Refusal}
+use Rattle.records.specs.Records.{refusal_number, refusal_of}
+use Rattle.records.proofs.Refusals.{nonzero, passes}
 use Rattle.records.specs.declared.Session.{Session}
 use Rattle.records.specs.declared.Call.{Call}
 use Rattle.records.specs.declared.Answer.TheVariants.{Refused}
@@ -17,7 +21,8 @@ use Rattle.records.specs.declared.Plan.TheVariants.{Refuse}
 use Rattle.model.proofs.Tools.{test, clash, and-false}
 use Rattle.model.proofs.Carried.{same_record}
 use Rattle.model.proofs.Tables.{goes_fits}
-use Rattle.refusals.specs.Pieces.{admission}
+use Rattle.refusals.specs.declared.Lengths as the
+use Rattle.refusals.specs.Pieces.{match_of, admission}
 
 -- what fitting lengths say, one by one
 pub record Lengths (B : Buffers) : Type 0 where
@@ -47,6 +52,18 @@ lengths_of B h =
       logs = eqb-true _ 2048 (must (lengths_fit B) h (eqb (length B.logs) 2048) (λ p. rw (p, and-false)));
     }
 
+-- the lengths of buffers
+abbrev pub lengths_in : Buffers → the.Lengths
+lengths_in B =
+    record {
+      values = length B.values;
+      classes = length B.classes;
+      readers = length B.locks.readers;
+      claimants = length B.locks.claimants;
+      exclusives = length B.locks.exclusives;
+      logs = length B.logs;
+    }
+
 -- what the code tests is the model's test
 pub match_is : (B : Buffers)
     → lengths_match (length B.values) (length B.classes) (length B.locks.readers) (length B.locks.claimants) (length B.locks.exclusives) (length B.logs) ≡ lengths_fit B
@@ -69,52 +86,38 @@ pub table_refused : (G : Limits) (k : Call) (B : Buffers) (x : Session) → tabl
 table_refused G k B x t ss o =
     rw (← o, same_record ss (session_of k % 16)) (refuses k (record { lent = B; limits = G; sessions = ss }) 7 (unfold plan_of in rw t))
 
--- r is the number that the code's test answered
-module _ (B : Buffers) (s r : ℕ)
-    (e : r ≡ admission (lengths_match (length B.values) (length B.classes) (length B.locks.readers) (length B.locks.claimants) (length B.locks.exclusives) (length B.logs)) s) where
-  passed_both : (fit low : Bool) → lengths_fit B ≡ fit → ltb s 16 ≡ low → r ≡ 0 → (fit ≡ true) × (low ≡ true)
+-- q is what the code's test of the lengths and the session answered
+module _ (B : Buffers) (s : ℕ) (q : Result Unit Refusal) (e : refusal_of q ≡ admission (match_of (lengths_in B)) s) where
+  passed_both : (fit low : Bool) → lengths_fit B ≡ fit → ltb s 16 ≡ low → 0 ≡ refusal_of q → (fit ≡ true) × (low ≡ true)
   unfolding admission
   passed_both true true f l z = (refl, refl)
-  passed_both true false f l z = absurd (let w : r ≡ 1 = rw (match_is B, f, l) at e in omega arith)
-  passed_both false low f l z = absurd (let w : r ≡ 7 = rw (match_is B, f) at e in omega arith)
+  passed_both true false f l z = absurd (let w : refusal_of q ≡ 1 = rw (match_is B, f, l) at e in omega arith)
+  passed_both false low f l z = absurd (let w : refusal_of q ≡ 7 = rw (match_is B, f) at e in omega arith)
 
-  pub admitted : r ≡ 0 → Admitted B s
-  admitted z =
-      let w = passed_both (lengths_fit B) (ltb s 16) refl refl z in
+  pub admitted : ((r : Refusal) → q ≡ Err r → ⊥) → Admitted B s
+  admitted h =
+      let w = passed_both (lengths_fit B) (ltb s 16) refl refl (passes q h) in
       record { fit = w.0; lengths = lengths_of B w.0; low = ltb-true s 16 w.1 }
 
-  -- any other number is the plan's refusal, where the table fits
-  pub plan_refused : (k : Call) → s ≡ session_of k → (r ≡ 0 → ⊥) → (σ : Store) → table_fits k σ.limits ≡ true → σ.lent ≡ B → Refuse r ≡ plan_of k σ
-  unfolding plan_of admission
-  plan_refused k i n σ t b =
-      test (lengths_fit B)
-      (λ f.
-      test (ltb s 16) (λ l. absurd (n (rw (match_is B, f, l) at e)))
-      (λ l. let w : r ≡ 1 = rw (match_is B, f, l) at e in rw (t, b, f, ← i, l, w)))
-      (λ f. let w : r ≡ 7 = rw (match_is B, f) at e in rw (t, b, f, w))
+  -- a refusal is the plan's, where the table fits
+  module _ (r : Refusal) (z : q ≡ Err r) (k : Call) (i : s ≡ session_of k) where
+    number_is : refusal_number r ≡ admission (match_of (lengths_in B)) s
+    number_is = rw z at e
 
-  -- and the call is refused by it, with all as it was
-  pub refused_under : (G : Limits) (k : Call) → table_fits k G ≡ true → s ≡ session_of k → (r ≡ 0 → ⊥) → (x : Session) → TakesUnder G k B x (Refused r) B x
-  refused_under G k t i n x ss o =
-      rw (← o, same_record ss (session_of k % 16))
-      (refuses k (record { lent = B; limits = G; sessions = ss }) r (plan_refused k i n (record { lent = B; limits = G; sessions = ss }) t refl))
+    pub plan_refused : (σ : Store) → table_fits k σ.limits ≡ true → σ.lent ≡ B → Refuse (refusal_number r) ≡ plan_of k σ
+    unfolding plan_of admission
+    plan_refused σ t b =
+        test (lengths_fit B)
+        (λ f.
+        test (ltb s 16) (λ l. absurd (nonzero r (rw (match_is B, f, l) at number_is)))
+        (λ l. let w : refusal_number r ≡ 1 = rw (match_is B, f, l) at number_is in rw (t, b, f, ← i, l, w)))
+        (λ f. let w : refusal_number r ≡ 7 = rw (match_is B, f) at number_is in rw (t, b, f, w))
 
-  pub refused : (k : Call) → s ≡ session_of k → (r ≡ 0 → ⊥) → (x : Session) → TakesRecord k B x (Refused r) B x
-  refused k i n x G g = refused_under G k (goes_fits k G g) i n x
+    -- and the call is refused by it, with all as it was
+    pub refused_under : (G : Limits) → table_fits k G ≡ true → (x : Session) → TakesUnder G k B x (Refused (refusal_number r)) B x
+    refused_under G t x ss o =
+        rw (← o, same_record ss (session_of k % 16))
+        (refuses k (record { lent = B; limits = G; sessions = ss }) (refusal_number r) (plan_refused (record { lent = B; limits = G; sessions = ss }) t refl))
 
--- the same where the code has the test's answer t first, and asks for the number only where it did not pass
-module _ (B : Buffers) (s : ℕ) (t : Bool)
-    (e : t ≡ eqb (admission (lengths_match (length B.values) (length B.classes) (length B.locks.readers) (length B.locks.claimants) (length B.locks.exclusives) (length B.logs)) s) 0) where
-  pub admitted_by : t ≡ true → Admitted B s
-  admitted_by z = admitted B s _ refl (eqb-true _ 0 (sym e ∙ z))
-
-  module _ (z : t ≡ false) (r : ℕ)
-      (o : r ≡ admission (lengths_match (length B.values) (length B.classes) (length B.locks.readers) (length B.locks.claimants) (length B.locks.exclusives) (length B.logs)) s) (k : Call) (i : s ≡ session_of k) where
-    pub plan_refused_by : (σ : Store) → table_fits k σ.limits ≡ true → σ.lent ≡ B → Refuse r ≡ plan_of k σ
-    plan_refused_by = plan_refused B s r o k i (λ w. eqb-false _ 0 (sym e ∙ z) (sym o ∙ w))
-
-    pub refused_under_by : (G : Limits) → table_fits k G ≡ true → (x : Session) → TakesUnder G k B x (Refused r) B x
-    refused_under_by G t = refused_under B s r o G k t i (λ w. eqb-false _ 0 (sym e ∙ z) (sym o ∙ w))
-
-    pub refused_by : (x : Session) → TakesRecord k B x (Refused r) B x
-    refused_by = refused B s r o k i (λ w. eqb-false _ 0 (sym e ∙ z) (sym o ∙ w))
+    pub refused : (x : Session) → TakesRecord k B x (Refused (refusal_number r)) B x
+    refused x G g = refused_under G (goes_fits k G g) x

@@ -1,4 +1,3 @@
 pub mod Ways
 pub mod Turned
 pub mod Admission
-pub mod SetUp
