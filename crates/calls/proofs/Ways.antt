@@ -26,14 +26,14 @@ seal_none none h = refl
 seal_none (some c) h = absurd (clash true refl h)
 
 module _ (n : ℕ) (log : List ℕ) (x : Session) where
-  -- a running session: t is whether the tests pass
-  module _ (t : Bool) (e : t ≡ eqb (tested (record_fits n log x) (eqb x.phase 1)) 0) (z : t ≡ true) where
+  -- a running session, whose tests pass
+  module _ (z : 0 ≡ tested (record_fits n log x) (eqb x.phase 1)) where
     -- b is whether a cell is written
     module _ (b : Bool) (w : b ≡ some? (target_in log x.count 0)) where
       pub seal_writes : b ≡ true → BeginPromotion ≡ seal_plan n log x
       unfolding guard known seal_plan
-      seal_writes h = simp (whole n log x t e z, in_phase_1 n log x t e z) (seal_some _ (sym w ∙ h))
+      seal_writes h = simp (whole n log x z, in_phase_1 n log x z) (seal_some _ (sym w ∙ h))
 
       pub seal_reads : b ≡ false → CommitReads ≡ seal_plan n log x
       unfolding guard known seal_plan
-      seal_reads h = simp (whole n log x t e z, in_phase_1 n log x t e z) (seal_none _ (sym w ∙ h))
+      seal_reads h = simp (whole n log x z, in_phase_1 n log x z) (seal_none _ (sym w ∙ h))

@@ -17,13 +17,11 @@ pub fn take_begin(log: &[u32], n: usize, x: Session) -> Turn
     requires { (length log.now ≡ 128) × (n ≤ 1024) }
     ensures { TurnsLog (guard n log.now x (eqb x.phase 0) Start) log x result }
 {
-    let phase = x.phase;
-    let open = phase != 0;
+    let open = x.phase != 0;
     if open {
-        return records::keeps(Answer::Refused(refusals::tests(log, n, x, false)), x);
+        return records::keeps(Answer::from(refusals::unfit(log, n, x)), x);
     }
-    let y = x.begun();
-    records::keeps(Answer::Done, y)
+    records::keeps(Answer::Done, x.begun())
 }
 
 // Abandon: phases 1 and 2. The session is rolled back. 100.
@@ -31,15 +29,13 @@ pub fn take_abandon(log: &[u32], n: usize, x: Session) -> Turn
     requires { (length log.now ≡ 128) × (n ≤ 1024) }
     ensures { TurnsLog (guard n log.now x (eqb x.phase 1 || eqb x.phase 2) Cancel) log x result }
 {
-    let phase = x.phase;
-    let refusal = refusals::tests(log, n, x, (phase == 1) | (phase == 2));
-    if refusal != 0 {
-        return records::keeps(Answer::Refused(refusal), x);
+    let fit = (x.phase == 1) | (x.phase == 2);
+    if let Err(refusal) = refusals::tests(log, n, x, fit) {
+        return records::keeps(Answer::from(refusal), x);
     }
-    let y = x.idled();
     Turn {
         answer: Answer::Done,
-        session: y,
+        session: x.idled(),
         change: Change::Withdraw,
     }
 }
@@ -121,23 +117,21 @@ pub fn take_seal(log: &[u32], n: usize, x: Session) -> Turn
     requires { (length log.now ≡ 128) × (n ≤ 1024) }
     ensures { TurnsLog (seal_plan n log.now x) log x result }
 {
-    let count = x.count as usize;
-    if !refusals::runs(log, n, x) {
-        return records::keeps(Answer::Refused(refusals::running_refusal(log, n, x)), x);
+    if let Err(refusal) = refusals::runs(log, n, x) {
+        return records::keeps(Answer::from(refusal), x);
     }
-    let publishes = targets::any_publishes(log, count, 0);
+    let publishes = targets::any_publishes(log, x.count as usize, 0);
     if publishes {
-        let y = x.sealed();
-        return Turn {
+        Turn {
             answer: Answer::Sealed,
-            session: y,
+            session: x.sealed(),
             change: Change::DropReads,
-        };
-    }
-    let y = x.idled();
-    Turn {
-        answer: Answer::Committed,
-        session: y,
-        change: Change::DropReads,
+        }
+    } else {
+        Turn {
+            answer: Answer::Committed,
+            session: x.idled(),
+            change: Change::DropReads,
+        }
     }
 }

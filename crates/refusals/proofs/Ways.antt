@@ -12,6 +12,9 @@ use Rattle.model.specs.Search.{some?, below}
 use Rattle.model.specs.Buffers.{cell_at, target_in}
 use Rattle.model.specs.Plans.{known, entries_fit, record_fits, guard}
 use Rattle.records.specs.declared.Session.{Session}
+use Rattle.records.specs.declared.Refusal.{Refusal}
+use Rattle.records.specs.Records.{refusal_number}
+use Rattle.records.proofs.Refusals.{nonzero}
 use Rattle.records.specs.declared.Plan.{Plan}
 use Rattle.records.specs.declared.Plan.TheVariants.{Refuse, Start}
 use Rattle.model.proofs.Passing.{Entries, entries_of, record_entries}
@@ -105,9 +108,10 @@ module _ (n : ℕ) (log : List ℕ) (x : Session) where
           rw (sym (record_early b f z (omega arith)), eq-eqb x.phase 1 h)
 
   -- another number of theirs than 0 is the plan's refusal
-  pub run_refused : (r : ℕ) → r ≡ tested (record_fits n log x) (eqb x.phase 1) → (r ≡ 0 → ⊥) → (p : Plan) → Refuse r ≡ guard n log x (eqb x.phase 1) p
+  pub run_refused : (r : Refusal) → refusal_number r ≡ tested (record_fits n log x) (eqb x.phase 1) → (p : Plan)
+      → Refuse (refusal_number r) ≡ guard n log x (eqb x.phase 1) p
   unfolding guard
-  run_refused r o z p = turned _ _ r p o z
+  run_refused r o p = turned _ _ (refusal_number r) p o (nonzero r)
 
   -- begin: in phase 0 the record fits, in any other the number is that of the plan
   pub begin_starts : x.phase ≡ 0 → Start ≡ guard n log x (eqb x.phase 0) Start
@@ -119,14 +123,14 @@ module _ (n : ℕ) (log : List ℕ) (x : Session) where
   begin_refused h r e = rw (ne_eqb x.phase 0 h, e) (test (record_fits n log x) (λ w. rw w) (λ w. rw w))
 
   -- abandon, by the number that the tests answered
-  module _ (fit : Bool) (p : Plan) (r : ℕ) (e : r ≡ tested (record_fits n log x) fit) where
-    pub guard_passes : r ≡ 0 → p ≡ guard n log x fit p
+  module _ (fit : Bool) (p : Plan) where
+    pub guard_passes : 0 ≡ tested (record_fits n log x) fit → p ≡ guard n log x fit p
     unfolding guard
-    guard_passes z = let w = passes (record_fits n log x) fit (sym e ∙ z) in rw (w.0, w.1)
+    guard_passes z = let w = passes (record_fits n log x) fit (sym z) in rw (w.0, w.1)
 
-    pub guard_refuses : (r ≡ 0 → ⊥) → Refuse r ≡ guard n log x fit p
+    pub guard_refuses : (r : Refusal) → refusal_number r ≡ tested (record_fits n log x) fit → Refuse (refusal_number r) ≡ guard n log x fit p
     unfolding guard
-    guard_refuses z = turned (record_fits n log x) fit r p e z
+    guard_refuses r e = turned (record_fits n log x) fit (refusal_number r) p e (nonzero r)
 
   -- a running session, whose tests pass
   module _ (z : 0 ≡ tested (record_fits n log x) (eqb x.phase 1)) where

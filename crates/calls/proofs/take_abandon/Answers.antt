@@ -1,12 +1,13 @@
 -- Each return is the turn of its plan.
-use Rattle.std.proofs.Common.{sym}
+use Rattle.std.proofs.Common.{refl, sym, ◌∙◌}
+use Rattle.records.proofs.Refusals.{passes}
 use Rattle.refusals.proofs.Ways.{guard_refuses, guard_passes}
 use Rattle.refusals.proofs.Turned.{turn_refused}
 use Rattle.calls.proofs.Turning.{turn_cancelled}
 use Rattle.calls.proofs.take_abandon.Goals as goal
 
-pub returns-then-refusal-ne0 : goal.returns-then-refusal-ne0
-returns-then-refusal-ne0 c = λ vs. turn_refused vs _ _ _ _ _ (sym (guard_refuses _ _ _ _ _ _ c.tests-refusal.ensures c.if-refusal-ne0.true)) c.keeps.ensures
+pub returns-in-Err : goal.returns-in-Err
+returns-in-Err c = λ vs. turn_refused vs _ _ _ _ _ (sym (guard_refuses _ _ _ _ _ _ c.in-Err.ensures)) (c.keeps.ensures ∙ rw c.from.ensures refl)
 
 pub returns : goal.returns
-returns c = λ vs. turn_cancelled vs _ _ _ _ (sym (guard_passes _ _ _ _ _ _ c.tests-refusal.ensures c.if-refusal-ne0.false)) c.idled-y.ensures
+returns c = λ vs. turn_cancelled vs _ _ _ _ (sym (guard_passes _ _ _ _ _ (passes _ c.in_default.not-Err ∙ c.tests.ensures))) c.idled.ensures
