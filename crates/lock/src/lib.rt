@@ -1,7 +1,8 @@
-// One lock by value, and its reader set (document 01, "What the caller lends", Locks): whatever way locks are kept, they change by these.
+// One lock by value, and its reader set (document 01, "What the caller lends", Locks): whatever way locks are kept, they change by these. And the locks
+// of all cells on three lent slices.
 #![tactic(auto)]
 
-ghost use Rattle.std.specs.Prelude.{◌≡◌, ◌<◌, eqb};
+ghost use Rattle.std.specs.Prelude.{◌≡◌, ◌<◌, eqb, length};
 ghost use Rattle.model.specs.Readers.{with_reader, without_reader, other_readers};
 ghost use Rattle.model.specs.Buffers.{free, join, leave, vacate, withdraw, claim, acquire};
 ghost use Rattle.model.specs.Plans.{claimed};
@@ -133,4 +134,16 @@ pub fn acquired(l: Lock, session: u8) -> Lock
         exclusive: 1,
         ..l
     }
+}
+
+// ---- the locks of all cells
+
+// The locks of all cells on three slices that are lent together, one of readers, one of claimants and one of marks: each has all cells.
+#[derive(Drop)]
+pub struct Locks<'a> {
+    pub readers: &'a mut [u16],
+    pub claimants: &'a mut [u8],
+    pub exclusives: &'a mut [u8],
+    ghost claimant_each: { length claimants.now ≡ length readers.now },
+    ghost exclusive_each: { length exclusives.now ≡ length readers.now },
 }
