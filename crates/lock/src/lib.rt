@@ -1,9 +1,10 @@
-// One lock by value, and its reader set (document 01, "What the caller lends", Locks): whatever way locks are kept, they change by these.
+// One lock by value, and its reader set (document 01, "What the caller lends", Locks): whatever way locks are kept, they change by these. And the locks
+// of all cells on three lent slices.
 #![tactic(auto)]
 
-ghost use Rattle.std.specs.Prelude.{◌≡◌, ◌<◌, eqb};
+ghost use Rattle.std.specs.Prelude.{◌≡◌, ◌<◌, eqb, length};
 ghost use Rattle.model.specs.Readers.{with_reader, without_reader, other_readers};
-ghost use Rattle.model.specs.Buffers.{join, leave, vacate, withdraw, claim, acquire};
+ghost use Rattle.model.specs.Buffers.{free, join, leave, vacate, withdraw, claim, acquire};
 ghost use Rattle.model.specs.Plans.{claimed};
 
 use records::Lock;
@@ -31,8 +32,7 @@ pub fn alone(readers: u16, session: u8) -> bool
     requires { session < 16 }
     ensures { result ≡ eqb (other_readers session readers) 0 }
 {
-    let set = with_reader(readers, session);
-    u16::count_ones(set) == 1
+    with_reader(readers, session).count_ones() == 1
 }
 
 // How many other sessions read: the ones of that same set, less this session.
@@ -40,19 +40,28 @@ pub fn others(readers: u16, session: u8) -> u32
     requires { session < 16 }
     ensures { result ≡ other_readers session readers }
 {
-    let set = with_reader(readers, session);
-    u16::count_ones(set) - 1
+    with_reader(readers, session).count_ones() - 1
 }
 
 // ---- a lock
+
+// No readers, nobody claimant, no mark.
+pub fn empty() -> Lock
+    ensures { result ≡ free }
+{
+    Lock {
+        readers: 0,
+        claimant: 16,
+        exclusive: 0,
+    }
+}
 
 // Somebody is claimant: any byte but 16.
 #[tactic(auto, unfolding(model::specs::Plans::claimed))]
 pub fn is_claimed(l: Lock) -> bool
     ensures { result ≡ claimed l }
 {
-    let claimant = l.claimant;
-    claimant != 16
+    l.claimant != 16
 }
 
 // The session joins the readers.
@@ -63,8 +72,7 @@ pub fn joined(l: Lock, session: u8) -> Lock
 {
     Lock {
         readers: with_reader(l.readers, session),
-        claimant: l.claimant,
-        exclusive: l.exclusive,
+        ..l
     }
 }
 
@@ -76,8 +84,7 @@ pub fn left(l: Lock, session: u8) -> Lock
 {
     Lock {
         readers: without_reader(l.readers, session),
-        claimant: l.claimant,
-        exclusive: l.exclusive,
+        ..l
     }
 }
 
@@ -89,8 +96,7 @@ pub fn vacated(l: Lock, session: u8) -> Lock
 {
     Lock {
         readers: without_reader(l.readers, session),
-        claimant: 16,
-        exclusive: 0,
+        ..empty()
     }
 }
 
@@ -100,11 +106,11 @@ pub fn withdrawn(l: Lock, session: u8) -> Lock
     requires { session < 16 }
     ensures { result ≡ withdraw session l }
 {
-    let claimant = l.claimant;
-    if claimant == session {
-        return vacated(l, session);
+    if l.claimant == session {
+        vacated(l, session)
+    } else {
+        left(l, session)
     }
-    left(l, session)
 }
 
 // The session is claimant.
@@ -113,9 +119,8 @@ pub fn claimed(l: Lock, session: u8) -> Lock
     ensures { result ≡ claim session l }
 {
     Lock {
-        readers: l.readers,
         claimant: session,
-        exclusive: l.exclusive,
+        ..l
     }
 }
 
@@ -125,8 +130,20 @@ pub fn acquired(l: Lock, session: u8) -> Lock
     ensures { result ≡ acquire session l }
 {
     Lock {
-        readers: l.readers,
         claimant: session,
         exclusive: 1,
+        ..l
     }
+}
+
+// ---- the locks of all cells
+
+// The locks of all cells on three slices that are lent together, one of readers, one of claimants and one of marks: each has all cells.
+#[derive(Drop)]
+pub struct Locks<'a> {
+    pub readers: &'a mut [u16],
+    pub claimants: &'a mut [u8],
+    pub exclusives: &'a mut [u8],
+    ghost claimant_each: { length claimants.now ≡ length readers.now },
+    ghost exclusive_each: { length exclusives.now ≡ length readers.now },
 }

@@ -1,14 +1,16 @@
--- A change of the locks on three lent lists, carried out by three functions: that of one cell's lock, rolling back, sealing.
-use Rattle.std.specs.Prelude.{◌≡◌, ℕ, ◌≤◌, ◌<◌, List, [], length}
+-- A change of the locks on three lent slices, in three parts: that of one cell's lock, rolling back, sealing. Two functions carry it out, the second the
+-- last part.
+use Rattle.std.specs.Prelude.{◌≡◌, ℕ, ◌≤◌, ◌<◌, List, length}
 use Rattle.model.specs.Buffers.{Locks, lock_at}
-use Rattle.model.specs.Slices.{Slice}
 use Rattle.model.specs.Turns.{changed}
 use Rattle.records.specs.declared.Lock.{Lock}
 use Rattle.records.specs.declared.Plan.{Plan}
 use Rattle.records.specs.declared.Plan.TheVariants.{Enter, EnterUpdate, EnterMark}
 use Rattle.records.specs.declared.Change.{Change}
 use Rattle.records.specs.declared.Change.TheVariants.{Keep, Join, Claim, Acquire, Vacate, Withdraw, DropReads}
-use Rattle.contracts.specs.Lent.{locks_of, locks_before, locks_after}
+use Rattle.contracts.specs.Lent.{locks_of}
+use Rattle.lock.specs.declared.Locks.{Locks as LentLocks}
+use Rattle.lock.specs.Lent.{locks_in}
 use Rattle.sweeps.specs.Sweeps.{Swept}
 
 -- l is the lock of the cell that a plan enters
@@ -17,7 +19,7 @@ pub record LockFor (p : Plan) (L : Locks) (l : Lock) : Type 0 where
   pub updates : (c v : ℕ) → p ≡ EnterUpdate c v → l ≡ lock_at L c
   pub marks : (c : ℕ) → p ≡ EnterMark c → l ≡ lock_at L c
 
--- the part of a change that each function carries out: of one cell, of rolling back, of sealing
+-- the parts of a change: of one cell, of rolling back, of sealing
 unfoldable pub one_of : Change → Change
 one_of Keep = Keep
 one_of (Join c) = Join c
@@ -55,18 +57,9 @@ ChangeFits (Vacate c) s log m n = c < n
 ChangeFits Withdraw s log m n = Swept s log m n
 ChangeFits DropReads s log m n = Swept s log m n × (n ≤ 1024)
 
--- what each function leaves; the third, which calls the first two, of a change but for the reads that it drops
-abbrev pub ChangesOne : Change → ℕ → Slice → Slice → Slice → Type 0
-ChangesOne d s readers claimants exclusives =
-    locks_after readers claimants exclusives ≡ changed (one_of d) [] 0 s (locks_before readers claimants exclusives)
-
-abbrev pub Withdraws : Change → Slice → ℕ → ℕ → Slice → Slice → Slice → Type 0
-Withdraws d log m s readers claimants exclusives =
-    locks_after readers claimants exclusives ≡ changed (withdraw_of d) log.entry.now m s (locks_before readers claimants exclusives)
-
-abbrev pub CarriesOut : Change → Slice → ℕ → ℕ → Slice → Slice → Slice → Type 0
-CarriesOut d log m s readers claimants exclusives =
-    changed (drop_of d) log.entry.now m s (locks_after readers claimants exclusives) ≡ changed d log.entry.now m s (locks_before readers claimants exclusives)
+-- what is left of the locks by a change but for the reads that it drops; and of the reader sets by a change that drops reads
+abbrev pub CarriesOut : Change → List ℕ → ℕ → ℕ → LentLocks → LentLocks → Type 0
+CarriesOut d log m s before after = changed (drop_of d) log m s (locks_in after) ≡ changed d log m s (locks_in before)
 
 abbrev pub DropsIf : Change → List ℕ → ℕ → ℕ → List ℕ → List ℕ → Type 0
 DropsIf d log m s R R' =

@@ -53,6 +53,11 @@ module _ (R C E : List ℕ) (c : ℕ) (eC : length C ≡ length R) (eE : length 
     unfolding on_lock lock_at withdraw
     withdraw_other s n = rw (ne_eqb (get_or C c 16) s (λ e. n (get_or_any C c 0 16 (omega arith) ∙ e))) (leave_on R C E c s)
 
+-- a lock changed leaves as many
+pub as_many : (c : ℕ) (f : Lock → Lock) (L : Locks) → length (on_lock c f L).readers ≡ length L.readers
+unfolding on_lock set_lock
+as_many c f L = length-set L.readers c _
+
 -- the lock that is there, put again
 put_same : (c : ℕ) (L : Locks) → set_lock c (lock_at L c) L ≡ L
 unfolding set_lock lock_at

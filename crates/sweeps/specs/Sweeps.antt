@@ -1,10 +1,13 @@
 -- What rolling back and sealing leave of the locks as three lent lists, by the session's log.
 use Rattle.std.specs.Prelude.{◌≡◌, ℕ, ◌*◌, ◌/◌, ◌%◌, ◌≤◌, ◌<◌, Bool, true, false, cond, not, List, length, get_or, set}
+use Rattle.std.specs.Prelude.{Option, Some, None}
 use Rattle.model.specs.Search.{below}
 use Rattle.model.specs.Readers.{member, with_reader, without_reader}
 use Rattle.model.specs.Slices.{Slice}
 use Rattle.model.specs.Effects.{rolled_back}
-use Rattle.contracts.specs.Lent.{locks_of, locks_before, locks_after}
+use Rattle.contracts.specs.Lent.{locks_of}
+use Rattle.lock.specs.declared.Locks.{Locks as LentLocks}
+use Rattle.lock.specs.Lent.{locks_in}
 use Rattle.model.specs.Buffers.{cell_at, entry_at, publishes, publishes_in, sweep, leave}
 
 -- what a sweep of m entries asks: the session is one of sixteen, the entries lie in the log, each cell has a lock
@@ -14,9 +17,8 @@ pub record Swept (s : ℕ) (log : List ℕ) (m : ℕ) (n : ℕ) : Type 0 where
   pub cells : below n (cell_at log) m ≡ true
 
 -- rolling back: the locks that a sweep of m entries of a log leaves
-abbrev pub RollsBack : Slice → ℕ → ℕ → Slice → Slice → Slice → Type 0
-RollsBack log m s readers claimants exclusives =
-    locks_after readers claimants exclusives ≡ rolled_back log.entry.now m s (locks_before readers claimants exclusives)
+abbrev pub RollsBack : List ℕ → ℕ → ℕ → LentLocks → LentLocks → Type 0
+RollsBack log m s before after = locks_in after ≡ rolled_back log m s (locks_in before)
 
 -- sealing: the reader sets R' are those that the first k of m entries leave of R, whatever claimants and marks stand beside them; and that all m leave
 abbrev pub DroppedSoFar : List ℕ → ℕ → ℕ → ℕ → List ℕ → List ℕ → Type 0
@@ -30,6 +32,11 @@ DropsReads log m s R R' = DroppedSoFar log m m s R R'
 -- none of the first k entries publishes
 abbrev pub NonePublished : List ℕ → ℕ → Type 0
 NonePublished log k = (j : ℕ) → j < k → publishes (entry_at log j) ≡ false
+
+-- sealing so far as the first of m entries that publishes, where there is one
+abbrev pub DropsUpTo : List ℕ → ℕ → ℕ → List ℕ → List ℕ → Option ℕ → Type 0
+DropsUpTo log m s R R' None = DropsReads log m s R R'
+DropsUpTo log m s R R' (Some k) = (k ≤ m) × NonePublished log k × DroppedSoFar log m k s R R'
 
 -- a set of cells below 1,024 as sixteen words of 64 binary digits
 unfoldable pub marked : List ℕ → ℕ → Bool

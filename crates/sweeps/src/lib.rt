@@ -1,12 +1,15 @@
-// The locks of a log's entries, on three lent slices: rolling back, and sealing (document 01, "The steps").
+// The locks of a log's entries: rolling back, on three lent slices; and sealing, on that of the readers (document 01, "The steps").
 #![tactic(auto)]
 
-ghost use Rattle.std.specs.Prelude.{◌≡◌, ◌+◌, ◌*◌, ◌<◌, ◌≤◌, length, get_or, set};
+ghost use Rattle.std.specs.Prelude.{◌≡◌, ◌+◌, ◌*◌, ◌<◌, ◌≤◌, length, get_or, set, replicate};
 ghost use Rattle.model.specs.Readers.{without_reader};
 ghost use Rattle.model.specs.Buffers.{cell_at, on_lock, withdraw};
 ghost use Rattle.model.specs.Slices.{as_lent};
-ghost use Rattle.contracts.specs.Lent.{locks_before, locks_after};
-ghost use Rattle.sweeps.specs.Sweeps.{Swept, DropsReads, DroppedSoFar, NonePublished, marked, mark, RollsBack, DropsAt};
+ghost use Rattle.lock.specs.Lent.{locks_in, SameSlices};
+ghost use Rattle.sweeps.specs.Sweeps.{Swept, DropsReads, DropsUpTo, marked, mark, RollsBack, DropsAt};
+
+use lock::Locks;
+use std::marker::Model;
 
 // ---- rolling back
 
@@ -16,105 +19,110 @@ fn leave_at(readers: &mut [u16], cell: u32, session: u8)
     ensures { readers.new ≡ set readers.old cell (without_reader session (get_or readers.old cell 0)) }
 {
     let c = cell as usize;
-    let set = readers[c];
-    readers[c] = lock::without_reader(set, session);
+    readers[c] = lock::without_reader(readers[c], session);
 }
 
 // The session withdraws from one cell.
-fn withdraw_at(
-    readers: &mut [u16],
-    claimants: &mut [u8],
-    exclusives: &mut [u8],
-    cell: u32,
-    session: u8,
-)
-    requires { (session < 16) × (cell < length readers.old) × (length claimants.old ≡ length readers.old) × (length exclusives.old ≡ length readers.old) }
-    ensures { locks_after (as_lent readers) (as_lent claimants) (as_lent exclusives) ≡ on_lock cell (withdraw session) (locks_before (as_lent readers) (as_lent claimants) (as_lent exclusives)) }
+fn withdraw_at(locks: &mut Locks, cell: u32, session: u8)
+    requires { (session < 16) × (cell < length locks.old.readers.now) }
+    ensures lent { SameSlices locks.old locks.new }
+    ensures withdrawn { locks_in locks.new ≡ on_lock cell (withdraw session) (locks_in locks.old) }
 {
-    leave_at(readers, cell, session);
+    leave_at(locks.readers, cell, session);
     let c = cell as usize;
-    if claimants[c] == session {
-        claimants[c] = 16;
-        exclusives[c] = 0;
+    if locks.claimants[c] == session {
+        locks.claimants[c] = 16;
+        locks.exclusives[c] = 0;
     }
 }
 
 // Rolling back: the session withdraws from the cell of each entry.
-pub fn roll_back(
-    log: &[u32],
-    count: usize,
-    readers: &mut [u16],
-    claimants: &mut [u8],
-    exclusives: &mut [u8],
-    session: u8,
-)
-    requires { (Swept session log.now count (length readers.old)) × (length claimants.old ≡ length readers.old) × (length exclusives.old ≡ length readers.old) }
-    ensures { RollsBack log count session (as_lent readers) (as_lent claimants) (as_lent exclusives) }
+pub fn roll_back(locks: &mut Locks, log: &[u32], count: usize, session: u8)
+    requires { Swept session log.now count (length locks.old.readers.now) }
+    ensures lent { SameSlices locks.old locks.new }
+    ensures rolled_back { RollsBack log.now count session locks.old locks.new }
 {
-    let mut i = 0;
-    while i < count {
-        let cell = session_log::cell_at(log, i);
-        withdraw_at(readers, claimants, exclusives, cell, session);
-        i += 1;
+    for i in 0..count {
+        withdraw_at(locks, session_log::cell_at(log, i), session);
     }
 }
 
 // ---- a set of cells
 
-// Whether a cell is in a set of cells.
-pub fn is_marked(cells: &[u64; 16], cell: u32) -> bool
-    requires { cell < 1024 }
-    ensures { result ≡ marked cells.now cell }
-{
-    let w = (cell / 64) as usize;
-    let word = cells[w];
-    (word >> (cell % 64)) % 2 == 1
+// A set of cells below 1,024: a word for each 64 of them, in it a bit for each.
+#[derive(Drop)]
+pub struct CellSet {
+    words: [u64; 16],
 }
 
-// A cell is put into a set of cells.
-pub fn put_mark(cells: &mut [u64; 16], cell: u32)
-    requires { cell < 1024 }
-    ensures { cells.new ≡ mark cells.old cell }
-{
-    let w = (cell / 64) as usize;
-    let word = cells[w];
-    cells[w] = word | (1u64 << (cell % 64));
+impl Model for CellSet {
+    ghost use Rattle.std.specs.Prelude.{◌≡◌, ℕ, List, length};
+
+    ghost Value = { List ℕ };
+
+    ghost view = { λ s. s.words };
+
+    ghost invariant = { λ s. length s.words ≡ 16 };
+}
+
+impl CellSet {
+    // No cell.
+    pub fn new() -> CellSet
+        ensures { result ≡ replicate 16 0 }
+    {
+        CellSet { words: [0; 16] }
+    }
+
+    // Whether a cell is in the set.
+    pub fn contains(&self, cell: u32) -> bool
+        requires { cell < 1024 }
+        ensures { result ≡ marked self.now cell }
+    {
+        let w = (cell / 64) as usize;
+        (self.words[w] >> (cell % 64)) % 2 == 1
+    }
+
+    // A cell is put into the set.
+    pub fn insert(&mut self, cell: u32)
+        requires { cell < 1024 }
+        ensures { self.new ≡ mark self.old cell }
+    {
+        let w = (cell / 64) as usize;
+        self.words[w] = self.words[w] | (1u64 << (cell % 64));
+    }
 }
 
 // ---- sealing
 
 // Entry k at sealing: a cell that the entry publishes is marked; of one that it does not publish, and that no entry before it does, the session leaves the readers.
-fn drop_at(log: &[u32], k: usize, readers: &mut [u16], written: &mut [u64; 16], session: u8)
+fn drop_at(log: &[u32], k: usize, readers: &mut [u16], written: &mut CellSet, session: u8)
     requires { (session < 16) × (4 * k + 3 < length log.now) × (cell_at log.now k < 1024) × (cell_at log.now k < length readers.old) }
     ensures { DropsAt log k session (as_lent written) (as_lent readers) }
 {
     let cell = session_log::cell_at(log, k);
     let stays = session_log::publishes(log, k);
     if stays {
-        put_mark(written, cell);
+        written.insert(cell);
         return;
     }
-    if is_marked(&*written, cell) {
+    if written.contains(cell) {
         return;
     }
     leave_at(readers, cell, session);
 }
 
-// The session leaves the readers of the cells before the first entry that publishes; the entry's index, or the count.
-fn drop_unpublished(log: &[u32], count: usize, readers: &mut [u16], session: u8) -> usize
+// The session leaves the readers of the cells before the first entry that publishes; the entry's index, where there is one.
+fn drop_unpublished(log: &[u32], count: usize, readers: &mut [u16], session: u8) -> Option<usize>
     requires { (Swept session log.now count (length readers.old)) × (length readers.old ≤ 1024) }
-    ensures { (result ≤ count) × NonePublished log.now result × DroppedSoFar log.now count result session readers.old readers.new }
+    ensures { DropsUpTo log.now count session readers.old readers.new result }
 {
-    let mut i = 0;
-    while i < count {
+    for i in 0..count {
         if session_log::publishes(log, i) {
-            return i;
+            return Some(i);
         }
-        let cell = session_log::cell_at(log, i);
-        leave_at(readers, cell, session);
-        i += 1;
+        leave_at(readers, session_log::cell_at(log, i), session);
     }
-    i
+    None
 }
 
 // Sealing: the session leaves the readers of each cell entered that does not publish. Where none does no cell need be marked.
@@ -122,14 +130,11 @@ pub fn drop_reads(log: &[u32], count: usize, readers: &mut [u16], session: u8)
     requires { (Swept session log.now count (length readers.old)) × (length readers.old ≤ 1024) }
     ensures { DropsReads log.now count session readers.old readers.new }
 {
-    let first = drop_unpublished(log, count, readers, session);
-    if first == count {
+    let Some(first) = drop_unpublished(log, count, readers, session) else {
         return;
-    }
-    let mut written = [0u64; 16];
-    let mut i = first;
-    while i < count {
+    };
+    let mut written = CellSet::new();
+    for i in first..count {
         drop_at(log, i, readers, &mut written, session);
-        i += 1;
     }
 }

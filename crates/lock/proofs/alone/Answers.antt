@@ -5,4 +5,4 @@ use Rattle.model.proofs.Sets.{alone_count}
 use Rattle.lock.proofs.alone.Goals as goal
 
 pub returns : goal.returns
-returns c = ap (λ (x : ℕ). eqb (ones x) 1) c.with_reader-set.ensures ∙ alone_count _ _
+returns c = ap (λ (x : ℕ). eqb (ones x) 1) c.with_reader.ensures ∙ alone_count _ _

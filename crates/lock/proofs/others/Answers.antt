@@ -5,7 +5,7 @@ use Rattle.model.proofs.Sets.{ones_join}
 use Rattle.lock.proofs.others.Goals as goal
 
 pub overflow_sub-result : goal.overflow_sub-result
-overflow_sub-result c = omega (arith, ap ones c.with_reader-set.ensures ∙ ones_join _ _)
+overflow_sub-result c = omega (arith, ap ones c.with_reader.ensures ∙ ones_join _ _)
 
 pub returns : goal.returns
-returns c = omega (arith, ap ones c.with_reader-set.ensures ∙ ones_join _ _)
+returns c = omega (arith, ap ones c.with_reader.ensures ∙ ones_join _ _)

@@ -5,14 +5,14 @@ use Rattle.sweeps.proofs.drop_at.Goals as goal
 
 pub returns-then-stays : goal.returns-then-stays
 returns-then-stays c =
-    drop_written _ _ _ _ _ _ c.cell_at-cell.ensures (sym c.publishes-stays.ensures ∙ c.if-stays.true) _ c.put_mark.ensures
+    drop_written _ _ _ _ _ _ c.cell_at-cell.ensures (sym c.publishes-stays.ensures ∙ c.if-stays.true) _ c.insert.ensures
 
-pub returns-then-is_marked : goal.returns-then-is_marked
-returns-then-is_marked c =
+pub returns-then-contains : goal.returns-then-contains
+returns-then-contains c =
     drop_marked _ _ _ _ _ _ c.cell_at-cell.ensures (sym c.publishes-stays.ensures ∙ c.if-stays.false)
-    (sym c.is_marked.ensures ∙ c.if-is_marked.true)
+    (sym c.contains.ensures ∙ c.if-contains.true)
 
 pub returns : goal.returns
 returns c =
     drop_left _ _ _ _ _ _ c.cell_at-cell.ensures (sym c.publishes-stays.ensures ∙ c.if-stays.false)
-    (sym c.is_marked.ensures ∙ c.if-is_marked.false) _ c.leave_at.ensures
+    (sym c.contains.ensures ∙ c.if-contains.false) _ c.leave_at.ensures

@@ -6,12 +6,12 @@ use Rattle.sweeps.proofs.Sweeps.{drop_start, drop_unmarked, none_more}
 use Rattle.sweeps.proofs.drop_unpublished.Goals as goal
 
 pub loop-i-init : goal.loop-i-init
-loop-i-init c = (omega arith, λ j l. absurd (omega arith), drop_start _ _ _ _)
+loop-i-init c = (λ j l. absurd (omega arith), drop_start _ _ _ _)
 
 pub leave_at-requires : goal.leave_at-requires
 leave_at-requires c =
     let lt = below_is _ (cell_at _) _ c.requires.0.cells c.loop-i.i c.loop-i-test.true in
-    (c.requires.0.session, omega (arith, lt, c.cell_at-cell.ensures))
+    (c.requires.0.session, omega (arith, lt, c.cell_at.ensures))
 
 pub loop-i-preserved : goal.loop-i-preserved
 loop-i-preserved c =
@@ -20,7 +20,6 @@ loop-i-preserved c =
     let lR = below_is _ (cell_at _) _ c.requires.0.cells l.i h in
     let lt : cell_at c.args.log.now l.i < 1024 = omega arith in
     let p = sym c.publishes.ensures ∙ c.if-publishes.false in (
-      omega arith,
-      none_more _ _ l.invariant.1 p,
-      drop_unmarked _ _ _ _ _ _ h lt lR l.invariant.1 p l.invariant.2 _ c.cell_at-cell.ensures _ c.leave_at.ensures,
+      none_more _ _ l.invariant.0 p,
+      drop_unmarked _ _ _ _ _ _ h lt lR l.invariant.0 p l.invariant.1 _ c.cell_at.ensures _ c.leave_at.ensures,
     )

@@ -2,12 +2,12 @@
 use Rattle.sweeps.proofs.Sweeps.{withdraw_own, withdraw_other}
 use Rattle.sweeps.proofs.withdraw_at.Goals as goal
 
-pub returns-then-claimants-c : goal.returns-then-claimants-c
-returns-then-claimants-c c =
-    let p = c.requires in
-    rw c.leave_at.ensures (withdraw_own _ _ _ _ p.2 p.3 p.1 _ c.if-claimants-c.true)
+pub returns-then-locks-c-clause-withdrawn : goal.returns-then-locks-c-clause-withdrawn
+returns-then-locks-c-clause-withdrawn c =
+    let l = c.args.locks.now in
+    rw c.leave_at.ensures (withdraw_own _ _ _ _ l.claimant_each l.exclusive_each c.requires.1 _ c.if-locks-c.true)
 
-pub returns-else-claimants-c : goal.returns-else-claimants-c
-returns-else-claimants-c c =
-    let p = c.requires in
-    rw c.leave_at.ensures (withdraw_other _ _ _ _ p.2 p.3 p.1 _ c.if-claimants-c.false)
+pub returns-else-locks-c-clause-withdrawn : goal.returns-else-locks-c-clause-withdrawn
+returns-else-locks-c-clause-withdrawn c =
+    let l = c.args.locks.now in
+    rw c.leave_at.ensures (withdraw_other _ _ _ _ l.claimant_each l.exclusive_each c.requires.1 _ c.if-locks-c.false)
