@@ -1,22 +1,22 @@
 -- The place that a search answers is that of the cell's first entry, or none exactly where there is none, and the cells of the entries alone decide it
--- (document 02, Paper 3). `found m r ≡ slot_in log m c` is what every search for a cell ensures of its answer r; `look_ups::locate` says besides whether there is a place
--- (`Locates`).
+-- (document 02, Paper 3). `found r ≡ slot_in log m c` is what every search for a cell ensures of its answer r.
 use Prim.Native.Nat.{ℕ, ◌+◌, ◌*◌, ◌-◌, ◌<◌, ◌≤◌}
-use mathlib.Core.Bool.{Bool, true, false}
 use mathlib.Core.List.{List}
 use mathlib.Core.Option.{Option, none, some}
-use mathlib.Core.Path.{◌≡◌, sym, ap, ◌∙◌}
+use mathlib.Core.Path.{◌≡◌, refl, sym, ap, ◌∙◌}
 use native.Mathlib.Omega.{arith}
 use lib.ListN.{set, take, drop}
 use lib.Seq.{get_or-set_other, take-set-le, take-set-lt, drop-set-lt, drop-set-add}
 use lib.Dec.{ltb}
-use borrow.Author.Tests.{lt-ltb, le-ltb, ltb-true, ltb-false}
+use borrow.Author.Tests.{ltb-true, ltb-false}
+use Rattle.std.specs.Prelude.{Some, None}
+use Rattle.std.specs.Prelude as code
 use Rattle.model.specs.Buffers.{log_in, cell_at, slot_in}
 use Rattle.model.proofs.Laws.{find_ext}
 use Rattle.model.proofs.Tools.{which, test}
-use Rattle.session_log.specs.Slots.{found, Locates}
+use Rattle.session_log.specs.Slots.{found}
 use Rattle.session_log.specs.FirstEntry.{FirstEntry, NoEntry, IsPlace, SameCells}
-use Rattle.session_log.proofs.Searches.{cell_word, find_before, known_within, unknown_past}
+use Rattle.session_log.proofs.Searches.{cell_word, find_before}
 use Rattle.session_log.proofs.Targets.{slot_some, slot_none}
 
 module _ (log : List ℕ) (m c : ℕ) where
@@ -26,11 +26,11 @@ module _ (log : List ℕ) (m c : ℕ) where
   unfolding slot_in
   found_first {k} e =
       let w = slot_some log m c e in
-      record { among = w.0; has_cell = w.1; none_before = slot_none log k c (find_before (cell_at log) c m e) }
+      record { among = omega (arith, w.0); has_cell = w.1; none_before = slot_none log k c (find_before (cell_at log) c m e) }
 
   pub first_found : {k : ℕ} → FirstEntry log m c k → slot_in log m c ≡ some k
   first_found {k} f =
-      which (slot_in log m c) (λ e. absurd (slot_none log m c e k f.among f.has_cell))
+      which (slot_in log m c) (λ e. absurd (slot_none log m c e k (omega (arith, f.among)) f.has_cell))
       (λ i e.
       let w = found_first e in
       test (ltb i k) (λ t. absurd (f.none_before i (ltb-true i k t) w.has_cell))
@@ -47,35 +47,19 @@ module _ (log : List ℕ) (m c : ℕ) where
 
   -- ---- an answer of the code
 
-  pub place_found : (r : ℕ) → found m r ≡ slot_in log m c → IsPlace log m c r
-  unfolding found
-  place_found r h =
-      record {
-        first = λ l. found_first (sym (rw (lt-ltb r m l) at h));
-        absent = λ l. slot_none log m c (sym (rw (le-ltb r m l) at h));
-      }
+  pub place_found : (r : code.Option ℕ) → found r ≡ slot_in log m c → IsPlace log m c r
+  place_found (Some k) h = found_first (sym h)
+  place_found None h = slot_none log m c (sym h)
 
   -- the contract says no less and no more
-  pub place_only : (r : ℕ) → IsPlace log m c r → found m r ≡ slot_in log m c
-  unfolding found
-  place_only r w =
-      test (ltb r m) (λ t. rw t (sym (first_found (w.first (ltb-true r m t)))))
-      (λ t. rw t (sym (none_found (w.absent (ltb-false r m t)))))
+  pub place_only : (r : code.Option ℕ) → IsPlace log m c r → found r ≡ slot_in log m c
+  place_only (Some k) f = sym (first_found f)
+  place_only None h = sym (none_found h)
 
   -- none is answered exactly where there is none
-  pub none_exactly : (r : ℕ) → IsPlace log m c r → NoEntry log m c → m ≤ r
-  none_exactly r w h = test (ltb r m) (λ t. let l = ltb-true r m t in absurd (h r l (w.first l).has_cell)) (ltb-false r m)
-
-  -- the same of a cell looked up
-  module _ (known : Bool) (r : ℕ) (w : Locates log m c known r) where
-    pub known_first : known ≡ true → FirstEntry log m c r
-    known_first t = (place_found r w.slot_is).first (known_within log m c known r w t)
-
-    pub unknown_none : known ≡ false → NoEntry log m c
-    unknown_none t = (place_found r w.slot_is).absent (unknown_past log m c known r w t)
-
-    pub none_unknown : NoEntry log m c → known ≡ false
-    none_unknown h = w.known_is ∙ le-ltb r m (none_exactly r (place_found r w.slot_is) h)
+  pub none_exactly : (r : code.Option ℕ) → IsPlace log m c r → NoEntry log m c → r ≡ None
+  none_exactly (Some k) f h = absurd (h k f.among f.has_cell)
+  none_exactly None f h = refl
 
 -- ---- the words that play no part
 

@@ -1,7 +1,6 @@
 pub mod Searches
 pub mod Targets
 pub mod Twos
-pub mod Fills
 pub mod FirstEntry
 pub mod LookUps
 pub mod Logs

@@ -1,6 +1,6 @@
 -- Laws of the searches over the entries of a log: what one entry more makes of them, and how a loop's answer is the model's.
 use Prim.Native.Nat.{ℕ, zero, suc, ◌+◌, ◌*◌, ◌/◌, ◌%◌, ◌<◌, ◌≤◌}
-use mathlib.Core.Bool.{Bool, true, false, not}
+use mathlib.Core.Bool.{true, false, not}
 use mathlib.Core.List.{List}
 use mathlib.Core.Option.{Option, none, some}
 use mathlib.Core.Path.{◌≡◌, refl, sym, ap, ◌∙◌}
@@ -8,19 +8,14 @@ use native.Mathlib.Numerals.{add-one}
 use native.Mathlib.Omega.{arith}
 use lib.Dec.{eqb}
 use lib.ListN.{get_or, set}
-use borrow.Author.Tests.{lt-ltb, le-ltb, ltb-true, ltb-false, eq-eqb, ne_eqb}
-use Rattle.model.specs.Buffers.{word, cell_at, entry_at, slot_in, publishes, appended, with_dirty, with_held, updated, marked}
+use borrow.Author.Tests.{lt-ltb, le-ltb, eq-eqb, ne_eqb}
+use Rattle.model.specs.Buffers.{word, cell_at, entry_at, slot_in, publishes, appended, with_dirty, updated}
 use Rattle.model.specs.Readers.{odd}
 use Rattle.model.specs.Search.{or_else, find, below}
 use Rattle.model.proofs.Laws.{find_some}
 use Rattle.model.proofs.Tools.{same, which, and-false}
-use Rattle.session_log.specs.Slots.{found, Locates}
 
 -- ---- the words of a log
-
-pub word_at : (log : List ℕ) (k j : ℕ) → word log k j ≡ get_or log (4 * k + j) 0
-unfolding word
-word_at log k j = ap (λ (i : ℕ). get_or log i 0) (omega arith)
 
 pub cell_word : (log : List ℕ) (k : ℕ) → cell_at log k ≡ get_or log (4 * k) 0
 unfolding cell_at word
@@ -64,17 +59,9 @@ append_stores log k c v =
     let e₃ : 4 * k + 3 ≡ suc (suc (suc (4 * k))) = omega arith in
     rw (e₁, e₂, e₃)
 
-pub update_stores : (log : List ℕ) (k v : ℕ)
-    → set (set log (4 * k + 2) v) (4 * k + 2 + 1) (get_or log (4 * k + 2 + 1) 0 / 2 % 2 * 2 + 1) ≡ updated log k v
-unfolding updated with_dirty word
-update_stores log k v =
-    let e₁ : 4 * k + 2 + 1 ≡ suc (4 * k + 2) = omega arith in
-    let e₂ : 4 * k + 3 ≡ suc (4 * k + 2) = omega arith in
-    rw (e₁, e₂)
-
-pub mark_stores : (log : List ℕ) (k : ℕ) → set log (4 * k + 3) (2 + get_or log (4 * k + 3) 0 % 2) ≡ marked log k
-unfolding marked with_held word
-mark_stores log k = refl
+pub update_stores : (log : List ℕ) (k v : ℕ) → set (set log (4 * k + 2) v) (4 * k + 3) (word log k 3 / 2 % 2 * 2 + 1) ≡ updated log k v
+unfolding updated with_dirty
+update_stores log k v = let e : 4 * k + 3 ≡ suc (4 * k + 2) = omega arith in rw e
 
 -- ---- find
 
@@ -126,47 +113,17 @@ unfolding below
 below_fails n cell k zero l h = let e : k ≡ 0 = omega arith in rw e at h
 below_fails n cell k (suc m) l h = same k (suc m) (λ e. rw e at h) (λ d. simp (below_fails n cell k m (omega arith) h, and-false))
 
--- ---- how the loops end
+-- ---- a search entry by entry
 
 module _ (log : List ℕ) (count c : ℕ) where
-  pub slot_here : (i : ℕ) → slot_in log i c ≡ none → cell_at log i ≡ c → i < count → found count i ≡ slot_in log count c
-  unfolding slot_in found
-  slot_here i h e l =
-      simp (lt-ltb i count l) (sym (find_up (cell_at log) c (suc i) count (omega arith) (find_here (cell_at log) c i h e)))
+  pub slot_here : (i : ℕ) → slot_in log i c ≡ none → cell_at log i ≡ c → i < count → some i ≡ slot_in log count c
+  unfolding slot_in
+  slot_here i h e l = sym (find_up (cell_at log) c (suc i) count (omega arith) (find_here (cell_at log) c i h e))
 
-  pub slot_nowhere : slot_in log count c ≡ none → found count count ≡ slot_in log count c
-  unfolding found
-  slot_nowhere h = simp (h, le-ltb count count (omega arith))
-
--- ---- what looking a cell up answers
-
--- a cell that is known has a place among the entries, and only such a cell
-pub known_within : (log : List ℕ) (m c : ℕ) (known : Bool) (i : ℕ) → Locates log m c known i → known ≡ true → i < m
-known_within log m c known i w t = ltb-true i m (sym w.known_is ∙ t)
-
-pub unknown_past : (log : List ℕ) (m c : ℕ) (known : Bool) (i : ℕ) → Locates log m c known i → known ≡ false → m ≤ i
-unknown_past log m c known i w t = ltb-false i m (sym w.known_is ∙ t)
-
-module _ (log : List ℕ) (count c : ℕ) where
-  pub located_here : (i : ℕ) → slot_in log i c ≡ none → cell_at log i ≡ c → i < count → Locates log count c true i
-  located_here i h e l = record { slot_is = slot_here log count c i h e l; known_is = sym (lt-ltb i count l) }
-
-  pub located_nowhere : slot_in log count c ≡ none → Locates log count c false count
-  located_nowhere h = record { slot_is = slot_nowhere log count c h; known_is = sym (le-ltb count count (omega arith)) }
-
-  -- what is known among fewer entries is known among all, at its place
-  pub located_among : (m : ℕ) (known : Bool) (i : ℕ) → Locates log m c known i → known ≡ true → m ≤ count → Locates log count c known i
-  unfolding slot_in found
-  located_among m known i w t u =
-      let l = known_within log m c known i w t in
-      let e : find (cell_at log) m c ≡ some i = sym (simp (lt-ltb i m l) at w.slot_is) in
-      let v : i < count = omega arith in
-      record { slot_is = simp (lt-ltb i count v) (sym (find_up (cell_at log) c m count u e)); known_is = t ∙ sym (lt-ltb i count v) }
-
--- what is not known among some entries is at none of them
-pub located_missed : (log : List ℕ) (m c : ℕ) (known : Bool) (i : ℕ) → Locates log m c known i → known ≡ false → slot_in log m c ≡ none
-unfolding found
-located_missed log m c known i w t = sym (simp (sym w.known_is ∙ t) at w.slot_is)
+  -- what is found among fewer entries is found among all
+  pub slot_among : (m : ℕ) {i : ℕ} → m ≤ count → some i ≡ slot_in log m c → some i ≡ slot_in log count c
+  unfolding slot_in
+  slot_among m l h = sym (find_up (cell_at log) c m count l (sym h))
 
 pub slot_past : (log : List ℕ) (c i : ℕ) {j : ℕ} → slot_in log i c ≡ none → (cell_at log i ≡ c → ⊥) → j ≡ i + 1 → slot_in log j c ≡ none
 unfolding slot_in

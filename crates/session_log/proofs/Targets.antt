@@ -4,7 +4,7 @@
 use Prim.Native.Nat.{ℕ, zero, suc, ◌+◌, ◌<◌, ◌≤◌}
 use mathlib.Core.Bool.{Bool, true, false, not, ◌&&◌}
 use mathlib.Core.List.{List}
-use mathlib.Core.Option.{Option, none, some}
+use mathlib.Core.Option.{none, some}
 use mathlib.Core.Path.{◌≡◌, refl, sym, ap, ◌∙◌, subst}
 use native.Mathlib.Numerals.{add-one}
 use native.Mathlib.Omega.{arith}
@@ -13,22 +13,9 @@ use borrow.Author.Tests.{lt-ltb, le-ltb, le-leb, lt-leb, leb-true, leb-false, lt
 use Rattle.model.specs.Buffers.{cell_at, entry_at, entry_of, slot_in, look_in, publishes, publishes_in, target_in}
 use Rattle.model.specs.Search.{some?, lowest, below}
 use Rattle.model.proofs.Laws.{find_some, find_none, Low, lowest_is, below_is}
-use Rattle.model.proofs.Tools.{same, split, test, which, nothing, clash, both_l, both_r, and-false}
-use Rattle.session_log.specs.Slots.{found, better, lowest_publishing, slot_of, target_slot, first_publishes}
+use Rattle.model.proofs.Tools.{same, split, test, which, clash, both_l, both_r, and-false}
+use Rattle.session_log.specs.Slots.{better, lowest_publishing, slot_of, target_slot, first_publishes}
 use Rattle.session_log.proofs.Searches.{find_here, find_up, find_before}
-
--- ---- what a search answers
-
-pub found_none : (m k : ℕ) → found m k ≡ none → m ≤ k
-unfolding found
-found_none m k h = test (ltb k m) (λ t. nothing (sym (rw t at h))) (λ t. ltb-false k m t)
-
-pub found_some : (m k : ℕ) {i : ℕ} → found m k ≡ some i → (k < m) × (k ≡ i)
-unfolding found
-found_some m k {i} h =
-    test (ltb k m)
-    (λ t. let e : ◌≡◌ {A = Option ℕ} (some k) (some i) = rw t at h in (ltb-true k m t, cc))
-    (λ t. nothing (rw t at h))
 
 module _ (log : List ℕ) where
   -- ---- a cell publishes where its first entry does
@@ -169,47 +156,39 @@ module _ (log : List ℕ) where
         let s = slot_some m d k.1 in
         rw s.1 at (lowest_r.least k.0 s.0 (rw s.1 l) k.2)
 
-    pub turn_ends : below n (cell_at log) m ≡ true → n ≤ r → found m m ≡ target_slot log m from
-    unfolding found target_slot slot_of
+    pub turn_ends : below n (cell_at log) m ≡ true → n ≤ r → none ≡ target_slot log m from
+    unfolding target_slot slot_of
     turn_ends b h =
-        which (target_in log m from) (λ e. simp (e, le-ltb m m (omega arith)))
+        which (target_in log m from) (λ e. rw e)
         (λ c e.
         let t = target_some m from e in
         let k = written_first m c t.1 in
         let s = slot_some m c k.1 in
         absurd (omega (arith, publishing_least c t.0 t.1, below_is n (cell_at log) m b k.0 s.0, s.1)))
 
-    -- the cell found is one of the log's, and not below the start
-    module _ (lt : r < n) (k : ℕ) (f : found m k ≡ slot_in log m r) where
-      pub turn_slot : slot_in log m r ≡ some k
-      turn_slot =
-          which (slot_in log m r) (λ e. let p = lowest_r.place lt in absurd (slot_none m r e p.0 p.1 p.2))
-          (λ i e. e ∙ ap some (sym (found_some m k (f ∙ e)).1))
-
-      pub turn_inside : k < m
-      turn_inside = (found_some m k (f ∙ turn_slot)).0
-
+    -- the cell found is not below the start; it is the target where its first entry publishes, and where that does not the target is above it
+    module _ (lt : r < n) where
       pub turn_from : from ≤ r
       turn_from = (lowest_r.place lt).3
 
-      pub turn_here : publishes (entry_at log k) ≡ true → found m k ≡ target_slot log m from
+      pub turn_here : {k : ℕ} → some k ≡ slot_in log m r → publishes (entry_at log k) ≡ true → some k ≡ target_slot log m from
       unfolding target_slot slot_of
-      turn_here p =
-          let w = first_judges m r turn_slot ∙ p in
+      turn_here f p =
+          let w = first_judges m r (sym f) ∙ p in
           which (target_in log m from) (λ e. absurd (target_none m from e r turn_from w))
           (λ c e.
           let t = target_some m from e in
           let q : r ≡ c = omega (arith, publishing_least c t.0 t.1, t.2 r turn_from w) in
           rw (e, ← q) f)
 
-      pub turn_next : publishes (entry_at log k) ≡ false → target_slot log m from ≡ target_slot log m (r + 1)
+      pub turn_next : publishes_in log m r ≡ false → target_slot log m from ≡ target_slot log m (r + 1)
       unfolding target_slot
       turn_next p =
           ap (slot_of log m)
           (target_later m from (r + 1) (omega (arith, turn_from))
           (λ d a b w.
           let q : d ≡ r = omega (arith, publishing_least d a w) in
-          clash (publishes_in log m r) (rw q at w) (first_judges m r turn_slot ∙ p)))
+          clash (publishes_in log m r) (rw q at w) p))
 
   -- ---- whether there is a target
 
@@ -237,10 +216,3 @@ module _ (log : List ℕ) where
         let s = slot_some m c k.1 in
         let b = find_before (cell_at log) c m k.1 in
         absurd (clash true refl (simp (s.1, b, k.2, le-leb from c g.0) at (h k.0 s.0))))
-
-  pub first_found : (i r from : ℕ) → found i r ≡ slot_in log i (cell_at log i) → (leb from (cell_at log i) && publishes (entry_at log i)) ≡ true → leb i r ≡ first_publishes log i from
-  unfolding first_publishes
-  first_found i r from f p =
-      which (found i r)
-      (λ e. rw (p, ← f, e) (le-leb i r (found_none i r e)))
-      (λ k e. rw (p, ← f, e) (lt-leb i r (found_some i r e).0))

@@ -1,17 +1,15 @@
--- The lowest two cells of entries judged each by itself, kept over one entry more; and the entry that an advance handles, with whether
--- another cell that publishes is left above its cell.
+-- The lowest two cells of entries judged each by itself, kept over one entry more.
 use Prim.Native.Nat.{ℕ, suc, ◌+◌, ◌<◌, ◌≤◌}
-use mathlib.Core.Bool.{Bool, true, false}
+use mathlib.Core.Bool.{true, false}
 use mathlib.Core.List.{List}
-use mathlib.Core.Path.{◌≡◌, sym, ap, ◌∙◌}
+use mathlib.Core.Path.{◌≡◌, ap, ◌∙◌}
 use native.Mathlib.Omega.{arith}
 use lib.Dec.{ltb}
-use borrow.Author.Tests.{lt-ltb, le-ltb, ltb-true, ltb-false}
-use Rattle.model.specs.Buffers.{cell_at, entry_at, slot_in, publishes, target_in}
-use Rattle.model.specs.Search.{some?, below}
-use Rattle.model.proofs.Tools.{test, which}
-use Rattle.session_log.specs.Slots.{found, better, lowest_publishing, slot_of, target_slot, is_more, LowestTwo, IsNext}
-use Rattle.session_log.proofs.Targets.{LowestPublishing, lowest_publishing_lem, lowest_r, lower_before, lower_above, lower_here, lower_unpublished, publishing_more, written_first, slot_some, target_some, turn_slot, turn_inside, turn_ends, turn_here}
+use borrow.Author.Tests.{ltb-true, ltb-false}
+use Rattle.model.specs.Buffers.{cell_at, entry_at, publishes}
+use Rattle.model.proofs.Tools.{test}
+use Rattle.session_log.specs.Slots.{better, lowest_publishing, LowestTwo}
+use Rattle.session_log.proofs.Targets.{LowestPublishing, lowest_publishing_lem, lowest_r, lower_before, lower_above, lower_here, lower_unpublished, publishing_more}
 
 module _ (log : List ℕ) where
   -- ---- a start that is raised up to the lowest cell leaves it the lowest
@@ -82,51 +80,3 @@ module _ (log : List ℕ) where
         low_is = lowest_more from w.low_is (lower_above log from i low c e (omega arith));
         high_is = lowest_more (suc low) w.high_is (lower_here log (suc low) i high c e (omega arith) b p);
       }
-
-  -- ---- the entry handled, and whether another is left
-
-  found_there : (m j : ℕ) → some? (found m j) ≡ ltb j m
-  unfolding found
-  found_there m j = test (ltb j m) (λ t. rw t) (λ t. rw t)
-
-  slot_there : (m from : ℕ) → some? (target_slot log m from) ≡ some? (target_in log m from)
-  unfolding target_slot slot_of
-  slot_there m from =
-      which (target_in log m from) (λ e. rw e) (λ c e. let k = written_first log m c (target_some log m from e).1 in rw (e, k.1))
-
-  module _ (m from : ℕ) where
-    pub next_none : (k : ℕ) → m ≤ k → found m k ≡ target_slot log m from → IsNext log m from k false
-    unfolding found is_more
-    next_none k l h = record { slot_is = h; more_is = rw (← h, le-ltb k m l) }
-
-    pub next_some : (k : ℕ) (b : Bool) → k < m → found m k ≡ target_slot log m from → b ≡ some? (target_in log m (suc (cell_at log k))) → IsNext log m from k b
-    unfolding found is_more
-    next_some k b l h t = record { slot_is = h; more_is = rw (← h, lt-ltb k m l) t }
-
-    -- another by its place
-    next_by : (k j : ℕ) (b : Bool) → k < m → found m k ≡ target_slot log m from → found m j ≡ target_slot log m (suc (cell_at log k)) → ltb j m ≡ b → IsNext log m from k b
-    next_by k j b l h g t = next_some k b l h (sym t ∙ sym (found_there m j) ∙ ap some? g ∙ slot_there m (suc (cell_at log k)))
-
-    module _ (n low high : ℕ) (w : LowestTwo log n from m low high) where
-      pub two_none : below n (cell_at log) m ≡ true → n ≤ low → IsNext log m from m false
-      two_none b h = next_none m (omega arith) (turn_ends log n m from low w.low_is b h)
-
-      module _ (lt : low < n) (k : ℕ) (f : found m k ≡ slot_in log m low) where
-        pub two_inside : k < m
-        two_inside = turn_inside log n m from low w.low_is lt k f
-
-        two_cell : cell_at log k ≡ low
-        two_cell = (slot_some log m low (turn_slot log n m from low w.low_is lt k f)).1
-
-        module _ (p : publishes (entry_at log k) ≡ true) where
-          two_here : found m k ≡ target_slot log m from
-          two_here = turn_here log n m from low w.low_is lt k f p
-
-          pub two_last : below n (cell_at log) m ≡ true → n ≤ high → IsNext log m from k false
-          two_last b h =
-              next_by k m false two_inside two_here (rw two_cell (turn_ends log n m (suc low) high w.high_is b h)) (le-ltb m m (omega arith))
-
-          pub two_more : high < n → (j : ℕ) → found m j ≡ slot_in log m high → publishes (entry_at log j) ≡ true → IsNext log m from k true
-          two_more l j g q =
-              next_by k j true two_inside two_here (rw two_cell (turn_here log n m (suc low) high w.high_is l j g q))
-              (lt-ltb j m (turn_inside log n m (suc low) high w.high_is l j g))

@@ -1,17 +1,14 @@
 -- What the searches of one session's log answer, in the model's terms.
-use Rattle.std.specs.Prelude.{ℕ, zero, suc, Bool, false, cond, not, ◌&&◌, List, ◌≡◌, leb, ltb}
+use Rattle.std.specs.Prelude.{ℕ, zero, suc, Bool, false, cond, not, ◌&&◌, List, ◌≡◌, leb, ltb, Some, None}
+use Rattle.std.specs.Prelude as code
 use Rattle.std.proofs.Math.Option.{Option, none, some}
 use Rattle.model.specs.Search.{some?}
 use Rattle.model.specs.Buffers.{cell_at, entry_at, slot_in, publishes, target_in}
 
--- the place k, where it is one of m; a search answers m where it finds nothing
-unfoldable pub found : ℕ → ℕ → Option ℕ
-found m k = cond (ltb k m) (some k) none
-
--- a cell looked up among m entries: whether it is known, and its place
-pub record Locates (log : List ℕ) (m c : ℕ) (known : Bool) (slot : ℕ) : Type 0 where
-  pub slot_is : found m slot ≡ slot_in log m c
-  pub known_is : known ≡ ltb slot m
+-- a search's answer, as the model has it
+abbrev pub found : code.Option ℕ → Option ℕ
+found None = none
+found (Some k) = some k
 
 -- the lower of a cell so far and entry k's, where that is not below a cell and the entry publishes by itself
 unfoldable pub better : List ℕ → ℕ → ℕ → ℕ → ℕ
@@ -41,11 +38,6 @@ pub record LowestTwo (log : List ℕ) (n from k low high : ℕ) : Type 0 where
 unfoldable pub is_more : List ℕ → ℕ → Option ℕ → Bool
 is_more log m none = false
 is_more log m (some k) = some? (target_in log m (suc (cell_at log k)))
-
--- what a next advance is told: the entry that it handles, and whether another is left
-pub record IsNext (log : List ℕ) (m from slot : ℕ) (more : Bool) : Type 0 where
-  pub slot_is : found m slot ≡ target_slot log m from
-  pub more_is : more ≡ is_more log m (target_slot log m from)
 
 -- entry i's cell is not below a cell, the entry publishes, and no entry before it has its cell
 unfoldable pub first_publishes : List ℕ → ℕ → ℕ → Bool

@@ -1,9 +1,0 @@
--- Entry k's value found is the word at 4 × k + 1.
-use Rattle.std.proofs.Common.{sym}
-use Rattle.model.specs.Buffers.{entry_at}
-use Rattle.session_log.proofs.Searches.{word_at}
-use Rattle.session_log.proofs.snapshot.Goals as goal
-
-pub returns : goal.returns
-unfolding entry_at
-returns c = sym (word_at _ _ 1)
