@@ -6,15 +6,15 @@ ghost use Rattle.std.specs.Prelude.{◌≡◌, ◌≤◌, length};
 ghost use Rattle.model.specs.Buffers.{free, our_caps};
 ghost use Rattle.model.specs.Plans.{new_cell, read_plan, hold_plan, write_capped, write_plan, peek_plan};
 
-use records::{Plan, Session};
+use records::{Plan, Refusal, Session};
 
 // A new cell with 32 entries in the log is 5.
+#[tactic(auto, unfolding(model::specs::Plans::new_cell, model::specs::Plans::claimed))]
 fn new_cell(x: Session, p: Plan) -> Plan
     ensures { result ≡ new_cell x free p }
 {
-    let count = x.count;
-    if 31 < count {
-        return Plan::Refuse(5);
+    if 31 < x.count {
+        return Plan::from(Refusal::FullLog);
     }
     p
 }
@@ -24,20 +24,16 @@ pub fn read_plan(log: &[u32], n: usize, x: Session, cell: u32) -> Plan
     requires { (length log.now ≡ 128) × (n ≤ 1024) }
     ensures { result ≡ read_plan n log.now x free cell }
 {
-    let count = x.count as usize;
-    if !refusals::runs(log, n, x) {
-        return Plan::Refuse(refusals::running_refusal(log, n, x));
+    if let Err(refusal) = refusals::runs(log, n, x) {
+        return Plan::from(refusal);
     }
     if n <= cell as usize {
-        return Plan::Refuse(3);
+        return Plan::from(Refusal::UnknownCell);
     }
-    let place = look_ups::locate(log, count, cell);
-    let known = place.known;
-    let k = place.slot;
-    if known {
-        return Plan::Tell(session_log::current(log, k));
+    match look_ups::locate(log, x.count as usize, cell) {
+        Some(k) => Plan::Tell(session_log::current(log, k)),
+        None => new_cell(x, Plan::Enter(cell)),
     }
-    new_cell(x, Plan::Enter(cell))
 }
 
 // Hold: as read; a cell in the log is to be held, a new one entered and held.
@@ -45,20 +41,16 @@ pub fn hold_plan(log: &[u32], n: usize, x: Session, cell: u32) -> Plan
     requires { (length log.now ≡ 128) × (n ≤ 1024) }
     ensures { result ≡ hold_plan n log.now x free cell }
 {
-    let count = x.count as usize;
-    if !refusals::runs(log, n, x) {
-        return Plan::Refuse(refusals::running_refusal(log, n, x));
+    if let Err(refusal) = refusals::runs(log, n, x) {
+        return Plan::from(refusal);
     }
     if n <= cell as usize {
-        return Plan::Refuse(3);
+        return Plan::from(Refusal::UnknownCell);
     }
-    let place = look_ups::locate(log, count, cell);
-    let known = place.known;
-    let k = place.slot;
-    if known {
-        return Plan::Mark(k as u32, session_log::current(log, k));
+    match look_ups::locate(log, x.count as usize, cell) {
+        Some(k) => Plan::Mark(k as u32, session_log::current(log, k)),
+        None => new_cell(x, Plan::EnterMark(cell)),
     }
-    new_cell(x, Plan::EnterMark(cell))
 }
 
 // A value above the cap is 4; an entry is to be updated, a new cell entered as by read and then updated.
@@ -66,40 +58,16 @@ fn write_capped(log: &[u32], x: Session, cell: u32, value: u32, most: u32) -> Pl
     requires { (length log.now ≡ 128) × (x.count ≤ 32) }
     ensures { result ≡ write_capped log.now x free cell value most }
 {
-    let count = x.count as usize;
     if most < value {
-        return Plan::Refuse(4);
+        return Plan::from(Refusal::AboveCap);
     }
-    let place = look_ups::locate(log, count, cell);
-    let known = place.known;
-    let k = place.slot;
-    if known {
-        return Plan::Update(k as u32, value);
+    match look_ups::locate(log, x.count as usize, cell) {
+        Some(k) => Plan::Update(k as u32, value),
+        None => new_cell(x, Plan::EnterUpdate(cell, value)),
     }
-    new_cell(x, Plan::EnterUpdate(cell, value))
 }
 
-// Write: the cap is that of the cell's class, of ours.
-pub fn write_plan(log: &[u32], classes: &[u8], x: Session, cell: u32, value: u32) -> Plan
-    requires { (length log.now ≡ 128) × (length classes.now ≤ 1024) }
-    ensures { result ≡ write_plan our_caps classes.now (length classes.now) log.now x free cell value }
-{
-    let n = classes.len();
-    if !refusals::runs(log, n, x) {
-        return Plan::Refuse(refusals::running_refusal(log, n, x));
-    }
-    let c = cell as usize;
-    if n <= c {
-        return Plan::Refuse(3);
-    }
-    let class = classes[c];
-    if 15 < class {
-        return Plan::Refuse(8);
-    }
-    write_capped(log, x, cell, value, caps::cap(class))
-}
-
-// The same by a table, which need not pass.
+// Write by a table, which need not pass: the cap is that of the cell's class.
 pub fn write_plan_by(
     caps: &[u32],
     log: &[u32],
@@ -112,18 +80,26 @@ pub fn write_plan_by(
     ensures { result ≡ write_plan caps.now classes.now (length classes.now) log.now x free cell value }
 {
     let n = classes.len();
-    if !refusals::runs(log, n, x) {
-        return Plan::Refuse(refusals::running_refusal(log, n, x));
+    if let Err(refusal) = refusals::runs(log, n, x) {
+        return Plan::from(refusal);
     }
     let c = cell as usize;
     if n <= c {
-        return Plan::Refuse(3);
+        return Plan::from(Refusal::UnknownCell);
     }
     let class = classes[c];
     if 15 < class {
-        return Plan::Refuse(8);
+        return Plan::from(Refusal::UnknownClass);
     }
     write_capped(log, x, cell, value, caps[class as usize])
+}
+
+// The same by our table.
+pub fn write_plan(log: &[u32], classes: &[u8], x: Session, cell: u32, value: u32) -> Plan
+    requires { (length log.now ≡ 128) × (length classes.now ≤ 1024) }
+    ensures { result ≡ write_plan our_caps classes.now (length classes.now) log.now x free cell value }
+{
+    write_plan_by(caps::ours(), log, classes, x, cell, value)
 }
 
 // Peek: the store's own word where the entry is not written, the log's where it is; a cell not in the log is 14.
@@ -131,21 +107,18 @@ pub fn peek_plan(log: &[u32], n: usize, x: Session, cell: u32) -> Plan
     requires { (length log.now ≡ 128) × (n ≤ 1024) }
     ensures { result ≡ peek_plan n log.now x cell }
 {
-    let count = x.count as usize;
-    if !refusals::runs(log, n, x) {
-        return Plan::Refuse(refusals::running_refusal(log, n, x));
+    if let Err(refusal) = refusals::runs(log, n, x) {
+        return Plan::from(refusal);
     }
     if n <= cell as usize {
-        return Plan::Refuse(3);
+        return Plan::from(Refusal::UnknownCell);
     }
-    let place = look_ups::locate(log, count, cell);
-    let known = place.known;
-    let k = place.slot;
-    if !known {
-        return Plan::Refuse(14);
-    }
+    let Some(k) = look_ups::locate(log, x.count as usize, cell) else {
+        return Plan::from(Refusal::NotEntered);
+    };
     if session_log::dirty(log, k) {
-        return Plan::ShowLog(k as u32);
+        Plan::ShowLog(k as u32)
+    } else {
+        Plan::ShowStore(cell)
     }
-    Plan::ShowStore(cell)
 }

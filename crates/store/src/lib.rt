@@ -9,7 +9,9 @@ ghost use Rattle.records.specs.declared.Call.TheVariants.{Begin, Read, Write, Se
 ghost use Rattle.contracts.specs.Lent.{TakesOne, TakesOneBy, Loads};
 ghost use Rattle.model.specs.Slices.{as_lent};
 
-use records::{Answer, Reply, Session, SessionReply, Sessions, Turn};
+use locks::Locks;
+use records::{Answer, Refusal, Reply, Session, SessionReply, Sessions};
+use refusals::Lengths;
 
 // ---- a table of caps
 
@@ -27,40 +29,15 @@ pub fn load_caps(
 ) -> Reply
     ensures { Loads (as_lent caps) table values classes readers claimants exclusives logs sessions result }
 {
-    let answer = loads::load_caps(
+    let lengths = Lengths::of(values, classes, readers, claimants, exclusives, logs);
+    let loaded = loads::load_caps(sessions, lengths, values, classes, caps, table);
+    Reply {
+        answer: Answer::from(loaded),
         sessions,
-        values,
-        classes,
-        readers.len(),
-        claimants.len(),
-        exclusives.len(),
-        logs.len(),
-        caps,
-        table,
-    );
-    Reply { answer, sessions }
-}
-
-// ---- the calls
-
-// A refusal, with the record as it came.
-fn refused(number: u8, x: Session) -> SessionReply
-    ensures { result ≡ record { answer = Refused number; session = x } }
-{
-    SessionReply {
-        answer: Answer::Refused(number),
-        session: x,
     }
 }
 
-// What a turn answers, with the record that it hands back.
-fn replied(t: Turn) -> SessionReply
-    ensures { result ≡ record { answer = t.answer; session = t.session } }
-{
-    let answer = t.answer;
-    let session = t.session;
-    SessionReply { answer, session }
-}
+// ---- the calls
 
 // Begin: idle only. The session runs with no entry. 100.
 pub fn begin(
@@ -75,17 +52,12 @@ pub fn begin(
 ) -> SessionReply
     ensures { TakesOne (Begin session) values classes readers claimants exclusives logs x result }
 {
-    let n = values.len();
-    let k = classes.len();
-    let r = readers.len();
-    let c = claimants.len();
-    let m = exclusives.len();
-    let w = logs.len();
-    if !refusals::admits(n, k, r, c, m, w, session) {
-        return refused(refusals::admit(n, k, r, c, m, w, session), x);
+    let lengths = Lengths::of(values, classes, readers, claimants, exclusives, logs);
+    if let Err(refusal) = lengths.admit(session) {
+        return SessionReply::refused(refusal, x);
     }
     let log = session_log::of_session(logs, session);
-    replied(calls::take_begin(log, n, x))
+    SessionReply::from(calls::take_begin(log, values.len(), x))
 }
 
 // Read: running only. 101 with a known cell's present value; a new cell is locked and entered, or the session is rolled back, 6.
@@ -102,30 +74,21 @@ pub fn read(
 ) -> SessionReply
     ensures { TakesOne (Read session cell) values classes (as_lent readers) (as_lent claimants) (as_lent exclusives) (as_lent logs) x result }
 {
-    let n = values.len();
-    let k = classes.len();
-    let r = readers.len();
-    let c = claimants.len();
-    let m = exclusives.len();
-    let w = logs.len();
-    if !refusals::admits(n, k, r, c, m, w, session) {
-        return refused(refusals::admit(n, k, r, c, m, w, session), x);
+    let lengths = Lengths::of(values, classes, readers, claimants, exclusives, logs);
+    if let Err(refusal) = lengths.admit(session) {
+        return SessionReply::refused(refusal, x);
     }
-    let p = plans::read_plan(session_log::of_session(&logs[..], session), n, x, cell);
-    let l = locks::lock_for(&readers[..], &claimants[..], &exclusives[..], p);
+    let p = plans::read_plan(session_log::of_session(logs, session), values.len(), x, cell);
+    let l = locks::lock_for(readers, claimants, exclusives, p);
     let t = turns::read(values, logs, x, l, session, cell, p);
-    let change = t.change;
-    let count = x.count as usize;
-    locks::carry_out(
-        change,
-        session_log::of_session(&logs[..], session),
-        count,
+    let log = session_log::of_session(logs, session);
+    let mut locks = Locks {
         readers,
         claimants,
         exclusives,
-        session,
-    );
-    replied(t)
+    };
+    locks::carry_out(&mut locks, t.change, log, x.count as usize, session);
+    SessionReply::from(t)
 }
 
 // Hold: running only. As read, and with 101 the cell's entry is held: from the seal on the cell counts as written.
@@ -142,30 +105,21 @@ pub fn hold(
 ) -> SessionReply
     ensures { TakesOne (Hold session cell) values classes (as_lent readers) (as_lent claimants) (as_lent exclusives) (as_lent logs) x result }
 {
-    let n = values.len();
-    let k = classes.len();
-    let r = readers.len();
-    let c = claimants.len();
-    let m = exclusives.len();
-    let w = logs.len();
-    if !refusals::admits(n, k, r, c, m, w, session) {
-        return refused(refusals::admit(n, k, r, c, m, w, session), x);
+    let lengths = Lengths::of(values, classes, readers, claimants, exclusives, logs);
+    if let Err(refusal) = lengths.admit(session) {
+        return SessionReply::refused(refusal, x);
     }
-    let p = plans::hold_plan(session_log::of_session(&logs[..], session), n, x, cell);
-    let l = locks::lock_for(&readers[..], &claimants[..], &exclusives[..], p);
+    let p = plans::hold_plan(session_log::of_session(logs, session), values.len(), x, cell);
+    let l = locks::lock_for(readers, claimants, exclusives, p);
     let t = turns::hold(values, logs, x, l, session, cell, p);
-    let change = t.change;
-    let count = x.count as usize;
-    locks::carry_out(
-        change,
-        session_log::of_session(&logs[..], session),
-        count,
+    let log = session_log::of_session(logs, session);
+    let mut locks = Locks {
         readers,
         claimants,
         exclusives,
-        session,
-    );
-    replied(t)
+    };
+    locks::carry_out(&mut locks, t.change, log, x.count as usize, session);
+    SessionReply::from(t)
 }
 
 // Write: running only. A new cell is locked and entered as by read; then the entry is updated. 100.
@@ -183,36 +137,27 @@ pub fn write(
 ) -> SessionReply
     ensures { TakesOne (Write session cell value) values classes (as_lent readers) (as_lent claimants) (as_lent exclusives) (as_lent logs) x result }
 {
-    let n = values.len();
-    let k = classes.len();
-    let r = readers.len();
-    let c = claimants.len();
-    let m = exclusives.len();
-    let w = logs.len();
-    if !refusals::admits(n, k, r, c, m, w, session) {
-        return refused(refusals::admit(n, k, r, c, m, w, session), x);
+    let lengths = Lengths::of(values, classes, readers, claimants, exclusives, logs);
+    if let Err(refusal) = lengths.admit(session) {
+        return SessionReply::refused(refusal, x);
     }
     let p = plans::write_plan(
-        session_log::of_session(&logs[..], session),
+        session_log::of_session(logs, session),
         classes,
         x,
         cell,
         value,
     );
-    let l = locks::lock_for(&readers[..], &claimants[..], &exclusives[..], p);
+    let l = locks::lock_for(readers, claimants, exclusives, p);
     let t = turns::write(values, logs, x, l, session, cell, value, p);
-    let change = t.change;
-    let count = x.count as usize;
-    locks::carry_out(
-        change,
-        session_log::of_session(&logs[..], session),
-        count,
+    let log = session_log::of_session(logs, session);
+    let mut locks = Locks {
         readers,
         claimants,
         exclusives,
-        session,
-    );
-    replied(t)
+    };
+    locks::carry_out(&mut locks, t.change, log, x.count as usize, session);
+    SessionReply::from(t)
 }
 
 // The same by a table, which need not pass.
@@ -231,40 +176,31 @@ pub fn write_with_caps(
 ) -> SessionReply
     ensures { TakesOneBy caps (Write session cell value) values classes (as_lent readers) (as_lent claimants) (as_lent exclusives) (as_lent logs) x result }
 {
-    let n = values.len();
-    let k = classes.len();
-    let r = readers.len();
-    let c = claimants.len();
-    let m = exclusives.len();
-    let w = logs.len();
     if caps.len() != 16 {
-        return refused(7, x);
+        return SessionReply::refused(Refusal::WrongLengths, x);
     }
-    if !refusals::admits(n, k, r, c, m, w, session) {
-        return refused(refusals::admit(n, k, r, c, m, w, session), x);
+    let lengths = Lengths::of(values, classes, readers, claimants, exclusives, logs);
+    if let Err(refusal) = lengths.admit(session) {
+        return SessionReply::refused(refusal, x);
     }
     let p = plans::write_plan_by(
         caps,
-        session_log::of_session(&logs[..], session),
+        session_log::of_session(logs, session),
         classes,
         x,
         cell,
         value,
     );
-    let l = locks::lock_for(&readers[..], &claimants[..], &exclusives[..], p);
+    let l = locks::lock_for(readers, claimants, exclusives, p);
     let t = turns::write(values, logs, x, l, session, cell, value, p);
-    let change = t.change;
-    let count = x.count as usize;
-    locks::carry_out(
-        change,
-        session_log::of_session(&logs[..], session),
-        count,
+    let log = session_log::of_session(logs, session);
+    let mut locks = Locks {
         readers,
         claimants,
         exclusives,
-        session,
-    );
-    replied(t)
+    };
+    locks::carry_out(&mut locks, t.change, log, x.count as usize, session);
+    SessionReply::from(t)
 }
 
 // Seal: running only. The session leaves the readers of each cell entered that it does not publish. 105 where it publishes none, else 102.
@@ -280,21 +216,14 @@ pub fn seal(
 ) -> SessionReply
     ensures { TakesOne (Seal session) values classes (as_lent readers) claimants exclusives logs x result }
 {
-    let n = values.len();
-    let k = classes.len();
-    let r = readers.len();
-    let c = claimants.len();
-    let m = exclusives.len();
-    let w = logs.len();
-    if !refusals::admits(n, k, r, c, m, w, session) {
-        return refused(refusals::admit(n, k, r, c, m, w, session), x);
+    let lengths = Lengths::of(values, classes, readers, claimants, exclusives, logs);
+    if let Err(refusal) = lengths.admit(session) {
+        return SessionReply::refused(refusal, x);
     }
     let log = session_log::of_session(logs, session);
-    let t = calls::take_seal(log, n, x);
-    let change = t.change;
-    let count = x.count as usize;
-    locks::change_drop(change, log, count, readers, session);
-    replied(t)
+    let t = calls::take_seal(log, values.len(), x);
+    locks::change_drop(t.change, log, x.count as usize, readers, session);
+    SessionReply::from(t)
 }
 
 // Advance: phases 2 to 4. One cell that the session publishes is promoted, published or released. 103, 104 and how many others read, 105, or 6.
@@ -310,24 +239,22 @@ pub fn advance(
 ) -> SessionReply
     ensures { TakesOne (Advance session) (as_lent values) classes (as_lent readers) (as_lent claimants) (as_lent exclusives) logs x result }
 {
-    let n = values.len();
-    let k = classes.len();
-    let r = readers.len();
-    let c = claimants.len();
-    let m = exclusives.len();
-    let w = logs.len();
-    if !refusals::admits(n, k, r, c, m, w, session) {
-        return refused(refusals::admit(n, k, r, c, m, w, session), x);
+    let lengths = Lengths::of(values, classes, readers, claimants, exclusives, logs);
+    if let Err(refusal) = lengths.admit(session) {
+        return SessionReply::refused(refusal, x);
     }
     let log = session_log::of_session(logs, session);
-    let due = advance::due_slot(log, n, x);
+    let due = advance::due_slot(log, values.len(), x);
     let cell = advance::due_cell(log, due);
-    let l = locks::at(&readers[..], &claimants[..], &exclusives[..], cell);
+    let l = locks::at(readers, claimants, exclusives, cell);
     let t = advance::take_advance(values, log, x, l, session, due);
-    let change = t.change;
-    let count = x.count as usize;
-    locks::carry_out(change, log, count, readers, claimants, exclusives, session);
-    replied(t)
+    let mut locks = Locks {
+        readers,
+        claimants,
+        exclusives,
+    };
+    locks::carry_out(&mut locks, t.change, log, x.count as usize, session);
+    SessionReply::from(t)
 }
 
 // Abandon: phases 1 and 2. The session is rolled back. 100.
@@ -343,19 +270,17 @@ pub fn abandon(
 ) -> SessionReply
     ensures { TakesOne (Abandon session) values classes (as_lent readers) (as_lent claimants) (as_lent exclusives) logs x result }
 {
-    let n = values.len();
-    let k = classes.len();
-    let r = readers.len();
-    let c = claimants.len();
-    let m = exclusives.len();
-    let w = logs.len();
-    if !refusals::admits(n, k, r, c, m, w, session) {
-        return refused(refusals::admit(n, k, r, c, m, w, session), x);
+    let lengths = Lengths::of(values, classes, readers, claimants, exclusives, logs);
+    if let Err(refusal) = lengths.admit(session) {
+        return SessionReply::refused(refusal, x);
     }
     let log = session_log::of_session(logs, session);
-    let t = calls::take_abandon(log, n, x);
-    let change = t.change;
-    let count = x.count as usize;
-    locks::carry_out(change, log, count, readers, claimants, exclusives, session);
-    replied(t)
+    let t = calls::take_abandon(log, values.len(), x);
+    let mut locks = Locks {
+        readers,
+        claimants,
+        exclusives,
+    };
+    locks::carry_out(&mut locks, t.change, log, x.count as usize, session);
+    SessionReply::from(t)
 }

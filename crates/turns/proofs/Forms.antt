@@ -27,14 +27,18 @@ use Rattle.model.proofs.Tools.{split}
 use Rattle.locks.specs.Changes.{LockFor, one_of, withdraw_of, drop_of, ChangeFits}
 use Rattle.locks.proofs.Changes.{in_three}
 use Rattle.records.proofs.Tags.{tag}
-use Rattle.refusals.specs.Pieces.{admission}
+use Rattle.refusals.specs.Pieces.{match_of, admission}
+use Rattle.records.specs.declared.Refusal.{Refusal}
+use Rattle.records.specs.Records.{refusal_number, refusal_of}
+use Rattle.std.specs.Prelude.{Result, Err}
 use Rattle.advance.specs.Pieces.{due_on, due_cell, advance_on, due_plan}
 use Rattle.advance.specs.declared.Due.{Due}
 use Rattle.advance.specs.declared.Due.TheVariants.{Refused, Slot}
 use Rattle.advance.proofs.Agree.{advance_agree}
 use Rattle.calls.proofs.Choices.{Choice, refuses, knows, enters, read_choice, hold_choice, write_choice, when_told}
 use Rattle.turns.specs.InLogs.{in_logs}
-use Rattle.refusals.proofs.Admission.{Admitted, refused_by, refused_under_by}
+use Rattle.refusals.specs.declared.Lengths as the
+use Rattle.refusals.proofs.Admission.{Admitted, lengths_in, admitted, refused, refused_under}
 use Rattle.turns.proofs.Guards.{guarded}
 use Rattle.turns.proofs.InLogs.{kept_in}
 use Rattle.session_log.proofs.Logs.{log_long}
@@ -160,9 +164,7 @@ module _ (G : Limits) (k : Call) (B : Buffers) (x : Session) (s : ℕ) (i : s �
     (vs Ws : List ℕ) (h : leaves t.answer vs Ws t.session t.change ≡ in_logs s B.logs (turn_of q B.values (log_in B.logs s) x)) (W : List ℕ) (w : W ≡ log_in Ws s) where
   -- W is the session's log afterwards: what carrying the change out asks
   pub can_carry_under : (s < 16) × ChangeFits t.change s W x.count (length B.locks.readers)
-      × (length B.locks.claimants ≡ length B.locks.readers) × (length B.locks.exclusives ≡ length B.locks.readers)
-  can_carry_under =
-      (z.low, rw z.lengths.readers (can_change G k B x s i z q e t.answer vs Ws t.session t.change h W w), (even B s z).0, (even B s z).1)
+  can_carry_under = (z.low, rw z.lengths.readers (can_change G k B x s i z q e t.answer vs Ws t.session t.change h W w))
 
   -- and once it is carried out the call is the model's
   pub replies_under : table_fits k G ≡ true → (N : Locks) → N ≡ changed t.change W x.count s B.locks → (r : SessionReply) → r ≡ record { answer = t.answer; session = t.session }
@@ -178,7 +180,6 @@ module _ (k : Call) (B : Buffers) (x : Session) (s : ℕ) (i : s ≡ session_of 
 
   module _ (W : List ℕ) (w : W ≡ log_in Ws s) where
     pub can_carry : (s < 16) × ChangeFits t.change s W x.count (length B.locks.readers)
-        × (length B.locks.claimants ≡ length B.locks.readers) × (length B.locks.exclusives ≡ length B.locks.readers)
     can_carry = can_carry_under ours k B x s i z q e t vs Ws h W w
 
     pub replies : (N : Locks) → N ≡ changed t.change W x.count s B.locks → (r : SessionReply) → r ≡ record { answer = t.answer; session = t.session }
@@ -198,22 +199,23 @@ module _ (k : Call) (B : Buffers) (x : Session) (s : ℕ) (i : s ≡ session_of 
   kept_change = ap (λ (f : TurnEffect). f.change) h
 
   pub kept_carry : (s < 16) × ChangeFits t.change s W x.count (length B.locks.readers)
-      × (length B.locks.claimants ≡ length B.locks.readers) × (length B.locks.exclusives ≡ length B.locks.readers)
   kept_carry = can_carry k B x s i z q decided t vs B.logs in_logs_lem W w
 
   pub kept_replies : (N : Locks) → N ≡ changed t.change W x.count s B.locks → (r : SessionReply) → r ≡ record { answer = t.answer; session = t.session }
       → TakesRecord k B x r.answer (record { values = vs; classes = B.classes; locks = N; logs = B.logs }) r.session
   kept_replies = replies k B x s i z q decided t vs B.logs in_logs_lem W w
 
--- the call is refused by 7 or 1: the test answered no, and n is the number
-module _ (B : Buffers) (s : ℕ) (b : Bool)
-    (e : b ≡ eqb (admission (lengths_match (length B.values) (length B.classes) (length B.locks.readers) (length B.locks.claimants) (length B.locks.exclusives) (length B.logs)) s) 0) where
-  pub turned_down : b ≡ false → (n : ℕ)
-      → n ≡ admission (lengths_match (length B.values) (length B.classes) (length B.locks.readers) (length B.locks.claimants) (length B.locks.exclusives) (length B.logs)) s
-      → (k : Call) → s ≡ session_of k → (x : Session) (r : SessionReply) → r ≡ record { answer = say.Refused n; session = x } → TakesRecord k B x r.answer B r.session
-  turned_down h n o k i x r f = rw f (refused_by B s b e h n o k i x)
+-- the call is refused by 7 or 1, with its record as it came
+module _ (B : Buffers) (s : ℕ) (q : Result Unit Refusal) (l : the.Lengths) (f : l ≡ lengths_in B) (e : refusal_of q ≡ admission (match_of l) s) where
+  in_lengths : refusal_of q ≡ admission (match_of (lengths_in B)) s
+  in_lengths = rw f at e
 
-  pub turned_down_under : (G : Limits) → b ≡ false → (n : ℕ)
-      → n ≡ admission (lengths_match (length B.values) (length B.classes) (length B.locks.readers) (length B.locks.claimants) (length B.locks.exclusives) (length B.logs)) s
-      → (k : Call) → table_fits k G ≡ true → s ≡ session_of k → (x : Session) (r : SessionReply) → r ≡ record { answer = say.Refused n; session = x } → TakesUnder G k B x r.answer B r.session
-  turned_down_under G h n o k t i x r f = rw f (refused_under_by B s b e h n o k i G t x)
+  pub admitted_by : ((r : Refusal) → q ≡ Err r → ⊥) → Admitted B s
+  admitted_by = admitted B s q in_lengths
+
+  module _ (r : Refusal) (z : q ≡ Err r) (k : Call) (i : s ≡ session_of k) (x : Session) (y : SessionReply) (o : y ≡ record { answer = say.Refused (refusal_number r); session = x }) where
+    pub turned_down : TakesRecord k B x y.answer B y.session
+    turned_down = rw o (refused B s q in_lengths r z k i x)
+
+    pub turned_down_under : (G : Limits) → table_fits k G ≡ true → TakesUnder G k B x y.answer B y.session
+    turned_down_under G t = rw o (refused_under B s q in_lengths r z k i G t x)
