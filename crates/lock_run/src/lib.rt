@@ -11,15 +11,7 @@ use run_changes::Change;
 pub fn lock_at(locks: &[Lock], cell: usize) -> Lock
     ensures { result ≡ lock_in locks.now cell }
 {
-    if cell < locks.len() {
-        locks[cell]
-    } else {
-        Lock {
-            readers: 0,
-            claimant: 16,
-            exclusive: 0,
-        }
-    }
+    locks.get(cell).copied().unwrap_or(lock::empty())
 }
 
 // One lock changed; past the last cell nothing is.
@@ -33,16 +25,12 @@ fn change_at(locks: &mut [Lock], cell: usize, change: Change)
 }
 
 // The change carried out, lock by lock.
-#[tactic(auto, unfolding(run_changes::specs::Run::swept))]
+#[tactic(auto, unfolding(run_changes::specs::Run::swept), using(crate::proofs::Fits::session_fits))]
 pub fn sweep<'a>(locks: &'a mut [Lock], logs: &'a [u32], change: Change)
     requires { ChangeFits logs.now change }
     ensures { locks.new ≡ swept_by logs.now change locks.old }
 {
-    let n = run_changes::count_of(change);
-    let mut i = 0;
-    while i < n {
-        let cell = run_changes::cell_of(logs, change, i);
-        change_at(locks, cell, change);
-        i += 1;
+    for i in 0..run_changes::count_of(change) {
+        change_at(locks, run_changes::cell_of(logs, change, i), change);
     }
 }

@@ -13,15 +13,16 @@ use Rattle.session_log.specs.Slots.{found}
 use Rattle.session_log.proofs.Targets.{slot_some, slot_none}
 use Rattle.session_log.proofs.Logs.{log_long}
 use Rattle.run_changes.specs.declared.Change.{Change}
-use Rattle.run_changes.specs.declared.Change.TheVariants.{Withdraw, Leave}
+use Rattle.run_changes.specs.declared.Change.TheVariants.{Turn}
+use Rattle.records.specs.declared.Change.TheVariants as to
 use Rattle.run_changes.specs.Run.{ChangeFits, count_of, cell_of}
 
 -- what a change through entries says of its i-th lock
-pub withdraw_fits : (W : List ℕ) (d : Change) (s m i : ℕ) → d ≡ Withdraw s m → ChangeFits W d → i < count_of d → (s < 16) × (i < 32) × (length W ≡ 2048)
+pub withdraw_fits : (W : List ℕ) (d : Change) (s m i : ℕ) → d ≡ Turn to.Withdraw s m → ChangeFits W d → i < count_of d → (s < 16) × (i < 32) × (length W ≡ 2048)
 unfolding count_of
 withdraw_fits W d s m i e f l = let g = rw e at f in let h = rw e at l in let k = g.1 in (g.0, omega arith, g.2)
 
-pub leave_fits : (W : List ℕ) (d : Change) (s m i : ℕ) → d ≡ Leave s m → ChangeFits W d → i < count_of d → (s < 16) × (m ≤ 32) × (i < m) × (length W ≡ 2048)
+pub leave_fits : (W : List ℕ) (d : Change) (s m i : ℕ) → d ≡ Turn to.DropReads s m → ChangeFits W d → i < count_of d → (s < 16) × (m ≤ 32) × (i < m) × (length W ≡ 2048)
 unfolding count_of
 leave_fits W d s m i e f l = let g = rw e at f in let h = rw e at l in (g.0, g.1, h, g.2)
 
@@ -43,10 +44,10 @@ module _ (W : List ℕ) (s m i : ℕ) (long : length W ≡ 2048) (low : s < 16) 
     unfolding publishes_in look_in entry_of
     written = rw (← same, ← w, there) (sym said)
 
-    pub written_cell : b ≡ true → 1024 ≡ cell_of W (Leave s m) i
+    pub written_cell : b ≡ true → 1024 ≡ cell_of W (Turn to.DropReads s m) i
     unfolding cell_of
     written_cell h = rw (written, h)
 
-    pub unpublished : b ≡ false → c ≡ cell_of W (Leave s m) i
+    pub unpublished : b ≡ false → c ≡ cell_of W (Turn to.DropReads s m) i
     unfolding cell_of
     unpublished h = rw (written, h) same

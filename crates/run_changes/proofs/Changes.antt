@@ -14,7 +14,7 @@ use Rattle.records.specs.declared.Change.{Change as LockChange}
 use Rattle.records.specs.declared.Change.TheVariants as to
 use Rattle.model.proofs.Tools.{test}
 use Rattle.locks.specs.Changes.{ChangeFits as Fits}
-use Rattle.run_changes.specs.declared.Change.TheVariants.{Withdraw, Leave, Clear}
+use Rattle.run_changes.specs.declared.Change.TheVariants.{Turn, Clear}
 use Rattle.run_changes.specs.Run.{each, unzipped, lock_in, count_of, cell_of, change_of, swept, swept_by, on_run, ChangeFits}
 
 -- past the end nothing is stored
@@ -61,31 +61,31 @@ unzipped_on f L c = unzipped_set L c (f (lock_in L c)) ∙ ap (λ (l : Lock). se
 -- ---- a change of each entry's cell
 
 module _ (W : List ℕ) (s m : ℕ) (L : List Lock) where
-  withdraws_to : (k : ℕ) → unzipped (swept W (Withdraw s m) k L) ≡ rolled_back (log_in W s) k s (unzipped L)
+  withdraws_to : (k : ℕ) → unzipped (swept W (Turn to.Withdraw s m) k L) ≡ rolled_back (log_in W s) k s (unzipped L)
   unfolding rolled_back swept sweep cell_of change_of
   withdraws_to zero = refl
-  withdraws_to (suc k) = unzipped_on (withdraw s) (swept W (Withdraw s m) k L) (cell_at (log_in W s) k) ∙ ap (on_lock (cell_at (log_in W s) k) (withdraw s)) (withdraws_to k)
+  withdraws_to (suc k) = unzipped_on (withdraw s) (swept W (Turn to.Withdraw s m) k L) (cell_at (log_in W s) k) ∙ ap (on_lock (cell_at (log_in W s) k) (withdraw s)) (withdraws_to k)
 
-  withdraws : unzipped (swept_by W (Withdraw s m) L) ≡ rolled_back (log_in W s) m s (unzipped L)
+  withdraws : unzipped (swept_by W (Turn to.Withdraw s m) L) ≡ rolled_back (log_in W s) m s (unzipped L)
   unfolding count_of
   withdraws = withdraws_to m
 
   -- no cell of the run is 1,024
   module _ (few : length L ≤ 1024) where
-    still : (k : ℕ) → length (swept W (Leave s m) k L) ≡ length L
+    still : (k : ℕ) → length (swept W (Turn to.DropReads s m) k L) ≡ length L
     unfolding swept
     still zero = refl
-    still (suc k) = length-set (swept W (Leave s m) k L) _ _ ∙ still k
+    still (suc k) = length-set (swept W (Turn to.DropReads s m) k L) _ _ ∙ still k
 
-    leaves_to : (k : ℕ) → unzipped (swept W (Leave s m) k L) ≡ sweep (λ c. not (publishes_in (log_in W s) m c)) (leave s) (cell_at (log_in W s)) k (unzipped L)
+    leaves_to : (k : ℕ) → unzipped (swept W (Turn to.DropReads s m) k L) ≡ sweep (λ c. not (publishes_in (log_in W s) m c)) (leave s) (cell_at (log_in W s)) k (unzipped L)
     unfolding swept sweep cell_of change_of
     leaves_to zero = refl
     leaves_to (suc k) =
         test (publishes_in (log_in W s) m (cell_at (log_in W s) k))
-        (λ e. let l = still k in rw e (ap unzipped (set_past (swept W (Leave s m) k L) 1024 _ (omega arith)) ∙ leaves_to k))
-        (λ e. rw e (unzipped_on (leave s) (swept W (Leave s m) k L) (cell_at (log_in W s) k) ∙ ap (on_lock (cell_at (log_in W s) k) (leave s)) (leaves_to k)))
+        (λ e. let l = still k in rw e (ap unzipped (set_past (swept W (Turn to.DropReads s m) k L) 1024 _ (omega arith)) ∙ leaves_to k))
+        (λ e. rw e (unzipped_on (leave s) (swept W (Turn to.DropReads s m) k L) (cell_at (log_in W s) k) ∙ ap (on_lock (cell_at (log_in W s) k) (leave s)) (leaves_to k)))
 
-    leaves : unzipped (swept_by W (Leave s m) L) ≡ reads_dropped (log_in W s) m s (unzipped L)
+    leaves : unzipped (swept_by W (Turn to.DropReads s m) L) ≡ reads_dropped (log_in W s) m s (unzipped L)
     unfolding reads_dropped count_of
     leaves = leaves_to m
 

@@ -6,7 +6,7 @@ use Rattle.records.specs.declared.Sessions.{Sessions}
 use Rattle.records.specs.declared.Change.{Change as LockChange}
 use Rattle.records.specs.declared.Change.TheVariants as to
 use Rattle.run_changes.specs.declared.Change.{Change}
-use Rattle.run_changes.specs.declared.Change.TheVariants.{Keep, Join, Claim, Acquire, Vacate, Withdraw, Leave, Clear}
+use Rattle.run_changes.specs.declared.Change.TheVariants.{Turn, Clear}
 
 -- ---- the run and the three lists
 
@@ -33,47 +33,44 @@ store_on G values classes locks logs sessions = record { lent = lent_on values c
 abbrev pub lock_in : List Lock → ℕ → Lock
 lock_in ls c = get_or ls c free
 
--- a turn's change as one of the run, by session s with m entries
+-- a turn's change as one of the run, by session s with m entries; and no change
 unfoldable pub on_run : LockChange → ℕ → ℕ → Change
-on_run to.Keep s m = Keep
-on_run (to.Join c) s m = Join s c
-on_run (to.Claim c) s m = Claim s c
-on_run (to.Acquire c) s m = Acquire s c
-on_run (to.Vacate c) s m = Vacate s c
-on_run to.Withdraw s m = Withdraw s m
-on_run to.DropReads s m = Leave s m
+on_run d s m = Turn d s m
+
+abbrev pub kept : Change
+kept = Turn to.Keep 0 0
 
 -- how many locks are changed, one after the other
 unfoldable pub count_of : Change → ℕ
-count_of Keep = 0
-count_of (Join s c) = 1
-count_of (Claim s c) = 1
-count_of (Acquire s c) = 1
-count_of (Vacate s c) = 1
-count_of (Withdraw s m) = m
-count_of (Leave s m) = m
+count_of (Turn to.Keep s m) = 0
+count_of (Turn (to.Join c) s m) = 1
+count_of (Turn (to.Claim c) s m) = 1
+count_of (Turn (to.Acquire c) s m) = 1
+count_of (Turn (to.Vacate c) s m) = 1
+count_of (Turn to.Withdraw s m) = m
+count_of (Turn to.DropReads s m) = m
 count_of (Clear n) = n
 
 -- the cell whose lock is changed i-th, from 0; 1,024 is no cell
 unfoldable pub cell_of : List ℕ → Change → ℕ → ℕ
-cell_of logs Keep i = 1024
-cell_of logs (Join s c) i = c
-cell_of logs (Claim s c) i = c
-cell_of logs (Acquire s c) i = c
-cell_of logs (Vacate s c) i = c
-cell_of logs (Withdraw s m) i = cell_at (log_in logs s) i
-cell_of logs (Leave s m) i = let c = cell_at (log_in logs s) i in cond (publishes_in (log_in logs s) m c) 1024 c
+cell_of logs (Turn to.Keep s m) i = 1024
+cell_of logs (Turn (to.Join c) s m) i = c
+cell_of logs (Turn (to.Claim c) s m) i = c
+cell_of logs (Turn (to.Acquire c) s m) i = c
+cell_of logs (Turn (to.Vacate c) s m) i = c
+cell_of logs (Turn to.Withdraw s m) i = cell_at (log_in logs s) i
+cell_of logs (Turn to.DropReads s m) i = let c = cell_at (log_in logs s) i in cond (publishes_in (log_in logs s) m c) 1024 c
 cell_of logs (Clear n) i = i
 
 -- what becomes of a lock
 unfoldable pub change_of : Change → Lock → Lock
-change_of Keep l = l
-change_of (Join s c) l = join s l
-change_of (Claim s c) l = claim s l
-change_of (Acquire s c) l = acquire s l
-change_of (Vacate s c) l = vacate s l
-change_of (Withdraw s m) l = withdraw s l
-change_of (Leave s m) l = leave s l
+change_of (Turn to.Keep s m) l = l
+change_of (Turn (to.Join c) s m) l = join s l
+change_of (Turn (to.Claim c) s m) l = claim s l
+change_of (Turn (to.Acquire c) s m) l = acquire s l
+change_of (Turn (to.Vacate c) s m) l = vacate s l
+change_of (Turn to.Withdraw s m) l = withdraw s l
+change_of (Turn to.DropReads s m) l = leave s l
 change_of (Clear n) l = free
 
 -- the run with one lock changed; past the end nothing is
@@ -90,22 +87,22 @@ swept_by logs d ls = swept logs d (count_of d) ls
 
 -- what changing one lock asks: the session is one of sixteen
 abbrev pub SessionFits : Change → Type 0
-SessionFits Keep = Unit
-SessionFits (Join s c) = s < 16
-SessionFits (Claim s c) = s < 16
-SessionFits (Acquire s c) = s < 16
-SessionFits (Vacate s c) = s < 16
-SessionFits (Withdraw s m) = s < 16
-SessionFits (Leave s m) = s < 16
+SessionFits (Turn to.Keep s m) = Unit
+SessionFits (Turn (to.Join c) s m) = s < 16
+SessionFits (Turn (to.Claim c) s m) = s < 16
+SessionFits (Turn (to.Acquire c) s m) = s < 16
+SessionFits (Turn (to.Vacate c) s m) = s < 16
+SessionFits (Turn to.Withdraw s m) = s < 16
+SessionFits (Turn to.DropReads s m) = s < 16
 SessionFits (Clear n) = Unit
 
 -- and changing all: where entries are gone through, they are at most 32, in logs of 2,048 words
 abbrev pub ChangeFits : List ℕ → Change → Type 0
-ChangeFits logs Keep = Unit
-ChangeFits logs (Join s c) = s < 16
-ChangeFits logs (Claim s c) = s < 16
-ChangeFits logs (Acquire s c) = s < 16
-ChangeFits logs (Vacate s c) = s < 16
-ChangeFits logs (Withdraw s m) = (s < 16) × (m ≤ 32) × (length logs ≡ 2048)
-ChangeFits logs (Leave s m) = (s < 16) × (m ≤ 32) × (length logs ≡ 2048)
+ChangeFits logs (Turn to.Keep s m) = Unit
+ChangeFits logs (Turn (to.Join c) s m) = s < 16
+ChangeFits logs (Turn (to.Claim c) s m) = s < 16
+ChangeFits logs (Turn (to.Acquire c) s m) = s < 16
+ChangeFits logs (Turn (to.Vacate c) s m) = s < 16
+ChangeFits logs (Turn to.Withdraw s m) = (s < 16) × (m ≤ 32) × (length logs ≡ 2048)
+ChangeFits logs (Turn to.DropReads s m) = (s < 16) × (m ≤ 32) × (length logs ≡ 2048)
 ChangeFits logs (Clear n) = Unit

@@ -4,21 +4,20 @@
 
 ghost use Rattle.std.specs.Prelude.{◌≡◌, ◌<◌, ◌≤◌, length};
 ghost use Rattle.model.specs.Buffers.{log_in, cell_at};
-ghost use Rattle.run_changes.specs.declared.Change.TheVariants.{Leave};
+ghost use Rattle.records.specs.declared.Change.TheVariants.{DropReads};
+ghost use Rattle.run_changes.specs.declared.Change.TheVariants.{Turn};
 ghost use Rattle.run_changes.specs.Run.{count_of, cell_of, change_of, SessionFits, ChangeFits};
 
 use records::Lock;
 
-// What a call does to the locks: the session, with a cell or with the number of its entries; or the number of all cells.
+// What a call does to the locks: what its turn does, of a session with so many entries; or, by set-up, all of so many cells are emptied.
 #[derive(Clone, Copy)]
 pub enum Change {
-    Keep,
-    Join(u8, u32),
-    Claim(u8, u32),
-    Acquire(u8, u32),
-    Vacate(u8, u32),
-    Withdraw(u8, u8),
-    Leave(u8, u8),
+    Turn {
+        change: records::Change,
+        session: u8,
+        entries: u8,
+    },
     Clear(u32),
 }
 
@@ -28,13 +27,15 @@ pub fn count_of(change: Change) -> usize
     ensures { result ≡ count_of change }
 {
     match change {
-        Change::Keep => 0,
-        Change::Join(_, _) => 1,
-        Change::Claim(_, _) => 1,
-        Change::Acquire(_, _) => 1,
-        Change::Vacate(_, _) => 1,
-        Change::Withdraw(_, m) => m as usize,
-        Change::Leave(_, m) => m as usize,
+        Change::Turn {
+            change,
+            entries,
+            ..
+        } => match change {
+            records::Change::Keep => 0,
+            records::Change::Withdraw | records::Change::DropReads => entries as usize,
+            _ => 1,
+        },
         Change::Clear(n) => n as usize,
     }
 }
@@ -47,10 +48,11 @@ fn entry_cell(logs: &[u32], session: u8, i: usize) -> usize
     session_log::cell_at(session_log::of_session(logs, session), i) as usize
 }
 
-// The same, or 1,024 where the cell publishes: of m entries the cell's first counts.
+// The same, or 1,024 where the cell publishes: of m entries the cell's first counts. (No Option: `cell_of` in specs/Run.antt has 1,024 for no cell, and
+// sweeps a run of any length by it.)
 fn unpublished_cell(logs: &[u32], session: u8, m: u8, i: usize) -> usize
     requires { (session < 16) × (m ≤ 32) × (i < m) × (length logs.now ≡ 2048) }
-    ensures { result ≡ cell_of logs.now (Leave session m) i }
+    ensures { result ≡ cell_of logs.now (Turn DropReads session m) i }
 {
     let log = session_log::of_session(logs, session);
     let cell = session_log::cell_at(log, i);
@@ -68,13 +70,19 @@ pub fn cell_of(logs: &[u32], change: Change, i: usize) -> usize
     ensures { result ≡ cell_of logs.now change i }
 {
     match change {
-        Change::Keep => 1024,
-        Change::Join(_, c) => c as usize,
-        Change::Claim(_, c) => c as usize,
-        Change::Acquire(_, c) => c as usize,
-        Change::Vacate(_, c) => c as usize,
-        Change::Withdraw(s, _) => entry_cell(logs, s, i),
-        Change::Leave(s, m) => unpublished_cell(logs, s, m, i),
+        Change::Turn {
+            change,
+            session,
+            entries,
+        } => match change {
+            records::Change::Keep => 1024,
+            records::Change::Join(cell)
+            | records::Change::Claim(cell)
+            | records::Change::Acquire(cell)
+            | records::Change::Vacate(cell) => cell as usize,
+            records::Change::Withdraw => entry_cell(logs, session, i),
+            records::Change::DropReads => unpublished_cell(logs, session, entries, i),
+        },
         Change::Clear(_) => i,
     }
 }
@@ -86,17 +94,19 @@ pub fn changed(l: Lock, change: Change) -> Lock
     ensures { result ≡ change_of change l }
 {
     match change {
-        Change::Keep => l,
-        Change::Join(s, _) => lock::joined(l, s),
-        Change::Claim(s, _) => lock::claimed(l, s),
-        Change::Acquire(s, _) => lock::acquired(l, s),
-        Change::Vacate(s, _) => lock::vacated(l, s),
-        Change::Withdraw(s, _) => lock::withdrawn(l, s),
-        Change::Leave(s, _) => lock::left(l, s),
-        Change::Clear(_) => Lock {
-            readers: 0,
-            claimant: 16,
-            exclusive: 0,
+        Change::Turn {
+            change,
+            session,
+            ..
+        } => match change {
+            records::Change::Keep => l,
+            records::Change::Join(_) => lock::joined(l, session),
+            records::Change::Claim(_) => lock::claimed(l, session),
+            records::Change::Acquire(_) => lock::acquired(l, session),
+            records::Change::Vacate(_) => lock::vacated(l, session),
+            records::Change::Withdraw => lock::withdrawn(l, session),
+            records::Change::DropReads => lock::left(l, session),
         },
+        Change::Clear(_) => lock::empty(),
     }
 }
