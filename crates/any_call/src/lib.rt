@@ -38,18 +38,9 @@ fn take_peek(log: &[u32], n: usize, x: Session, cell: u32) -> Turn
     requires { (length log.now ≡ 128) × (n ≤ 1024) }
     ensures { TurnsLog (peek_plan n log.now x cell) log x result }
 {
-    let p = plans::peek_plan(log, n, x, cell);
-    if let Plan::Refuse(number) = p {
-        return Turn {
-            answer: Answer::Refused(number),
-            session: x,
-            change: Change::Keep,
-        };
-    }
-    Turn {
-        answer: Answer::Done,
-        session: x,
-        change: Change::Keep,
+    match plans::peek_plan(log, n, x, cell) {
+        Plan::Refuse(number) => records::keeps(Answer::Refused(number), x),
+        _ => records::keeps(Answer::Done, x),
     }
 }
 
@@ -67,25 +58,25 @@ fn take_call(
 {
     let n = values.len();
     match call {
-        Call::Begin(_) => calls::take_begin(&log[..], n, x),
+        Call::Begin(_) => calls::take_begin(log, n, x),
         Call::Read(_, c) => {
-            let p = plans::read_plan(&log[..], n, x, c);
-            calls::take_read(&values[..], log, x, l, c, p)
+            let p = plans::read_plan(log, n, x, c);
+            calls::take_read(values, log, x, l, c, p)
         }
         Call::Write(_, c, v) => {
-            let p = plans::write_plan(&log[..], classes, x, c, v);
-            calls::take_write(&values[..], log, x, l, c, v, p)
+            let p = plans::write_plan(log, classes, x, c, v);
+            calls::take_write(values, log, x, l, c, v, p)
         }
-        Call::Seal(_) => calls::take_seal(&log[..], n, x),
+        Call::Seal(_) => calls::take_seal(log, n, x),
         Call::Advance(s) => {
-            let due = advance::due_slot(&log[..], n, x);
-            advance::take_advance(values, &log[..], x, l, s, due)
+            let due = advance::due_slot(log, n, x);
+            advance::take_advance(values, log, x, l, s, due)
         }
-        Call::Abandon(_) => calls::take_abandon(&log[..], n, x),
-        Call::Peek(_, c) => take_peek(&log[..], n, x, c),
+        Call::Abandon(_) => calls::take_abandon(log, n, x),
+        Call::Peek(_, c) => take_peek(log, n, x, c),
         Call::Hold(_, c) => {
-            let p = plans::hold_plan(&log[..], n, x, c);
-            calls::take_hold(&values[..], log, x, l, c, p)
+            let p = plans::hold_plan(log, n, x, c);
+            calls::take_hold(values, log, x, l, c, p)
         }
     }
 }

@@ -5,7 +5,9 @@
 ghost use Rattle.model.specs.Slices.{as_lent};
 ghost use Rattle.contracts.specs.Lent.{Takes};
 
+use locks::Locks;
 use records::{Answer, Call, Reply, Sessions};
+use refusals::Lengths;
 
 // One call of a list: the record of its session is taken out of the sixteen, and the one handed back put in its place.
 pub fn step(
@@ -21,26 +23,29 @@ pub fn step(
     ensures { Takes call (as_lent values) classes (as_lent readers) (as_lent claimants) (as_lent exclusives) (as_lent logs) sessions result }
 {
     let session = call.session();
-    let n = values.len();
-    let k = classes.len();
-    let r = readers.len();
-    let c = claimants.len();
-    let m = exclusives.len();
-    let w = logs.len();
-    if !refusals::admits(n, k, r, c, m, w, session) {
+    let lengths = Lengths::of(values, classes, readers, claimants, exclusives, logs);
+    if let Err(refusal) = lengths.admit(session) {
         return Reply {
-            answer: Answer::Refused(refusals::admit(n, k, r, c, m, w, session)),
+            answer: Answer::from(refusal),
             sessions,
         };
     }
     let x = turns::record_of(sessions, session);
-    let cell = any_call::cell_for(call, session_log::of_session(&logs[..], session), n, x);
-    let l = locks::at(&readers[..], &claimants[..], &exclusives[..], cell);
+    let cell = any_call::cell_for(
+        call,
+        session_log::of_session(logs, session),
+        values.len(),
+        x,
+    );
+    let l = locks::at(readers, claimants, exclusives, cell);
     let t = any_call::any(call, values, classes, logs, x, l, session);
-    let change = t.change;
+    let log = session_log::of_session(logs, session);
     let count = x.count as usize;
-    let log = session_log::of_session(&logs[..], session);
-    locks::carry_out(change, log, count, readers, claimants, exclusives, session);
-    locks::change_drop(change, log, count, readers, session);
+    let mut locks = Locks {
+        readers,
+        claimants,
+        exclusives,
+    };
+    locks::apply(&mut locks, t.change, log, count, session);
     turns::put_back(t, sessions, session)
 }

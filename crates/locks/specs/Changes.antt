@@ -1,5 +1,4 @@
--- A change of the locks on three lent slices, in three parts: that of one cell's lock, rolling back, sealing. Two functions carry it out, the second the
--- last part.
+-- A change of the locks on three lent slices.
 use Rattle.std.specs.Prelude.{◌≡◌, ℕ, ◌≤◌, ◌<◌, List, length}
 use Rattle.model.specs.Buffers.{Locks, lock_at}
 use Rattle.model.specs.Turns.{changed}
@@ -9,8 +8,6 @@ use Rattle.records.specs.declared.Plan.TheVariants.{Enter, EnterUpdate, EnterMar
 use Rattle.records.specs.declared.Change.{Change}
 use Rattle.records.specs.declared.Change.TheVariants.{Keep, Join, Claim, Acquire, Vacate, Withdraw, DropReads}
 use Rattle.contracts.specs.Lent.{locks_of}
-use Rattle.lock.specs.declared.Locks.{Locks as LentLocks}
-use Rattle.lock.specs.Lent.{locks_in}
 use Rattle.sweeps.specs.Sweeps.{Swept}
 
 -- l is the lock of the cell that a plan enters
@@ -18,34 +15,6 @@ pub record LockFor (p : Plan) (L : Locks) (l : Lock) : Type 0 where
   pub enters : (c : ℕ) → p ≡ Enter c → l ≡ lock_at L c
   pub updates : (c v : ℕ) → p ≡ EnterUpdate c v → l ≡ lock_at L c
   pub marks : (c : ℕ) → p ≡ EnterMark c → l ≡ lock_at L c
-
--- the parts of a change: of one cell, of rolling back, of sealing
-unfoldable pub one_of : Change → Change
-one_of Keep = Keep
-one_of (Join c) = Join c
-one_of (Claim c) = Claim c
-one_of (Acquire c) = Acquire c
-one_of (Vacate c) = Vacate c
-one_of Withdraw = Keep
-one_of DropReads = Keep
-
-unfoldable pub withdraw_of : Change → Change
-withdraw_of Keep = Keep
-withdraw_of (Join c) = Keep
-withdraw_of (Claim c) = Keep
-withdraw_of (Acquire c) = Keep
-withdraw_of (Vacate c) = Keep
-withdraw_of Withdraw = Withdraw
-withdraw_of DropReads = Keep
-
-unfoldable pub drop_of : Change → Change
-drop_of Keep = Keep
-drop_of (Join c) = Keep
-drop_of (Claim c) = Keep
-drop_of (Acquire c) = Keep
-drop_of (Vacate c) = Keep
-drop_of Withdraw = Keep
-drop_of DropReads = DropReads
 
 -- what a change asks, of session s with m entries and n cells: its cell has a lock; or its entries can be swept
 unfoldable pub ChangeFits : Change → ℕ → List ℕ → ℕ → ℕ → Type 0
@@ -57,10 +26,17 @@ ChangeFits (Vacate c) s log m n = c < n
 ChangeFits Withdraw s log m n = Swept s log m n
 ChangeFits DropReads s log m n = Swept s log m n × (n ≤ 1024)
 
--- what is left of the locks by a change but for the reads that it drops; and of the reader sets by a change that drops reads
-abbrev pub CarriesOut : Change → List ℕ → ℕ → ℕ → LentLocks → LentLocks → Type 0
-CarriesOut d log m s before after = changed (drop_of d) log m s (locks_in after) ≡ changed d log m s (locks_in before)
+-- the part of a change that is a sealing's
+unfoldable pub drop_of : Change → Change
+drop_of Keep = Keep
+drop_of (Join c) = Keep
+drop_of (Claim c) = Keep
+drop_of (Acquire c) = Keep
+drop_of (Vacate c) = Keep
+drop_of Withdraw = Keep
+drop_of DropReads = DropReads
 
+-- what it leaves of the reader sets
 abbrev pub DropsIf : Change → List ℕ → ℕ → ℕ → List ℕ → List ℕ → Type 0
 DropsIf d log m s R R' =
     (C E : List ℕ) → length C ≡ length R → length E ≡ length R → locks_of R' C E ≡ changed (drop_of d) log m s (locks_of R C E)

@@ -4,8 +4,9 @@
 ghost use Rattle.std.specs.Prelude.{◌≡◌, ◌<◌, length};
 ghost use Rattle.model.specs.Buffers.{lock_at};
 ghost use Rattle.contracts.specs.Lent.{locks_before};
-ghost use Rattle.lock.specs.Lent.{SameSlices};
-ghost use Rattle.locks.specs.Changes.{LockFor, ChangeFits, CarriesOut, DropsIf};
+ghost use Rattle.lock.specs.Lent.{locks_in, SameSlices};
+ghost use Rattle.model.specs.Turns.{changed};
+ghost use Rattle.locks.specs.Changes.{LockFor, ChangeFits, DropsIf};
 
 pub use lock::Locks;
 use records::{Change, Lock, Plan};
@@ -39,12 +40,12 @@ pub fn lock_for(readers: &[u16], claimants: &[u8], exclusives: &[u8], p: Plan) -
 
 // ---- a change of the locks
 
-// A change but for the reads that a sealing drops.
-#[tactic(auto, unfolding(crate::specs::Changes::ChangeFits, crate::specs::Changes::drop_of, model::specs::Turns::changed), using(crate::proofs::Changes::join_stored, crate::proofs::Changes::claim_stored, crate::proofs::Changes::acquire_stored, crate::proofs::Changes::vacate_stored))]
-pub fn carry_out(locks: &mut Locks, change: Change, log: &[u32], count: usize, session: u8)
+// A change carried out.
+#[tactic(auto, unfolding(crate::specs::Changes::ChangeFits, model::specs::Turns::changed, model::specs::Effects::reads_dropped), using(crate::proofs::Changes::join_stored, crate::proofs::Changes::claim_stored, crate::proofs::Changes::acquire_stored, crate::proofs::Changes::vacate_stored))]
+pub fn apply(locks: &mut Locks, change: Change, log: &[u32], count: usize, session: u8)
     requires { (session < 16) × ChangeFits change session log.now count (length locks.old.readers.now) }
     ensures lent { SameSlices locks.old locks.new }
-    ensures carried { CarriesOut change log.now count session locks.old locks.new }
+    ensures carried { locks_in locks.new ≡ changed change log.now count session (locks_in locks.old) }
 {
     match change {
         Change::Keep => {}
@@ -69,11 +70,13 @@ pub fn carry_out(locks: &mut Locks, change: Change, log: &[u32], count: usize, s
         Change::Withdraw => {
             sweeps::roll_back(locks, log, count, session);
         }
-        Change::DropReads => {}
+        Change::DropReads => {
+            sweeps::drop_reads(log, count, locks.readers, session);
+        }
     }
 }
 
-// Sealing, where that is the change.
+// Sealing, where that is the change: it is of the reader sets alone.
 #[tactic(auto, unfolding(crate::specs::Changes::ChangeFits, crate::specs::Changes::drop_of, model::specs::Turns::changed, model::specs::Effects::reads_dropped))]
 pub fn change_drop(change: Change, log: &[u32], count: usize, readers: &mut [u16], session: u8)
     requires { ChangeFits change session log.now count (length readers.old) }

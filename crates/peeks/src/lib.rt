@@ -5,6 +5,7 @@ ghost use Rattle.records.specs.declared.Call.TheVariants.{Peek};
 ghost use Rattle.contracts.specs.Lent.{TakesOne, PeekPlans, HandsBack};
 
 use records::{Answer, Plan, Session, SessionReply};
+use refusals::Lengths;
 
 // What a peek decides.
 pub fn peek_plan(
@@ -20,16 +21,11 @@ pub fn peek_plan(
 ) -> Plan
     ensures { PeekPlans session cell values classes readers claimants exclusives logs x result }
 {
-    let n = values.len();
-    let k = classes.len();
-    let r = readers.len();
-    let c = claimants.len();
-    let m = exclusives.len();
-    let w = logs.len();
-    if !refusals::admits(n, k, r, c, m, w, session) {
-        return Plan::Refuse(refusals::admit(n, k, r, c, m, w, session));
+    let lengths = Lengths::of(values, classes, readers, claimants, exclusives, logs);
+    if let Err(refusal) = lengths.admit(session) {
+        return Plan::from(refusal);
     }
-    plans::peek_plan(session_log::of_session(logs, session), n, x, cell)
+    plans::peek_plan(session_log::of_session(logs, session), values.len(), x, cell)
 }
 
 // Peek: running only. One word, the store's own or the log's own; no word where the peek is refused.

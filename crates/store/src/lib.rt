@@ -87,7 +87,7 @@ pub fn read(
         claimants,
         exclusives,
     };
-    locks::carry_out(&mut locks, t.change, log, x.count as usize, session);
+    locks::apply(&mut locks, t.change, log, x.count as usize, session);
     SessionReply::from(t)
 }
 
@@ -118,7 +118,7 @@ pub fn hold(
         claimants,
         exclusives,
     };
-    locks::carry_out(&mut locks, t.change, log, x.count as usize, session);
+    locks::apply(&mut locks, t.change, log, x.count as usize, session);
     SessionReply::from(t)
 }
 
@@ -156,7 +156,7 @@ pub fn write(
         claimants,
         exclusives,
     };
-    locks::carry_out(&mut locks, t.change, log, x.count as usize, session);
+    locks::apply(&mut locks, t.change, log, x.count as usize, session);
     SessionReply::from(t)
 }
 
@@ -199,7 +199,7 @@ pub fn write_with_caps(
         claimants,
         exclusives,
     };
-    locks::carry_out(&mut locks, t.change, log, x.count as usize, session);
+    locks::apply(&mut locks, t.change, log, x.count as usize, session);
     SessionReply::from(t)
 }
 
@@ -253,7 +253,7 @@ pub fn advance(
         claimants,
         exclusives,
     };
-    locks::carry_out(&mut locks, t.change, log, x.count as usize, session);
+    locks::apply(&mut locks, t.change, log, x.count as usize, session);
     SessionReply::from(t)
 }
 
@@ -281,6 +281,6 @@ pub fn abandon(
         claimants,
         exclusives,
     };
-    locks::carry_out(&mut locks, t.change, log, x.count as usize, session);
+    locks::apply(&mut locks, t.change, log, x.count as usize, session);
     SessionReply::from(t)
 }

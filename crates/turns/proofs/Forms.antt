@@ -24,8 +24,7 @@ use Rattle.records.specs.declared.Plan.TheVariants.{Refuse, Tell, Enter, Update,
 use Rattle.records.specs.declared.Change.{Change}
 use Rattle.records.specs.declared.Change.TheVariants.{Keep}
 use Rattle.model.proofs.Tools.{split}
-use Rattle.locks.specs.Changes.{LockFor, one_of, withdraw_of, drop_of, ChangeFits}
-use Rattle.locks.proofs.Changes.{in_three}
+use Rattle.locks.specs.Changes.{LockFor, drop_of, ChangeFits}
 use Rattle.records.proofs.Tags.{tag}
 use Rattle.refusals.specs.Pieces.{match_of, admission}
 use Rattle.records.specs.declared.Refusal.{Refusal}
@@ -54,49 +53,16 @@ module _ (n : ℕ) (log : List ℕ) (x : Session) (vs : List ℕ) where
   unfolding turn_of
   behind P k b p f = guarded (λ q. P (change_of q)) (λ r. k) n log x b p (λ t u. f)
 
-  pub abandon_drops_none : (b : Bool) → drop_of (change_of (guard n log x b Cancel)) ≡ Keep
-  unfolding turn_of drop_of
-  abandon_drops_none b = behind (λ d. drop_of d ≡ Keep) refl b Cancel refl
+  sealed : (o : Option ℕ) → drop_of (change_of (seal_target o)) ≡ change_of (seal_target o)
+  unfolding turn_of drop_of seal_target
+  sealed none = refl
+  sealed (some c) = refl
 
-  sealed : (o : Option ℕ) → (one_of (change_of (seal_target o)) ≡ Keep) × (withdraw_of (change_of (seal_target o)) ≡ Keep)
-  unfolding turn_of one_of withdraw_of seal_target
-  sealed none = (refl, refl)
-  sealed (some c) = (refl, refl)
-
-  pub seal_drops : (one_of (change_of (seal_plan n log x)) ≡ Keep) × (withdraw_of (change_of (seal_plan n log x)) ≡ Keep)
+  -- a seal's change is a sealing's, or none
+  pub seal_drops : drop_of (change_of (seal_plan n log x)) ≡ change_of (seal_plan n log x)
   unfolding seal_plan
   seal_drops =
-      behind (λ d. (one_of d ≡ Keep) × (withdraw_of d ≡ Keep)) (unfold one_of withdraw_of in (refl, refl)) (eqb x.phase 1) (seal_target (target_in log x.count 0)) (sealed (target_in log x.count 0))
-
-  -- read, hold, write and advance drop no reads
-  chosen : (l : Lock) (c : ℕ) (known : ℕ → Plan) (new p q : Plan) → ((k : ℕ) → drop_of (change_of (known k)) ≡ Keep) → drop_of (change_of new) ≡ Keep
-      → Choice n log x l c known new p q → drop_of (change_of q) ≡ Keep
-  unfolding turn_of drop_of
-  chosen l c known new p q f g (refuses r h i) = rw i
-  chosen l c known new p q f g (knows k j h i) = rw i (f k)
-  chosen l c known new p q f g (enters j m w h i) = rw i (split (λ r. drop_of (change_of r) ≡ Keep) (claimed l) (λ t. refl) (λ t. g))
-
-  pub read_drops_none : (l : Lock) (c : ℕ) → drop_of (change_of (read_plan n log x l c)) ≡ Keep
-  unfolding turn_of drop_of
-  read_drops_none l c = chosen l c (λ k. Tell (entry_at log k).current) (Enter c) _ _ (λ k. refl) refl (read_choice n log x l c)
-
-  pub hold_drops_none : (l : Lock) (c : ℕ) → drop_of (change_of (hold_plan n log x l c)) ≡ Keep
-  unfolding turn_of drop_of
-  hold_drops_none l c = chosen l c (λ k. Mark k (entry_at log k).current) (EnterMark c) _ _ (λ k. refl) refl (hold_choice n log x l c)
-
-  pub write_drops_none : (l : Lock) (c v : ℕ) (T ks : List ℕ) → drop_of (change_of (write_plan T ks n log x l c v)) ≡ Keep
-  unfolding turn_of drop_of
-  write_drops_none l c v T ks = chosen l c (λ k. Update k v) (EnterUpdate c v) _ _ (λ k. refl) refl (write_choice n log x l c T ks v)
-
-  pub advance_drops_none : (l : Lock) (s : ℕ) (d : Due) → drop_of (change_of (due_plan s log x l d)) ≡ Keep
-  unfolding turn_of drop_of due_plan advance_on promote_plan
-  advance_drops_none l s (Refused r) = refl
-  advance_drops_none l s (Slot k more) =
-      split (λ r. drop_of (change_of r) ≡ Keep) (eqb x.phase 2)
-      (λ t.
-      split (λ r. drop_of (change_of r) ≡ Keep) (claimed l && not (eqb l.claimant s)) (λ u. refl)
-      (λ u. split (λ r. drop_of (change_of r) ≡ Keep) (eqb (other_readers s l.readers) 0) (λ v. refl) (λ v. refl)))
-      (λ t. split (λ r. drop_of (change_of r) ≡ Keep) (eqb x.phase 3) (λ u. refl) (λ u. refl))
+      behind (λ d. drop_of d ≡ d) (unfold drop_of in refl) (eqb x.phase 1) (seal_target (target_in log x.count 0)) (sealed (target_in log x.count 0))
 
 -- ---- a change d of the locks L
 
@@ -105,16 +71,6 @@ module _ (d : Change) (log : List ℕ) (m s : ℕ) (L : Locks) where
   pub no_change : d ≡ Keep → L ≡ changed d log m s L
   unfolding changed
   no_change e = rw e
-
-  -- sealing alone carries it out; N are the locks afterwards
-  pub drop_alone : (one_of d ≡ Keep) × (withdraw_of d ≡ Keep) → (N : Locks) → N ≡ changed (drop_of d) log m s L → N ≡ changed d log m s L
-  unfolding changed
-  drop_alone k N g = g ∙ (rw (k.1, k.0) at (in_three d log m s L))
-
-  -- and where no reads are dropped nothing is left to carry out
-  pub undropped : drop_of d ≡ Keep → (N : Locks) → changed (drop_of d) log m s N ≡ changed d log m s L → N ≡ changed d log m s L
-  unfolding changed
-  undropped k N g = rw k at g
 
 -- ---- what is decided with the lock that was looked up is the plan
 
