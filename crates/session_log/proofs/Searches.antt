@@ -4,12 +4,11 @@ use mathlib.Core.Bool.{true, false, not}
 use mathlib.Core.List.{List}
 use mathlib.Core.Option.{Option, none, some}
 use mathlib.Core.Path.{◌≡◌, refl, sym, ap, ◌∙◌}
-use native.Mathlib.Numerals.{add-one}
 use native.Mathlib.Omega.{arith}
 use lib.Dec.{eqb}
 use lib.ListN.{get_or, set}
 use borrow.Author.Tests.{lt-ltb, le-ltb, eq-eqb, ne_eqb}
-use Rattle.model.specs.Buffers.{word, cell_at, entry_at, slot_in, publishes, appended, with_dirty, updated}
+use Rattle.model.specs.Buffers.{word, cell_at, entry_at, publishes, appended, with_dirty, updated}
 use Rattle.model.specs.Readers.{odd}
 use Rattle.model.specs.Search.{or_else, find, below}
 use Rattle.model.proofs.Laws.{find_some}
@@ -66,10 +65,6 @@ update_stores log k v = let e : 4 * k + 3 ≡ suc (4 * k + 2) = omega arith in r
 -- ---- find
 
 module _ (cell : ℕ → ℕ) (c : ℕ) where
-  pub find_miss : (k : ℕ) → find cell k c ≡ none → (cell k ≡ c → ⊥) → find cell (suc k) c ≡ none
-  unfolding find or_else
-  find_miss k h m = simp (h, ne_eqb (cell k) c m)
-
   pub find_here : (k : ℕ) → find cell k c ≡ none → cell k ≡ c → find cell (suc k) c ≡ some k
   unfolding find or_else
   find_here k h e = simp (h, eq-eqb (cell k) c e)
@@ -99,36 +94,7 @@ below_stop n cell k zero h l = absurd (omega arith)
 below_stop n cell k (suc m) h l =
     same k m (λ e. let g : n ≤ cell m = rw e at h in simp (le-ltb (cell m) n g)) (λ d. simp (below_stop n cell k m h (omega arith), and-false))
 
-pub below_more : (n : ℕ) (cell : ℕ → ℕ) (k : ℕ) → below n cell k ≡ true → cell k < n → below n cell (suc k) ≡ true
+pub below_all : (n : ℕ) (cell : ℕ → ℕ) (m : ℕ) → ((k : ℕ) → k < m → cell k < n) → below n cell m ≡ true
 unfolding below
-below_more n cell k h l = simp (h, lt-ltb (cell k) n l)
-
--- the same, where the place after k is written another way
-pub below_past : (n : ℕ) (cell : ℕ → ℕ) (k : ℕ) {j : ℕ} → below n cell k ≡ true → cell k < n → j ≡ k + 1 → below n cell j ≡ true
-below_past n cell k h l e = rw (e, add-one) (below_more n cell k h l)
-
--- what is not below n among k entries is not among more
-pub below_fails : (n : ℕ) (cell : ℕ → ℕ) (k m : ℕ) → k ≤ m → below n cell k ≡ false → below n cell m ≡ false
-unfolding below
-below_fails n cell k zero l h = let e : k ≡ 0 = omega arith in rw e at h
-below_fails n cell k (suc m) l h = same k (suc m) (λ e. rw e at h) (λ d. simp (below_fails n cell k m (omega arith) h, and-false))
-
--- ---- a search entry by entry
-
-module _ (log : List ℕ) (count c : ℕ) where
-  pub slot_here : (i : ℕ) → slot_in log i c ≡ none → cell_at log i ≡ c → i < count → some i ≡ slot_in log count c
-  unfolding slot_in
-  slot_here i h e l = sym (find_up (cell_at log) c (suc i) count (omega arith) (find_here (cell_at log) c i h e))
-
-  -- what is found among fewer entries is found among all
-  pub slot_among : (m : ℕ) {i : ℕ} → m ≤ count → some i ≡ slot_in log m c → some i ≡ slot_in log count c
-  unfolding slot_in
-  slot_among m l h = sym (find_up (cell_at log) c m count l (sym h))
-
-pub slot_past : (log : List ℕ) (c i : ℕ) {j : ℕ} → slot_in log i c ≡ none → (cell_at log i ≡ c → ⊥) → j ≡ i + 1 → slot_in log j c ≡ none
-unfolding slot_in
-slot_past log c i h m e = rw (e, add-one) (find_miss (cell_at log) c i h m)
-
-pub slot_start : (log : List ℕ) (c : ℕ) → slot_in log 0 c ≡ none
-unfolding slot_in find
-slot_start log c = refl
+below_all n cell zero h = refl
+below_all n cell (suc m) h = simp (lt-ltb (cell m) n (h m (omega arith)), below_all n cell m (λ k l. h k (omega arith)))
