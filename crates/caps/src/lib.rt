@@ -5,7 +5,7 @@ ghost use Rattle.std.specs.Prelude.{◌≡◌, ◌<◌, length};
 ghost use Rattle.model.specs.Buffers.{our_caps, cap, passes, fits, all_fit};
 ghost use Rattle.model.specs.Load.{all_classed};
 
-static CAPS: [u32; 16] = [
+const CAPS: [u32; 16] = [
     1, 6, 8, 10, 12, 15, 18, 21, 24, 27, 30, 36, 42, 48, 60, 4294967295,
 ];
 
