@@ -25,7 +25,12 @@ pub fn peek_plan(
     if let Err(refusal) = lengths.admit(session) {
         return Plan::from(refusal);
     }
-    plans::peek_plan(session_log::of_session(logs, session), values.len(), x, cell)
+    plans::peek_plan(
+        session_log::of_session(logs, session),
+        values.len(),
+        x,
+        cell,
+    )
 }
 
 // Peek: running only. One word, the store's own or the log's own; no word where the peek is refused.
