@@ -2,14 +2,24 @@
 #![tactic(auto)]
 
 ghost use Rattle.std.specs.Prelude.{◌≡◌, ◌<◌, length};
-ghost use Rattle.model.specs.Buffers.{our_caps, cap, passes, all_fit};
+ghost use Rattle.model.specs.Buffers.{our_caps, cap, passes, fits, all_fit};
 ghost use Rattle.model.specs.Load.{all_classed};
 
 const CAPS: [u32; 16] = [
     1, 6, 8, 10, 12, 15, 18, 21, 24, 27, 30, 36, 42, 48, 60, 4294967295,
 ];
 
+// Our table.
+#[tactic(auto, unfolding(model::specs::Buffers::our_caps))]
+pub fn ours() -> &'static [u32; 16]
+    ensures table { result.now ≡ our_caps }
+    ensures length { length result.now ≡ 16 }
+{
+    &CAPS
+}
+
 // The cap of a class, of ours.
+#[tactic(auto, unfolding(model::specs::Buffers::our_caps, model::specs::Buffers::cap))]
 pub fn cap(class: u8) -> u32
     requires { class < 16 }
     ensures { result ≡ cap our_caps class }
@@ -17,73 +27,63 @@ pub fn cap(class: u8) -> u32
     CAPS[class as usize]
 }
 
-// Each class byte at most 15, and each value within the cap of its class. The table is put on the stack once, before the loop.
+// A class byte at most 15, and a value within the cap of that class in a table.
+#[tactic(auto, unfolding(model::specs::Buffers::fits, model::specs::Buffers::cap))]
+fn fits(caps: &[u32], class: u8, value: u32) -> bool
+    requires { length caps.now ≡ 16 }
+    ensures { result ≡ fits caps.now class value }
+{
+    class < 16 && value <= caps[class as usize]
+}
+
+// Each class byte at most 15, and each value within the cap of its class in a table. The classes go by index: over a zip the loop is ten instructions a cell, and not nine.
+#[tactic(auto, using(crate::proofs::Caps::fit_stops, crate::proofs::Caps::fit_goes_on, crate::proofs::Caps::fit_ends))]
+pub fn all_fit_by(caps: &[u32], values: &[u32], classes: &[u8]) -> bool
+    requires { (length caps.now ≡ 16) × (length classes.now ≡ length values.now) }
+    ensures { result ≡ all_fit caps.now values.now classes.now }
+{
+    for (i, value) in values.iter().enumerate() {
+        if !fits(caps, classes[i], *value) {
+            return false;
+        }
+    }
+    true
+}
+
+// The same by our table, put on the stack once: of a borrowed one the loop loads the address for each cell.
+#[tactic(auto, unfolding(model::specs::Buffers::our_caps))]
 pub fn all_fit(values: &[u32], classes: &[u8]) -> bool
     requires { length classes.now ≡ length values.now }
     ensures { result ≡ all_fit our_caps values.now classes.now }
 {
     let caps = CAPS;
-    let mut i = 0;
-    while i < values.len() {
-        let class = classes[i];
-        if 15 < class {
-            return false;
-        }
-        if caps[class as usize] < values[i] {
-            return false;
-        }
-        i += 1;
-    }
-    true
+    all_fit_by(&caps, values, classes)
 }
 
 // The first cap 1 or more, and each above the one before it.
+#[tactic(auto, using(crate::proofs::Caps::rise_stops, crate::proofs::Caps::rise_goes_on, crate::proofs::Caps::rise_ends), unfolding(model::specs::Buffers::passes))]
 pub fn caps_pass(caps: &[u32]) -> bool
     ensures { result ≡ passes caps.now }
 {
-    let mut below = 0u32;
-    let mut i = 0;
-    while i < caps.len() {
-        let c = caps[i];
-        if c <= below {
+    let mut below = 0;
+    for cap in caps {
+        if *cap <= below {
             return false;
         }
-        below = c;
-        i += 1;
+        below = *cap;
     }
     true
 }
 
-// Each class byte at most 15.
+// Each class byte at most 15. By `all` of the iterator a load takes one instruction a cell more.
+#[tactic(auto, using(crate::proofs::Caps::class_stops, crate::proofs::Caps::class_goes_on, crate::proofs::Caps::class_ends))]
 pub fn all_classed(classes: &[u8]) -> bool
     ensures { result ≡ all_classed classes.now }
 {
-    let mut i = 0;
-    while i < classes.len() {
-        let outside = 15 < classes[i];
-        if outside {
+    for class in classes {
+        if 15 < *class {
             return false;
         }
-        i += 1;
-    }
-    true
-}
-
-// Each class byte at most 15, and each value within the cap of its class in a table.
-pub fn all_fit_by(caps: &[u32], values: &[u32], classes: &[u8]) -> bool
-    requires { (length caps.now ≡ 16) × (length classes.now ≡ length values.now) }
-    ensures { result ≡ all_fit caps.now values.now classes.now }
-{
-    let mut i = 0;
-    while i < values.len() {
-        let class = classes[i];
-        if 15 < class {
-            return false;
-        }
-        if caps[class as usize] < values[i] {
-            return false;
-        }
-        i += 1;
     }
     true
 }
@@ -93,9 +93,5 @@ pub fn put_caps(caps: &mut [u32], table: &[u32])
     requires { length caps.old ≡ length table.now }
     ensures { caps.new ≡ table.now }
 {
-    let mut i = 0;
-    while i < table.len() {
-        caps[i] = table[i];
-        i += 1;
-    }
+    caps.copy_from_slice(table);
 }
