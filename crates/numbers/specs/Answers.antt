@@ -4,11 +4,17 @@ use Rattle.records.specs.declared.Answer.{Answer}
 use Rattle.records.specs.declared.Answer.TheVariants.{Done, Value, Sealed, Moved, Waiting, Committed, Refused}
 use Rattle.records.specs.declared.SessionReply.{SessionReply}
 use Rattle.records.specs.Records.{number, value_of}
+use Rattle.records.specs.declared.Reply.{Reply}
 use Rattle.numbers.specs.declared.NumberReply.{NumberReply}
+use Rattle.numbers.specs.declared.SetUpReply.{SetUpReply}
 
 -- a reply in numbers
 abbrev pub numbers_of : SessionReply → NumberReply
 numbers_of r = record { number = number r.answer; value = value_of r.answer; session = r.session }
+
+-- a reply of set-up or of a load in numbers
+abbrev pub set_up_numbers_of : Reply → SetUpReply
+set_up_numbers_of r = record { number = number r.answer; value = value_of r.answer; sessions = r.sessions }
 
 -- the number of a refusal, 0 of any other answer
 abbrev pub refusal_of : Answer → ℕ

@@ -2,10 +2,10 @@
 #![tactic(auto)]
 
 ghost use Rattle.std.specs.Prelude.{◌≡◌, true};
-ghost use Rattle.numbers.specs.Answers.{numbers_of, refusal_of, of_begin, of_read, of_seal};
+ghost use Rattle.numbers.specs.Answers.{numbers_of, set_up_numbers_of, refusal_of, of_begin, of_read, of_seal};
 ghost use Rattle.numbers.specs.Places.{ShownAt};
 
-use records::{Answer, Session, SessionReply, Sessions};
+use records::{Answer, Reply, Session, SessionReply, Sessions};
 
 // A call's answer as document 01's number and value, and the record that it hands back.
 #[repr(C)]
@@ -26,15 +26,28 @@ pub struct SetUpReply {
 }
 
 // An answer in numbers.
-pub fn in_numbers(r: SessionReply) -> NumberReply
-    ensures { result ≡ numbers_of r }
-{
-    let answer = r.answer;
-    let x = r.session;
-    NumberReply {
-        number: answer.number() as u32,
-        value: answer.value(),
-        session: x,
+impl From<SessionReply> for NumberReply {
+    ghost from_gives = { λ r reply. reply ≡ numbers_of r };
+
+    fn from(r: SessionReply) -> NumberReply {
+        NumberReply {
+            number: u32::from(r.answer.number()),
+            value: r.answer.value(),
+            session: r.session,
+        }
+    }
+}
+
+// The answer of set-up or of a load in numbers.
+impl From<Reply> for SetUpReply {
+    ghost from_gives = { λ r reply. reply ≡ set_up_numbers_of r };
+
+    fn from(r: Reply) -> SetUpReply {
+        SetUpReply {
+            number: u32::from(r.answer.number()),
+            value: r.answer.value(),
+            sessions: r.sessions,
+        }
     }
 }
 
@@ -43,19 +56,14 @@ pub fn begin_in_numbers(r: SessionReply) -> NumberReply
     requires { of_begin r.answer ≡ true }
     ensures { result ≡ numbers_of r }
 {
-    let answer = r.answer;
-    let session = r.session;
-    if let Answer::Refused(number) = answer {
-        return NumberReply {
-            number: number as u32,
-            value: 0,
-            session,
-        };
-    }
+    let number = match r.answer {
+        Answer::Refused(number) => u32::from(number),
+        _ => 100,
+    };
     NumberReply {
-        number: 100,
+        number,
         value: 0,
-        session,
+        session: r.session,
     }
 }
 
@@ -63,18 +71,18 @@ pub fn begin_in_numbers(r: SessionReply) -> NumberReply
 pub fn refusal(answer: Answer) -> u32
     ensures { result ≡ refusal_of answer }
 {
-    if let Answer::Refused(number) = answer {
-        return number as u32;
+    match answer {
+        Answer::Refused(number) => u32::from(number),
+        _ => 0,
     }
-    0
 }
 
+// It returns early: where one match gives both numbers, a read or hold of a known cell takes two instructions more.
 pub fn read_in_numbers(r: SessionReply) -> NumberReply
     requires { of_read r.answer ≡ true }
     ensures { result ≡ numbers_of r }
 {
-    let answer = r.answer;
-    let session = r.session;
+    let SessionReply { answer, session } = r;
     if let Answer::Value(value) = answer {
         return NumberReply {
             number: 101,
@@ -93,30 +101,20 @@ pub fn seal_in_numbers(r: SessionReply) -> NumberReply
     requires { of_seal r.answer ≡ true }
     ensures { result ≡ numbers_of r }
 {
-    let answer = r.answer;
-    let session = r.session;
-    if let Answer::Refused(number) = answer {
-        return NumberReply {
-            number: number as u32,
-            value: 0,
-            session,
-        };
-    }
-    if let Answer::Committed = answer {
-        return NumberReply {
-            number: 105,
-            value: 0,
-            session,
-        };
-    }
+    let number = match r.answer {
+        Answer::Refused(number) => u32::from(number),
+        Answer::Committed => 105,
+        _ => 102,
+    };
     NumberReply {
-        number: 102,
+        number,
         value: 0,
-        session,
+        session: r.session,
     }
 }
 
 // The index in the logs of the word that a peek of a written cell is shown: the present value of entry `k`.
+#[tactic(auto, unfolding(model::specs::Effects::shown))]
 pub fn shown_at(session: u8, k: u32) -> usize
     ensures { ShownAt session k result }
 {
