@@ -9,7 +9,7 @@ ghost use Rattle.records.specs.Records.{idle, running, with_entry, with_entries,
 
 // A session's record: phase (0 idle, 1 running, 2 promoting, 3 publishing, 4 releasing), entry count, next cell.
 #[repr(C)]
-#[derive(Clone, Copy)]
+#[derive(Clone, Copy, PartialEq, Eq)]
 pub struct Session {
     pub phase: u8,
     pub count: u8,
@@ -18,13 +18,13 @@ pub struct Session {
 
 // The records of the sixteen sessions, which the caller keeps: a call takes that of its session and hands it back, set-up all sixteen.
 #[repr(C)]
-#[derive(Clone, Copy)]
+#[derive(Clone, Copy, PartialEq, Eq)]
 pub struct Sessions {
     pub records: [Session; 16],
 }
 
 // A cell's lock: the reader set (bit s for session s), the claimant (16 is nobody) and the writer mark.
-#[derive(Clone, Copy)]
+#[derive(Clone, Copy, PartialEq, Eq)]
 pub struct Lock {
     pub readers: u16,
     pub claimant: u8,
@@ -63,7 +63,7 @@ impl Call {
 }
 
 // What a call answers.
-#[derive(Clone, Copy)]
+#[derive(Clone, Copy, PartialEq, Eq)]
 pub enum Answer {
     Done,
     Value(u32),
@@ -180,7 +180,7 @@ pub struct ReadManyReply {
 }
 
 // A call's answer and the records that it hands back.
-#[derive(Clone, Copy)]
+#[derive(Clone, Copy, PartialEq, Eq)]
 pub struct Reply {
     pub answer: Answer,
     pub sessions: Sessions,
