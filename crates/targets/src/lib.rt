@@ -23,6 +23,7 @@ fn lower(log: &[u32], i: usize, from: u32, best: u32) -> u32
 }
 
 // The lowest cell not below from and below n of the first count entries that publish, each judged by itself; n where there is none.
+#[tactic(auto, unfolding(session_log::specs::Slots::lowest_publishing), using(session_log::proofs::Targets::publishing_more))]
 fn lowest_publishing(log: &[u32], count: usize, n: u32, from: u32) -> u32
     requires { 4 * count ≤ length log.now }
     ensures { result ≡ lowest_publishing log.now n from count }
@@ -90,6 +91,7 @@ fn lower_two(log: &[u32], i: usize, from: u32, best: Two) -> Two
 }
 
 // The lowest two cells not below from and below n of the first count entries that publish, each judged by itself.
+#[tactic(auto, unfolding(session_log::specs::Slots::lowest_publishing))]
 fn lowest_two(log: &[u32], count: usize, n: u32, from: u32) -> Two
     requires { 4 * count ≤ length log.now }
     ensures { LowestTwo log.now n from count result.low result.high }
@@ -149,6 +151,7 @@ pub fn next_two(log: &[u32], count: usize, n: u32, from: u32) -> Option<Next>
 }
 
 // Whether any cell not below from publishes: its first entry does.
+#[tactic(auto, using(session_log::proofs::Targets::any_here, session_log::proofs::Targets::any_nowhere))]
 pub fn any_publishes(log: &[u32], count: usize, from: u32) -> bool
     requires { 4 * count ≤ length log.now }
     ensures { result ≡ some? (target_in log.now count from) }
