@@ -11,6 +11,7 @@ use items::Next;
 use records::Answer;
 
 // The output, and the place up to which it is written.
+#[derive(Drop)]
 pub struct Page<'a> {
     output: &'a mut [u8],
     pub at: usize,
