@@ -134,11 +134,9 @@ pub fn read_field(bytes: &[u8], place: usize) -> Result<Option<Field>, Refused>
     if left < 3 + length {
         return Err(Refusal::CutShort.at(place));
     }
-    let kind = own.kind;
-    let call = read_body(bytes, place + 3, tag, own);
     Ok(Some(Field {
-        kind,
-        call,
+        kind: own.kind,
+        call: read_body(bytes, place + 3, tag, own),
         length: 3 + length,
     }))
 }

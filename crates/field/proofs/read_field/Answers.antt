@@ -15,12 +15,12 @@ returns-in_err-own c =
     rw (given.1, why c.in_err-own.ensures.value none given.2)
     (c.at-2.ensures ∙ unknown _ _ c.if-bytes-place.false c.if-left-lt3.false (known _ c.layout_of.ensures none))
 
-pub read_body-call-requires-clause-proper : goal.read_body-call-requires-clause-proper
-read_body-call-requires-clause-proper c = proper _ _ (known _ c.layout_of.ensures c.in_ok-own.ensures.ok_part)
+pub read_body-requires-clause-proper : goal.read_body-requires-clause-proper
+read_body-requires-clause-proper c = proper _ _ (known _ c.layout_of.ensures c.in_ok-own.ensures.ok_part)
 
 pub returns : goal.returns
 returns c =
     let own = c.in_ok-own.own in
     let read = c.from.ensures ∙ c.read.ensures in
-    ap (λ (found : Call). field own.kind found (3 + own.length)) c.read_body-call.ensures
+    ap (λ (found : Call). field own.kind found (3 + own.length)) c.read_body.ensures
     ∙ accepted _ _ _ c.if-bytes-place.false c.if-left-lt3.false (known _ c.layout_of.ensures c.in_ok-own.ensures.ok_part) (sym read ∙ c.if-from-length.false) c.if-left-length.false
