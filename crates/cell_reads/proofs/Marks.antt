@@ -4,6 +4,7 @@ use native.Mathlib.Omega.{arith}
 use mathlib.Core.Path.{◌≡◌, sym, ap, subst, ◌∙◌}
 use mathlib.Core.Bool.{true, false}
 use mathlib.Core.List.{List}
+use mathlib.Core.Option.{none}
 use borrow.Author.Tests.{lt-ltb, ltb-true}
 use lib.Dec.{ltb}
 use lib.ListN.{length, length-set}
@@ -11,8 +12,6 @@ use Rattle.model.specs.Buffers.{cell_at, slot_in, appended}
 use Rattle.model.specs.Search.{below}
 use Rattle.model.proofs.Laws.{appended_cell, appended_apart}
 use Rattle.model.proofs.Tools.{same, which, clash, both_l, both_r}
-use Rattle.session_log.specs.Slots.{found}
-use Rattle.session_log.proofs.Searches.{slot_nowhere}
 use Rattle.session_log.proofs.Targets.{slot_some}
 use Rattle.sweeps.specs.Sweeps.{marked, mark}
 use Rattle.sweeps.proofs.Marks.{marked_same, marked_other}
@@ -46,9 +45,9 @@ covers_next entered log k c v e l E m =
     }
 
 -- a cell that is not marked has no entry
-pub unmarked : (entered log : List ℕ) (k c : ℕ) → Covers entered log k → marked entered c ≡ false → found k k ≡ slot_in log k c
+pub unmarked : (entered log : List ℕ) (k c : ℕ) → Covers entered log k → marked entered c ≡ false → none ≡ slot_in log k c
 unmarked entered log k c v h =
-    which (slot_in log k c) (λ p. slot_nowhere log k c p)
+    which (slot_in log k c) (λ p. sym p)
     (λ j p. let w = slot_some log k c p in absurd (clash (marked entered c) (subst (λ (d : ℕ). marked entered d ≡ true) w.1 (v.cells j w.0)) h))
 
 -- a new entry's cell marked
