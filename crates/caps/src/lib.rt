@@ -39,6 +39,7 @@ fn fits(caps: &[u32], class: u8, value: u32) -> bool
 }
 
 // Each class byte at most 15, and each value within the cap of its class in a table. The classes go by index: over a zip the loop is ten instructions a cell, and not nine.
+#[tactic(auto, using(crate::proofs::Caps::fit_stops, crate::proofs::Caps::fit_goes_on, crate::proofs::Caps::fit_ends))]
 pub fn all_fit_by(caps: &[u32], values: &[u32], classes: &[u8]) -> bool
     requires { (length caps.now ≡ 16) × (length classes.now ≡ length values.now) }
     ensures { result ≡ all_fit caps.now values.now classes.now }
@@ -62,6 +63,7 @@ pub fn all_fit(values: &[u32], classes: &[u8]) -> bool
 }
 
 // The first cap 1 or more, and each above the one before it.
+#[tactic(auto, using(crate::proofs::Caps::rise_stops, crate::proofs::Caps::rise_goes_on, crate::proofs::Caps::rise_ends), unfolding(model::specs::Buffers::passes))]
 pub fn caps_pass(caps: &[u32]) -> bool
     ensures { result ≡ passes caps.now }
 {

@@ -77,18 +77,23 @@ pub fn refusal(answer: Answer) -> u32
     }
 }
 
+// It returns early: where one match gives both numbers, a read or hold of a known cell takes two instructions more.
 pub fn read_in_numbers(r: SessionReply) -> NumberReply
     requires { of_read r.answer ≡ true }
     ensures { result ≡ numbers_of r }
 {
-    let (number, value) = match r.answer {
-        Answer::Value(value) => (101, value),
-        _ => (refusal(r.answer), 0),
-    };
+    let SessionReply { answer, session } = r;
+    if let Answer::Value(value) = answer {
+        return NumberReply {
+            number: 101,
+            value,
+            session,
+        };
+    }
     NumberReply {
-        number,
-        value,
-        session: r.session,
+        number: refusal(answer),
+        value: 0,
+        session,
     }
 }
 

@@ -14,87 +14,62 @@ use Rattle.records.specs.declared.Session.{Session}
 use Rattle.records.specs.declared.Lock.{Lock}
 use Rattle.records.specs.declared.Plan.{Plan}
 use Rattle.records.specs.declared.Plan.TheVariants.{Refuse, Tell, Enter, Update, EnterUpdate, Mark, EnterMark, ShowStore, ShowLog}
-use Rattle.session_log.specs.Slots.{found}
 use Rattle.refusals.specs.Pieces.{tested}
-use Rattle.refusals.proofs.Ways.{found_here, found_nowhere, whole, in_phase_1}
+use Rattle.refusals.proofs.Ways.{whole, in_phase_1}
 
--- ---- what is decided
+-- ---- what is decided of a running session, whose tests pass
 
-module _ (n : ℕ) (log : List ℕ) (x : Session) where
-  -- a running session: t is whether the tests pass
-  module _ (t : Bool) (e : t ≡ eqb (tested (record_fits n log x) (eqb x.phase 1)) 0) (z : t ≡ true) where
-    -- f decides by the place of the cell's entry; k is the place that the search for the cell answered
-    module _ (c : ℕ) (h : c < n) (k : ℕ) (s : found x.count k ≡ slot_in log x.count c) (f : Option ℕ → Plan) where
-      by_entry : k < x.count → f (some k) ≡ guard n log x (eqb x.phase 1) (known n c (f (slot_in log x.count c)))
-      unfolding guard known
-      by_entry i = simp (whole n log x t e z, in_phase_1 n log x t e z, lt-ltb c n h, found_here x.count k _ s i)
+module _ (n : ℕ) (log : List ℕ) (x : Session) (z : 0 ≡ tested (record_fits n log x) (eqb x.phase 1)) where
+  -- f decides by the place of the cell's entry; the search for the cell answered o
+  by_place : (c : ℕ) → c < n → (o : Option ℕ) → o ≡ slot_in log x.count c → (f : Option ℕ → Plan) → f o ≡ guard n log x (eqb x.phase 1) (known n c (f (slot_in log x.count c)))
+  unfolding guard known
+  by_place c h o s f = simp (whole n log x z, in_phase_1 n log x z, lt-ltb c n h, s)
 
-      by_none : x.count ≤ k → f none ≡ guard n log x (eqb x.phase 1) (known n c (f (slot_in log x.count c)))
-      unfolding guard known
-      by_none i = simp (whole n log x t e z, in_phase_1 n log x t e z, lt-ltb c n h, found_nowhere x.count k _ s i)
+  module _ (l : Lock) (c : ℕ) where
+    -- ---- read and hold
 
-    module _ (l : Lock) (c : ℕ) where
-      -- ---- read and hold
+    module _ (h : c < n) where
+      pub read_known : (k : ℕ) → some k ≡ slot_in log x.count c → (v : ℕ) → v ≡ (entry_at log k).current → Tell v ≡ read_plan n log x l c
+      unfolding read_slot read_plan
+      read_known k s v q = ap Tell q ∙ by_place c h _ s (read_slot log x l c)
 
-      module _ (h : c < n) (k : ℕ) (s : found x.count k ≡ slot_in log x.count c) where
-        pub read_known : k < x.count → (v : ℕ) → v ≡ (entry_at log k).current → Tell v ≡ read_plan n log x l c
-        unfolding read_slot read_plan
-        read_known i v q = ap Tell q ∙ by_entry c h k s (read_slot log x l c) i
+      pub read_new : none ≡ slot_in log x.count c → (p : Plan) → p ≡ new_cell x l (Enter c) → p ≡ read_plan n log x l c
+      unfolding read_slot read_plan
+      read_new s p q = q ∙ by_place c h _ s (read_slot log x l c)
 
-        pub read_new : x.count ≤ k → (p : Plan) → p ≡ new_cell x l (Enter c) → p ≡ read_plan n log x l c
-        unfolding read_slot read_plan
-        read_new i p q = q ∙ by_none c h k s (read_slot log x l c) i
+      pub hold_known : (k : ℕ) → some k ≡ slot_in log x.count c → (v : ℕ) → v ≡ (entry_at log k).current → Mark k v ≡ hold_plan n log x l c
+      unfolding hold_slot hold_plan
+      hold_known k s v q = ap (Mark k) q ∙ by_place c h _ s (hold_slot log x l c)
 
-        pub hold_known : k < x.count → (v : ℕ) → v ≡ (entry_at log k).current → Mark k v ≡ hold_plan n log x l c
-        unfolding hold_slot hold_plan
-        hold_known i v q = ap (Mark k) q ∙ by_entry c h k s (hold_slot log x l c) i
+      pub hold_new : none ≡ slot_in log x.count c → (p : Plan) → p ≡ new_cell x l (EnterMark c) → p ≡ hold_plan n log x l c
+      unfolding hold_slot hold_plan
+      hold_new s p q = q ∙ by_place c h _ s (hold_slot log x l c)
 
-        pub hold_new : x.count ≤ k → (p : Plan) → p ≡ new_cell x l (EnterMark c) → p ≡ hold_plan n log x l c
-        unfolding hold_slot hold_plan
-        hold_new i p q = q ∙ by_none c h k s (hold_slot log x l c) i
+    -- ---- write
 
-      -- ---- write
+    module _ (T classes : List ℕ) (v : ℕ) (h : c < n) where
+      pub write_odd : 15 < get_or classes c 0 → Refuse 8 ≡ write_plan T classes n log x l c v
+      unfolding guard known write_plan
+      write_odd i = simp (whole n log x z, in_phase_1 n log x z, lt-ltb c n h, le-ltb (get_or classes c 0) 16 i)
 
-      module _ (T classes : List ℕ) (v : ℕ) where
-        pub write_odd : c < n → 15 < get_or classes c 0 → Refuse 8 ≡ write_plan T classes n log x l c v
-        unfolding guard known write_plan
-        write_odd h i = simp (whole n log x t e z, in_phase_1 n log x t e z, lt-ltb c n h, le-ltb (get_or classes c 0) 16 i)
+      pub write_class : get_or classes c 0 ≤ 15 → (m : ℕ) → m ≡ cap T (get_or classes c 0) → (p : Plan) → p ≡ write_capped log x l c v m → p ≡ write_plan T classes n log x l c v
+      unfolding guard known write_plan
+      write_class i m q p w = simp (whole n log x z, in_phase_1 n log x z, lt-ltb c n h, lt-ltb (get_or classes c 0) 16 (omega arith), ← q, w)
 
-        pub write_class : c < n → get_or classes c 0 ≤ 15 → (m : ℕ) → m ≡ cap T (get_or classes c 0) → (p : Plan) → p ≡ write_capped log x l c v m → p ≡ write_plan T classes n log x l c v
-        unfolding guard known write_plan
-        write_class h i m q p w = simp (whole n log x t e z, in_phase_1 n log x t e z, lt-ltb c n h, lt-ltb (get_or classes c 0) 16 (omega arith), ← q, w)
+  -- ---- peek
 
-    -- ---- peek
+  module _ (c : ℕ) (h : c < n) where
+    pub peek_new : none ≡ slot_in log x.count c → Refuse 14 ≡ peek_plan n log x c
+    unfolding peek_slot peek_plan
+    peek_new s = by_place c h _ s (peek_slot log c)
 
-    module _ (c : ℕ) where
-      module _ (h : c < n) (k : ℕ) (s : found x.count k ≡ slot_in log x.count c) where
-        pub peek_new : x.count ≤ k → Refuse 14 ≡ peek_plan n log x c
-        unfolding peek_slot peek_plan
-        peek_new i = by_none c h k s (peek_slot log c) i
+    module _ (k : ℕ) (s : some k ≡ slot_in log x.count c) (b : Bool) (d : b ≡ (entry_at log k).dirty) where
+      shows : (q : Bool) → b ≡ q → cond q (ShowLog k) (ShowStore c) ≡ peek_plan n log x c
+      unfolding peek_slot peek_plan
+      shows q g = ap (λ (w : Bool). cond w (ShowLog k) (ShowStore c)) (sym g ∙ d) ∙ by_place c h _ s (peek_slot log c)
 
-        module _ (i : k < x.count) (b : Bool) (d : b ≡ (entry_at log k).dirty) where
-          shows : (q : Bool) → b ≡ q → cond q (ShowLog k) (ShowStore c) ≡ peek_plan n log x c
-          unfolding peek_slot peek_plan
-          shows q g = ap (λ (z : Bool). cond z (ShowLog k) (ShowStore c)) (sym g ∙ d) ∙ by_entry c h k s (peek_slot log c) i
+      pub peek_written : b ≡ true → ShowLog k ≡ peek_plan n log x c
+      peek_written g = shows true g
 
-          pub peek_written : b ≡ true → ShowLog k ≡ peek_plan n log x c
-          peek_written g = shows true g
-
-          pub peek_read : b ≡ false → ShowStore c ≡ peek_plan n log x c
-          peek_read g = shows false g
-
--- ---- write, once the cap is known
-
-module _ (log : List ℕ) (x : Session) (l : Lock) (c v m : ℕ) where
-  pub write_above : m < v → Refuse 4 ≡ write_capped log x l c v m
-  unfolding write_capped
-  write_above h = simp (lt-leb v m h)
-
-  module _ (h : v ≤ m) (k : ℕ) (s : found x.count k ≡ slot_in log x.count c) where
-    pub write_known : k < x.count → Update k v ≡ write_capped log x l c v m
-    unfolding write_capped write_slot
-    write_known i = simp (le-leb v m h, found_here x.count k _ s i)
-
-    pub write_new : x.count ≤ k → (p : Plan) → p ≡ new_cell x l (EnterUpdate c v) → p ≡ write_capped log x l c v m
-    unfolding write_capped write_slot
-    write_new i p q = simp (le-leb v m h, found_nowhere x.count k _ s i, q)
+      pub peek_read : b ≡ false → ShowStore c ≡ peek_plan n log x c
+      peek_read g = shows false g

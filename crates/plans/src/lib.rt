@@ -54,6 +54,7 @@ pub fn hold_plan(log: &[u32], n: usize, x: Session, cell: u32) -> Plan
 }
 
 // A value above the cap is 4; an entry is to be updated, a new cell entered as by read and then updated.
+#[tactic(auto, unfolding(model::specs::Plans::write_capped, model::specs::Plans::write_slot, model::specs::Plans::new_cell))]
 fn write_capped(log: &[u32], x: Session, cell: u32, value: u32, most: u32) -> Plan
     requires { (length log.now ≡ 128) × (x.count ≤ 32) }
     ensures { result ≡ write_capped log.now x free cell value most }

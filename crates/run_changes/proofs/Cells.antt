@@ -12,19 +12,9 @@ use Rattle.model.specs.Buffers.{log_in, cell_at, entry_at, publishes, slot_in, l
 use Rattle.session_log.specs.Slots.{found}
 use Rattle.session_log.proofs.Targets.{slot_some, slot_none}
 use Rattle.session_log.proofs.Logs.{log_long}
-use Rattle.run_changes.specs.declared.Change.{Change}
 use Rattle.run_changes.specs.declared.Change.TheVariants.{Turn}
 use Rattle.records.specs.declared.Change.TheVariants as to
-use Rattle.run_changes.specs.Run.{ChangeFits, count_of, cell_of}
-
--- what a change through entries says of its i-th lock
-pub withdraw_fits : (W : List ℕ) (d : Change) (s m i : ℕ) → d ≡ Turn to.Withdraw s m → ChangeFits W d → i < count_of d → (s < 16) × (i < 32) × (length W ≡ 2048)
-unfolding count_of
-withdraw_fits W d s m i e f l = let g = rw e at f in let h = rw e at l in let k = g.1 in (g.0, omega arith, g.2)
-
-pub leave_fits : (W : List ℕ) (d : Change) (s m i : ℕ) → d ≡ Turn to.DropReads s m → ChangeFits W d → i < count_of d → (s < 16) × (m ≤ 32) × (i < m) × (length W ≡ 2048)
-unfolding count_of
-leave_fits W d s m i e f l = let g = rw e at f in let h = rw e at l in (g.0, g.1, h, g.2)
+use Rattle.run_changes.specs.Run.{cell_of}
 
 -- entry i of session s, of m: its cell c as the code reads it, and the place k of the cell's first entry there
 module _ (W : List ℕ) (s m i : ℕ) (long : length W ≡ 2048) (low : s < 16) (few : m ≤ 32) (mine : i < m) (log : List ℕ) (w : log ≡ log_in W s) (c : ℕ) (cell : c ≡ cell_at log i) (k : ℕ) (first : found m k ≡ slot_in log m c) where

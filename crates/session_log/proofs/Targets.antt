@@ -13,7 +13,7 @@ use borrow.Author.Tests.{lt-ltb, le-ltb, le-leb, lt-leb, leb-true, leb-false, lt
 use Rattle.model.specs.Buffers.{cell_at, entry_at, entry_of, slot_in, look_in, publishes, publishes_in, target_in}
 use Rattle.model.specs.Search.{some?, lowest, below}
 use Rattle.model.proofs.Laws.{find_some, find_none, Low, lowest_is, below_is}
-use Rattle.model.proofs.Tools.{same, split, test, which, clash, both_l, both_r, and-false}
+use Rattle.model.proofs.Tools.{same, split, test, which, nothing, clash, both_l, both_r, and-false}
 use Rattle.session_log.specs.Slots.{better, lowest_publishing, slot_of, target_slot, first_publishes}
 use Rattle.session_log.proofs.Searches.{find_here, find_up, find_before}
 
@@ -189,6 +189,17 @@ module _ (log : List ℕ) where
           (λ d a b w.
           let q : d ≡ r = omega (arith, publishing_least d a w) in
           clash (publishes_in log m r) (rw q at w) p))
+
+  -- the place of a target is one of the entries
+  pub target_inside : (m from : ℕ) {k : ℕ} → some k ≡ target_slot log m from → k < m
+  unfolding target_slot slot_of
+  target_inside m from h =
+      which (target_in log m from) (λ e. nothing (sym (rw e at h))) (λ c e. (slot_some m c (sym (rw e at h))).0)
+
+  -- a cell that no entry has publishes nothing
+  pub unheld : (m c : ℕ) → none ≡ slot_in log m c → publishes_in log m c ≡ false
+  unfolding publishes_in look_in entry_of
+  unheld m c h = rw (← h)
 
   -- ---- whether there is a target
 

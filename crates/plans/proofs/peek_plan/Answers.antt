@@ -1,35 +1,28 @@
 -- Each return is a way through `peek_plan`: the tests' number, the cell outside, not in the log, written, or merely read.
+use Rattle.std.proofs.Common.{sym, ◌∙◌}
 use Rattle.model.specs.Plans.{peek_plan}
-use Rattle.session_log.proofs.Searches.{known_within, unknown_past}
+use Rattle.records.proofs.Refusals.{passes}
+use Rattle.session_log.proofs.Targets.{slot_some}
 use Rattle.refusals.proofs.Ways.{run_refused, room, inside, outside}
 use Rattle.plans.proofs.Ways.{peek_new, peek_written, peek_read}
 use Rattle.plans.proofs.peek_plan.Goals as goal
 
-pub returns-then-not-runs : goal.returns-then-not-runs
+pub returns-in-Err : goal.returns-in-Err
 unfolding peek_plan
-returns-then-not-runs c = run_refused _ _ _ _ c.runs.ensures c.if-not-runs.true _ c.running_refusal.ensures _
+returns-in-Err c = c.from.ensures ∙ run_refused _ _ _ _ c.in-Err.ensures _
 
 pub returns-then-n-cell : goal.returns-then-n-cell
 unfolding peek_plan
-returns-then-n-cell c = outside _ _ _ _ c.runs.ensures c.if-not-runs.false _ _ c.if-n-cell.true
+returns-then-n-cell c = c.from.ensures ∙ outside _ _ _ (passes _ c.in_default.not-Err ∙ c.runs.ensures) _ _ c.if-n-cell.true
 
-pub locate-place-requires : goal.locate-place-requires
-locate-place-requires c = room _ _ _ _ c.runs.ensures c.if-not-runs.false c.requires.0
-
-pub returns-then-not-known : goal.returns-then-not-known
-returns-then-not-known c =
-    peek_new _ _ _ _ c.runs.ensures c.if-not-runs.false _ c.if-n-cell.false _ c.locate-place.ensures.slot_is
-    (unknown_past _ _ _ _ _ c.locate-place.ensures c.if-not-known.true)
+pub locate-requires : goal.locate-requires
+locate-requires c = room _ _ _ (passes _ c.in_default.not-Err ∙ c.runs.ensures) c.requires.0
 
 pub dirty-requires : goal.dirty-requires
-dirty-requires c = inside _ _ _ _ c.runs.ensures c.if-not-runs.false c.requires.0 _ (known_within _ _ _ _ _ c.locate-place.ensures c.if-not-known.false)
+dirty-requires c = inside _ _ _ (passes _ c.in_default.not-Err ∙ c.runs.ensures) c.requires.0 _ (slot_some _ _ _ (sym c.in-Some.ensures)).0
 
 pub returns-then-dirty : goal.returns-then-dirty
-returns-then-dirty c =
-    peek_written _ _ _ _ c.runs.ensures c.if-not-runs.false _ c.if-n-cell.false _ c.locate-place.ensures.slot_is
-    (known_within _ _ _ _ _ c.locate-place.ensures c.if-not-known.false) _ c.dirty.ensures c.if-dirty.true
+returns-then-dirty c = peek_written _ _ _ (passes _ c.in_default.not-Err ∙ c.runs.ensures) _ c.if-n-cell.false _ c.in-Some.ensures _ c.dirty.ensures c.if-dirty.true
 
-pub returns : goal.returns
-returns c =
-    peek_read _ _ _ _ c.runs.ensures c.if-not-runs.false _ c.if-n-cell.false _ c.locate-place.ensures.slot_is
-    (known_within _ _ _ _ _ c.locate-place.ensures c.if-not-known.false) _ c.dirty.ensures c.if-dirty.false
+pub returns-else-dirty : goal.returns-else-dirty
+returns-else-dirty c = peek_read _ _ _ (passes _ c.in_default.not-Err ∙ c.runs.ensures) _ c.if-n-cell.false _ c.in-Some.ensures _ c.dirty.ensures c.if-dirty.false

@@ -1,30 +1,28 @@
 -- Each return is a way through `read_plan`: the tests' number, the cell outside, known, or new.
+use Rattle.std.proofs.Common.{sym, ◌∙◌}
 use Rattle.model.specs.Plans.{read_plan}
-use Rattle.session_log.proofs.Searches.{known_within, unknown_past}
+use Rattle.records.proofs.Refusals.{passes}
+use Rattle.session_log.proofs.Targets.{slot_some}
 use Rattle.refusals.proofs.Ways.{run_refused, room, inside, outside}
 use Rattle.plans.proofs.Ways.{read_known, read_new}
 use Rattle.plans.proofs.read_plan.Goals as goal
 
-pub returns-then-not-runs : goal.returns-then-not-runs
+pub returns-in-Err : goal.returns-in-Err
 unfolding read_plan
-returns-then-not-runs c = run_refused _ _ _ _ c.runs.ensures c.if-not-runs.true _ c.running_refusal.ensures _
+returns-in-Err c = c.from.ensures ∙ run_refused _ _ _ _ c.in-Err.ensures _
 
 pub returns-then-n-cell : goal.returns-then-n-cell
 unfolding read_plan
-returns-then-n-cell c = outside _ _ _ _ c.runs.ensures c.if-not-runs.false _ _ c.if-n-cell.true
+returns-then-n-cell c = c.from.ensures ∙ outside _ _ _ (passes _ c.in_default.not-Err ∙ c.runs.ensures) _ _ c.if-n-cell.true
 
-pub locate-place-requires : goal.locate-place-requires
-locate-place-requires c = room _ _ _ _ c.runs.ensures c.if-not-runs.false c.requires.0
+pub locate-requires : goal.locate-requires
+locate-requires c = room _ _ _ (passes _ c.in_default.not-Err ∙ c.runs.ensures) c.requires.0
 
 pub current-requires : goal.current-requires
-current-requires c = inside _ _ _ _ c.runs.ensures c.if-not-runs.false c.requires.0 _ (known_within _ _ _ _ _ c.locate-place.ensures c.if-known.true)
+current-requires c = inside _ _ _ (passes _ c.in_default.not-Err ∙ c.runs.ensures) c.requires.0 _ (slot_some _ _ _ (sym c.in-Some.ensures)).0
 
-pub returns-then-known : goal.returns-then-known
-returns-then-known c =
-    read_known _ _ _ _ c.runs.ensures c.if-not-runs.false _ _ c.if-n-cell.false _ c.locate-place.ensures.slot_is
-    (known_within _ _ _ _ _ c.locate-place.ensures c.if-known.true) _ c.current.ensures
+pub returns-in-Some : goal.returns-in-Some
+returns-in-Some c = read_known _ _ _ (passes _ c.in_default.not-Err ∙ c.runs.ensures) _ _ c.if-n-cell.false _ c.in-Some.ensures _ c.current.ensures
 
-pub returns : goal.returns
-returns c =
-    read_new _ _ _ _ c.runs.ensures c.if-not-runs.false _ _ c.if-n-cell.false _ c.locate-place.ensures.slot_is
-    (unknown_past _ _ _ _ _ c.locate-place.ensures c.if-known.false) _ c.new_cell.ensures
+pub returns-in-None : goal.returns-in-None
+returns-in-None c = read_new _ _ _ (passes _ c.in_default.not-Err ∙ c.runs.ensures) _ _ c.if-n-cell.false c.in-None.ensures _ c.new_cell.ensures

@@ -1,39 +1,44 @@
 -- 7 and 1 are the model's; past them the turn is, and the session is rolled back.
-use Rattle.std.proofs.Common.{refl, ap, ◌∙◌}
+use Rattle.std.proofs.Common.{refl}
 use Rattle.contracts.specs.Lent.{buffers_of}
 use Rattle.model.specs.Plans.{plan}
 use Rattle.records.specs.declared.Call.TheVariants.{Abandon}
-use Rattle.refusals.proofs.Admission.{admitted_by}
-use Rattle.locks.specs.Changes.{drop_of}
-use Rattle.turns.proofs.Forms.{log_fits, undropped, abandon_drops_none, kept_change, kept_carry, kept_replies, turned_down}
+use Rattle.turns.proofs.Forms.{admitted_by, even, log_fits, kept_carry, kept_replies, turned_down}
 use Rattle.store.proofs.abandon.Goals as goal
 
-pub returns-then-not-admits : goal.returns-then-not-admits
-returns-then-not-admits c =
+pub returns-in-Err : goal.returns-in-Err
+returns-in-Err c =
     let a = c.args in
     let B = buffers_of a.values.now a.classes.now a.readers.now a.claimants.now a.exclusives.now a.logs.now in
-    turned_down B _ _ c.admits.ensures c.if-not-admits.true _ c.admit.ensures (Abandon _) refl _ _ c.refused.ensures
+    turned_down B _ _ _ c.of-lengths.ensures c.admit.ensures _ c.in-Err.is (Abandon _) refl _ _ c.refused.ensures
 
 pub of_session-log-requires : goal.of_session-log-requires
 of_session-log-requires c =
     let a = c.args in
     let B = buffers_of a.values.now a.classes.now a.readers.now a.claimants.now a.exclusives.now a.logs.now in
-    let z = admitted_by B _ _ c.admits.ensures c.if-not-admits.false in
+    let z = admitted_by B _ _ _ c.of-lengths.ensures c.admit.ensures c.in_default.not-Err in
     (z.low, z.lengths.logs)
 
 pub take_abandon-t-requires : goal.take_abandon-t-requires
 take_abandon-t-requires c =
     let a = c.args in
     let B = buffers_of a.values.now a.classes.now a.readers.now a.claimants.now a.exclusives.now a.logs.now in
-    let z = admitted_by B _ _ c.admits.ensures c.if-not-admits.false in
+    let z = admitted_by B _ _ _ c.of-lengths.ensures c.admit.ensures c.in_default.not-Err in
     log_fits _ _ z _ c.of_session-log.ensures
 
-pub carry_out-requires : goal.carry_out-requires
-unfolding plan
-carry_out-requires c =
+pub invariant_of-locks : goal.invariant_of-locks
+invariant_of-locks c =
     let a = c.args in
     let B = buffers_of a.values.now a.classes.now a.readers.now a.claimants.now a.exclusives.now a.logs.now in
-    let z = admitted_by B _ _ c.admits.ensures c.if-not-admits.false in
+    let z = admitted_by B _ _ _ c.of-lengths.ensures c.admit.ensures c.in_default.not-Err in
+    even _ _ z
+
+pub apply-requires : goal.apply-requires
+unfolding plan
+apply-requires c =
+    let a = c.args in
+    let B = buffers_of a.values.now a.classes.now a.readers.now a.claimants.now a.exclusives.now a.logs.now in
+    let z = admitted_by B _ _ _ c.of-lengths.ensures c.admit.ensures c.in_default.not-Err in
     kept_carry (Abandon _) B _ _ refl z _ c.of_session-log.ensures _ refl _ _ (c.take_abandon-t.ensures a.values.now)
 
 pub returns : goal.returns
@@ -41,6 +46,5 @@ unfolding plan
 returns c =
     let a = c.args in
     let B = buffers_of a.values.now a.classes.now a.readers.now a.claimants.now a.exclusives.now a.logs.now in
-    let z = admitted_by B _ _ c.admits.ensures c.if-not-admits.false in
-    kept_replies (Abandon _) B _ _ refl z _ c.of_session-log.ensures _ refl _ _ (c.take_abandon-t.ensures a.values.now) _
-    (undropped _ _ _ _ _ (ap drop_of (kept_change (Abandon _) B _ _ refl z _ c.of_session-log.ensures _ refl _ _ (c.take_abandon-t.ensures a.values.now)) ∙ abandon_drops_none _ _ _ _ _) _ c.carry_out.ensures) _ c.replied.ensures
+    let z = admitted_by B _ _ _ c.of-lengths.ensures c.admit.ensures c.in_default.not-Err in
+    kept_replies (Abandon _) B _ _ refl z _ c.of_session-log.ensures _ refl _ _ (c.take_abandon-t.ensures a.values.now) _ c.apply.ensures.carried _ c.from.ensures

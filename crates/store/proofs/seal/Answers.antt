@@ -3,28 +3,27 @@ use Rattle.std.proofs.Common.{refl}
 use Rattle.contracts.specs.Lent.{buffers_of}
 use Rattle.model.specs.Plans.{plan}
 use Rattle.records.specs.declared.Call.TheVariants.{Seal}
-use Rattle.refusals.proofs.Admission.{admitted_by}
-use Rattle.turns.proofs.Forms.{even, log_fits, drop_alone, seal_drops, kept_change, kept_carry, kept_replies, turned_down}
+use Rattle.turns.proofs.Forms.{admitted_by, even, log_fits, seal_drops, kept_change, kept_carry, kept_replies, turned_down}
 use Rattle.store.proofs.seal.Goals as goal
 
-pub returns-then-not-admits : goal.returns-then-not-admits
-returns-then-not-admits c =
+pub returns-in-Err : goal.returns-in-Err
+returns-in-Err c =
     let a = c.args in
     let B = buffers_of a.values.now a.classes.now a.readers.now a.claimants.now a.exclusives.now a.logs.now in
-    turned_down B _ _ c.admits.ensures c.if-not-admits.true _ c.admit.ensures (Seal _) refl _ _ c.refused.ensures
+    turned_down B _ _ _ c.of-lengths.ensures c.admit.ensures _ c.in-Err.is (Seal _) refl _ _ c.refused.ensures
 
 pub of_session-log-requires : goal.of_session-log-requires
 of_session-log-requires c =
     let a = c.args in
     let B = buffers_of a.values.now a.classes.now a.readers.now a.claimants.now a.exclusives.now a.logs.now in
-    let z = admitted_by B _ _ c.admits.ensures c.if-not-admits.false in
+    let z = admitted_by B _ _ _ c.of-lengths.ensures c.admit.ensures c.in_default.not-Err in
     (z.low, z.lengths.logs)
 
 pub take_seal-t-requires : goal.take_seal-t-requires
 take_seal-t-requires c =
     let a = c.args in
     let B = buffers_of a.values.now a.classes.now a.readers.now a.claimants.now a.exclusives.now a.logs.now in
-    let z = admitted_by B _ _ c.admits.ensures c.if-not-admits.false in
+    let z = admitted_by B _ _ _ c.of-lengths.ensures c.admit.ensures c.in_default.not-Err in
     log_fits _ _ z _ c.of_session-log.ensures
 
 pub change_drop-requires : goal.change_drop-requires
@@ -32,7 +31,7 @@ unfolding plan
 change_drop-requires c =
     let a = c.args in
     let B = buffers_of a.values.now a.classes.now a.readers.now a.claimants.now a.exclusives.now a.logs.now in
-    let z = admitted_by B _ _ c.admits.ensures c.if-not-admits.false in
+    let z = admitted_by B _ _ _ c.of-lengths.ensures c.admit.ensures c.in_default.not-Err in
     (kept_carry (Seal _) B _ _ refl z _ c.of_session-log.ensures _ refl _ _ (c.take_seal-t.ensures a.values.now)).1
 
 pub returns : goal.returns
@@ -40,8 +39,8 @@ unfolding plan
 returns c =
     let a = c.args in
     let B = buffers_of a.values.now a.classes.now a.readers.now a.claimants.now a.exclusives.now a.logs.now in
-    let z = admitted_by B _ _ c.admits.ensures c.if-not-admits.false in
+    let z = admitted_by B _ _ _ c.of-lengths.ensures c.admit.ensures c.in_default.not-Err in
+    let k = kept_change (Seal _) B _ _ refl z _ c.of_session-log.ensures _ refl _ _ (c.take_seal-t.ensures a.values.now) in
     kept_replies (Seal _) B _ _ refl z _ c.of_session-log.ensures _ refl _ _ (c.take_seal-t.ensures a.values.now) _
-    (drop_alone _ _ _ _ _ (rw (kept_change (Seal _) B _ _ refl z _ c.of_session-log.ensures _ refl _ _ (c.take_seal-t.ensures a.values.now)) (seal_drops _ _ _ _)) _
-    (c.change_drop.ensures _ _ (even _ _ z).0 (even _ _ z).1))
-    _ c.replied.ensures
+    (rw (rw k (seal_drops _ _ _ _)) at (c.change_drop.ensures _ _ (even _ _ z).0 (even _ _ z).1))
+    _ c.from.ensures

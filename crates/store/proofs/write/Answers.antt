@@ -1,74 +1,71 @@
 -- 7 and 1 are the model's; past them the turn is, with the lock looked up for it, and the change of the locks.
-use Rattle.std.proofs.Common.{refl, ap, ◌∙◌}
+use Rattle.std.proofs.Common.{refl, ◌∙◌}
 use Rattle.contracts.specs.Lent.{buffers_of}
 use Rattle.model.specs.Buffers.{our_caps}
 use Rattle.model.specs.Plans.{plan}
 use Rattle.records.specs.declared.Call.TheVariants.{Write}
-use Rattle.refusals.proofs.Admission.{admitted_by}
-use Rattle.locks.specs.Changes.{drop_of}
-use Rattle.turns.proofs.Forms.{even, log_fits, undropped, write_planned, write_drops_none, change_is, can_carry, replies, turned_down}
+use Rattle.turns.proofs.Forms.{admitted_by, even, log_fits, write_planned, can_carry, replies, turned_down}
 use Rattle.store.proofs.write.Goals as goal
 
-pub returns-then-not-admits : goal.returns-then-not-admits
-returns-then-not-admits c =
+pub returns-in-Err : goal.returns-in-Err
+returns-in-Err c =
     let a = c.args in
     let B = buffers_of a.values.now a.classes.now a.readers.now a.claimants.now a.exclusives.now a.logs.now in
-    turned_down B _ _ c.admits.ensures c.if-not-admits.true _ c.admit.ensures (Write _ _ a.value) refl _ _ c.refused.ensures
+    turned_down B _ _ _ c.of-lengths.ensures c.admit.ensures _ c.in-Err.is (Write _ _ a.value) refl _ _ c.refused.ensures
 
 pub of_session-requires : goal.of_session-requires
 of_session-requires c =
     let a = c.args in
     let B = buffers_of a.values.now a.classes.now a.readers.now a.claimants.now a.exclusives.now a.logs.now in
-    let z = admitted_by B _ _ c.admits.ensures c.if-not-admits.false in
+    let z = admitted_by B _ _ _ c.of-lengths.ensures c.admit.ensures c.in_default.not-Err in
     (z.low, z.lengths.logs)
 
 pub write_plan-p-requires : goal.write_plan-p-requires
 write_plan-p-requires c =
     let a = c.args in
     let B = buffers_of a.values.now a.classes.now a.readers.now a.claimants.now a.exclusives.now a.logs.now in
-    let z = admitted_by B _ _ c.admits.ensures c.if-not-admits.false in
+    let z = admitted_by B _ _ _ c.of-lengths.ensures c.admit.ensures c.in_default.not-Err in
     ((log_fits _ _ z _ c.of_session.ensures).0, rw z.lengths.classes z.lengths.few)
-
-pub lock_for-l-requires : goal.lock_for-l-requires
-lock_for-l-requires c =
-    let a = c.args in
-    let B = buffers_of a.values.now a.classes.now a.readers.now a.claimants.now a.exclusives.now a.logs.now in
-    let z = admitted_by B _ _ c.admits.ensures c.if-not-admits.false in
-    even _ _ z
 
 pub write-t-requires : goal.write-t-requires
 write-t-requires c =
     let a = c.args in
     let B = buffers_of a.values.now a.classes.now a.readers.now a.claimants.now a.exclusives.now a.logs.now in
-    let z = admitted_by B _ _ c.admits.ensures c.if-not-admits.false in
+    let z = admitted_by B _ _ _ c.of-lengths.ensures c.admit.ensures c.in_default.not-Err in
     (z.low, z.lengths.logs, record { caps = our_caps; classes = a.classes.now; is = (rw (c.of_session.ensures, z.lengths.classes) at c.write_plan-p.ensures) })
 
-pub of_session-requires-2 : goal.of_session-requires-2
-of_session-requires-2 c =
+pub of_session-log-requires : goal.of_session-log-requires
+of_session-log-requires c =
     let a = c.args in
     let B = buffers_of a.values.now a.classes.now a.readers.now a.claimants.now a.exclusives.now a.logs.now in
-    let z = admitted_by B _ _ c.admits.ensures c.if-not-admits.false in
+    let z = admitted_by B _ _ _ c.of-lengths.ensures c.admit.ensures c.in_default.not-Err in
     (z.low, c.write-t.auto.logs ∙ z.lengths.logs)
 
-pub carry_out-requires : goal.carry_out-requires
-unfolding plan
-carry_out-requires c =
+pub invariant_of-locks : goal.invariant_of-locks
+invariant_of-locks c =
     let a = c.args in
     let B = buffers_of a.values.now a.classes.now a.readers.now a.claimants.now a.exclusives.now a.logs.now in
-    let z = admitted_by B _ _ c.admits.ensures c.if-not-admits.false in
+    let z = admitted_by B _ _ _ c.of-lengths.ensures c.admit.ensures c.in_default.not-Err in
+    even _ _ z
+
+pub apply-requires : goal.apply-requires
+unfolding plan
+apply-requires c =
+    let a = c.args in
+    let B = buffers_of a.values.now a.classes.now a.readers.now a.claimants.now a.exclusives.now a.logs.now in
+    let z = admitted_by B _ _ _ c.of-lengths.ensures c.admit.ensures c.in_default.not-Err in
     let p = rw (c.of_session.ensures, z.lengths.classes) at c.write_plan-p.ensures in
     let d = write_planned _ _ _ _ B.locks _ our_caps a.classes.now a.value _ p c.lock_for-l.ensures in
     let h = c.write-t.ensures our_caps a.classes.now p in
-    can_carry (Write _ _ a.value) B _ _ refl z _ d _ _ _ h _ c.of_session-2.ensures
+    can_carry (Write _ _ a.value) B _ _ refl z _ d _ _ _ h _ c.of_session-log.ensures
 
 pub returns : goal.returns
 unfolding plan
 returns c =
     let a = c.args in
     let B = buffers_of a.values.now a.classes.now a.readers.now a.claimants.now a.exclusives.now a.logs.now in
-    let z = admitted_by B _ _ c.admits.ensures c.if-not-admits.false in
+    let z = admitted_by B _ _ _ c.of-lengths.ensures c.admit.ensures c.in_default.not-Err in
     let p = rw (c.of_session.ensures, z.lengths.classes) at c.write_plan-p.ensures in
     let d = write_planned _ _ _ _ B.locks _ our_caps a.classes.now a.value _ p c.lock_for-l.ensures in
     let h = c.write-t.ensures our_caps a.classes.now p in
-    replies (Write _ _ a.value) B _ _ refl z _ d _ _ _ h _ c.of_session-2.ensures _
-    (undropped _ _ _ _ _ (ap drop_of (change_is (Write _ _ a.value) B _ _ refl z _ d _ _ _ h) ∙ write_drops_none _ _ _ _ _ _ a.value our_caps a.classes.now) _ c.carry_out.ensures) _ c.replied.ensures
+    replies (Write _ _ a.value) B _ _ refl z _ d _ _ _ h _ c.of_session-log.ensures _ c.apply.ensures.carried _ c.from.ensures

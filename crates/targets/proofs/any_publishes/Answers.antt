@@ -7,4 +7,4 @@ pub returns-then-first_publishes : goal.returns-then-first_publishes
 returns-then-first_publishes c = any_here _ _ _ _ c.loop-i-test.true (sym c.first_publishes.ensures ∙ c.if-first_publishes.true)
 
 pub returns : goal.returns
-returns c = any_nowhere _ _ _ (λ j l. c.loop-i.invariant.1 j (omega arith))
+returns c = any_nowhere _ _ _ (λ j l. c.loop-i.invariant j (omega arith))

@@ -1,9 +1,0 @@
--- The loop makes the list's 13 calls, and ends.
-use Rattle.std.proofs.Common.{◌-◌, ◌≤◌}
-use Rattle.lock_records_check.proofs.run_both.Given as goal
-
-abbrev pub invariant-loop-i : goal.invariant-loop-i
-invariant-loop-i g l = l.i ≤ 13
-
-abbrev pub decreases-loop-i : goal.decreases-loop-i
-decreases-loop-i g l = 13 - l.i
