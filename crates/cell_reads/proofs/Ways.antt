@@ -24,7 +24,7 @@ use Rattle.cell_reads.specs.Cells.{Fits, Covers, CellRead, cell_read, new_read, 
 use Rattle.cell_reads.specs.declared.Obtained.{Obtained}
 
 -- a refusal is no value
-not_read : (r : Refusal) → refusal_number r ≡ 101 → ⊥
+pub not_read : (r : Refusal) → refusal_number r ≡ 101 → ⊥
 not_read UnknownSession h = omega arith
 not_read WrongPhase h = omega arith
 not_read UnknownCell h = omega arith
@@ -39,37 +39,6 @@ not_read NotEntered h = omega arith
 not_read WrongList h = omega arith
 not_read WrongCaps h = omega arith
 not_read ValueAboveCaps h = omega arith
-
--- a search that answers no place finds none
-nowhere : (r : code.Option ℕ) (o : Option ℕ) → found r ≡ o → ((j : ℕ) → r ≡ Some j → ⊥) → o ≡ none
-nowhere None o e n = sym e
-nowhere (Some j) o e n = absurd (n j refl)
-
-module _ (vs C : List ℕ) (s : ℕ) (R W : List ℕ) (k c : ℕ) where
-  pub cell_outside : length vs ≤ c → cell_read 3 0 R W k ≡ read_cell vs C s R W k c
-  unfolding read_cell
-  cell_outside h = rw (le-ltb c (length vs) h) refl
-
-  -- r is what the search for the cell answered
-  module _ (h : c < length vs) (r : code.Option ℕ) (e : found r ≡ slot_in W k c) where
-    pub cell_known : (j : ℕ) → r ≡ Some j → (v : ℕ) → v ≡ (entry_at W j).current → cell_read 101 v R W k ≡ read_cell vs C s R W k c
-    unfolding read_cell slot_read
-    cell_known j i v q = let w = rw i at e in rw (lt-ltb c (length vs) h, ← w, q) refl
-
-    module _ (n : (j : ℕ) → r ≡ Some j → ⊥) where
-      pub cell_full : 31 < k → cell_read 5 0 R W k ≡ read_cell vs C s R W k c
-      unfolding read_cell slot_read new_read
-      cell_full l = rw (lt-ltb c (length vs) h, nowhere r _ e n, le-ltb k 32 (omega arith)) refl
-
-      module _ (l : k ≤ 31) where
-        pub cell_claimed : (get_or C c 0 ≡ 16 → ⊥) → cell_read 6 0 R W k ≡ read_cell vs C s R W k c
-        unfolding read_cell slot_read new_read
-        cell_claimed m = rw (lt-ltb c (length vs) h, nowhere r _ e n, lt-ltb k 32 (omega arith), ne_eqb (get_or C c 0) 16 m) refl
-
-        pub cell_entered : get_or C c 0 ≡ 16 → (v : ℕ) (R' W' : List ℕ) → v ≡ get_or vs c 0 → R' ≡ set R c (with_reader s (get_or R c 0)) → W' ≡ appended W k c (get_or vs c 0)
-            → cell_read 101 v R' W' (k + 1) ≡ read_cell vs C s R W k c
-        unfolding read_cell slot_read new_read
-        cell_entered m v R' W' q t w = rw (lt-ltb c (length vs) h, nowhere r _ e n, lt-ltb k 32 (omega arith), eq-eqb (get_or C c 0) 16 m, q, t, w, add-one) refl
 
 -- ---- what is known of a running session past its tests is known after a read
 

@@ -32,6 +32,7 @@ pub fn list_refusal(cells: usize, target: usize) -> Result<(), Refusal>
 // ---- the cells in the log
 
 // The cells of the first count entries.
+#[tactic(auto, using(crate::proofs::Marks::cell_low, crate::proofs::Marks::covers_none))]
 fn cells_of(log: &[u32], count: usize) -> CellSet
     requires { (4 * count ≤ length log.now) × (below 1024 (cell_at log.now) count ≡ true) }
     ensures { Covers result log.now count }
@@ -44,6 +45,7 @@ fn cells_of(log: &[u32], count: usize) -> CellSet
 }
 
 // The place of a cell's first entry. A cell that is not in the set has none, and is not searched for.
+#[tactic(auto, using(crate::proofs::Marks::unmarked))]
 fn slot_of(log: &[u32], count: usize, entered: &CellSet, cell: u32) -> Option<usize>
     requires { (4 * count ≤ length log.now) × (cell < 1024) × Covers entered.now log.now count }
     ensures { found result ≡ slot_in log.now count cell }
@@ -84,6 +86,7 @@ struct Obtained {
     entries: usize,
 }
 
+#[tactic(auto, unfolding(crate::specs::Cells::read_cell, crate::specs::Cells::slot_read, crate::specs::Cells::new_read))]
 // A known cell's value or a new cell's, or 3, 5 or 6 with all as before. The session is not rolled back here.
 fn read_cell(
     values: &[u32],

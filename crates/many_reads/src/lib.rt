@@ -16,6 +16,7 @@ use refusals::Lengths;
 
 // 15 and 13, of the list and its target; then 7, 1, 9 and 2, which each of the single reads would test. They are tested once: they pass again after every read
 // answered 101.
+#[tactic(auto, unfolding(crate::specs::Tests::first_refusal), using(records::proofs::Refusals::nonzero))]
 fn tests(
     x: Session,
     lengths: Lengths,
