@@ -1,10 +1,9 @@
 -- No refusal's number is 0, which is a passed test's.
-use mathlib.Core.Path.{◌≡◌, refl}
-use Rattle.std.specs.Prelude.{Result, Ok, Err}
+use mathlib.Core.Path.{◌≡◌}
 use native.Mathlib.Omega.{arith}
 use Rattle.records.specs.declared.Refusal.{Refusal}
 use Rattle.records.specs.declared.Refusal.TheVariants.{UnknownSession, WrongPhase, UnknownCell, AboveCap, FullLog, Conflict, WrongLengths, UnknownClass, DamagedRecord, ShortTarget, NotEntered, WrongList, WrongCaps, ValueAboveCaps}
-use Rattle.records.specs.Records.{refusal_number, refusal_of}
+use Rattle.records.specs.Records.{refusal_number}
 
 pub nonzero : (r : Refusal) → refusal_number r ≡ 0 → ⊥
 nonzero UnknownSession h = omega arith
@@ -21,8 +20,3 @@ nonzero NotEntered h = omega arith
 nonzero WrongList h = omega arith
 nonzero WrongCaps h = omega arith
 nonzero ValueAboveCaps h = omega arith
-
--- a test that answers no refusal passes
-pub passes : {A : Type 0} (r : Result A Refusal) → ((q : Refusal) → r ≡ Err q → ⊥) → 0 ≡ refusal_of r
-passes (Ok _) h = refl
-passes (Err q) h = absurd (h q refl)

@@ -1,6 +1,5 @@
 -- Refusals 7 and 1, by which every call is admitted: what the number says, and what is known of the buffers past it.
 use mathlib.Core.Path.{◌≡◌, refl, sym, ◌∙◌}
-use Rattle.std.specs.Prelude.{Result, Ok, Err}
 use mathlib.Core.Bool.{Bool, true, false}
 use Prim.Native.Nat.{ℕ, ◌%◌, ◌<◌, ◌≤◌}
 use native.Mathlib.Omega.{arith}
@@ -12,8 +11,8 @@ use Rattle.model.specs.Effects.{answer, after}
 use Rattle.model.specs.Step.{outcome, answer_of, step, effect, plan_of, session_of, TakesUnder, TakesRecord}
 use Rattle.model.specs.Plans.{table_fits}
 use Rattle.records.specs.declared.Refusal.{Refusal}
-use Rattle.records.specs.Records.{refusal_number, refusal_of}
-use Rattle.records.proofs.Refusals.{nonzero, passes}
+use Rattle.records.specs.Records.{refusal_number}
+use Rattle.records.proofs.Refusals.{nonzero}
 use Rattle.records.specs.declared.Session.{Session}
 use Rattle.records.specs.declared.Call.{Call}
 use Rattle.records.specs.declared.Answer.TheVariants.{Refused}
@@ -86,32 +85,29 @@ pub table_refused : (G : Limits) (k : Call) (B : Buffers) (x : Session) → tabl
 table_refused G k B x t ss o =
     rw (← o, same_record ss (session_of k % 16)) (refuses k (record { lent = B; limits = G; sessions = ss }) 7 (unfold plan_of in rw t))
 
--- q is what the code's test of the lengths and the session answered
-module _ (B : Buffers) (s : ℕ) (q : Result Unit Refusal) (e : refusal_of q ≡ admission (match_of (lengths_in B)) s) where
-  passed_both : (fit low : Bool) → lengths_fit B ≡ fit → ltb s 16 ≡ low → 0 ≡ refusal_of q → (fit ≡ true) × (low ≡ true)
+-- past the test of the lengths and the session
+module _ (B : Buffers) (s : ℕ) where
+  passed_both : (fit low : Bool) → lengths_fit B ≡ fit → ltb s 16 ≡ low → 0 ≡ admission (match_of (lengths_in B)) s → (fit ≡ true) × (low ≡ true)
   unfolding admission
-  passed_both true true f l z = (refl, refl)
-  passed_both true false f l z = absurd (let w : refusal_of q ≡ 1 = rw (match_is B, f, l) at e in omega arith)
-  passed_both false low f l z = absurd (let w : refusal_of q ≡ 7 = rw (match_is B, f) at e in omega arith)
+  passed_both true true f l e = (refl, refl)
+  passed_both true false f l e = absurd (let w : 0 ≡ 1 = rw (match_is B, f, l) at e in omega arith)
+  passed_both false low f l e = absurd (let w : 0 ≡ 7 = rw (match_is B, f) at e in omega arith)
 
-  pub admitted : ((r : Refusal) → q ≡ Err r → ⊥) → Admitted B s
-  admitted h =
-      let w = passed_both (lengths_fit B) (ltb s 16) refl refl (passes q h) in
+  pub admitted : 0 ≡ admission (match_of (lengths_in B)) s → Admitted B s
+  admitted e =
+      let w = passed_both (lengths_fit B) (ltb s 16) refl refl e in
       record { fit = w.0; lengths = lengths_of B w.0; low = ltb-true s 16 w.1 }
 
-  -- a refusal is the plan's, where the table fits
-  module _ (r : Refusal) (z : q ≡ Err r) (k : Call) (i : s ≡ session_of k) where
-    number_is : refusal_number r ≡ admission (match_of (lengths_in B)) s
-    number_is = rw z at e
-
+  -- its refusal is the plan's, where the table fits
+  module _ (r : Refusal) (e : refusal_number r ≡ admission (match_of (lengths_in B)) s) (k : Call) (i : s ≡ session_of k) where
     pub plan_refused : (σ : Store) → table_fits k σ.limits ≡ true → σ.lent ≡ B → Refuse (refusal_number r) ≡ plan_of k σ
     unfolding plan_of admission
     plan_refused σ t b =
         test (lengths_fit B)
         (λ f.
-        test (ltb s 16) (λ l. absurd (nonzero r (rw (match_is B, f, l) at number_is)))
-        (λ l. let w : refusal_number r ≡ 1 = rw (match_is B, f, l) at number_is in rw (t, b, f, ← i, l, w)))
-        (λ f. let w : refusal_number r ≡ 7 = rw (match_is B, f) at number_is in rw (t, b, f, w))
+        test (ltb s 16) (λ l. absurd (nonzero r (rw (match_is B, f, l) at e)))
+        (λ l. let w : refusal_number r ≡ 1 = rw (match_is B, f, l) at e in rw (t, b, f, ← i, l, w)))
+        (λ f. let w : refusal_number r ≡ 7 = rw (match_is B, f) at e in rw (t, b, f, w))
 
     -- and the call is refused by it, with all as it was
     pub refused_under : (G : Limits) → table_fits k G ≡ true → (x : Session) → TakesUnder G k B x (Refused (refusal_number r)) B x

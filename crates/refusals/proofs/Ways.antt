@@ -19,19 +19,7 @@ use Rattle.records.specs.declared.Plan.{Plan}
 use Rattle.records.specs.declared.Plan.TheVariants.{Refuse, Start}
 use Rattle.model.proofs.Passing.{Entries, entries_of, record_entries}
 use Rattle.model.proofs.Tools.{test, clash, and-false}
-use Rattle.session_log.specs.Slots.{found}
 use Rattle.refusals.specs.Pieces.{tested}
-
--- ---- places that a search answers
-
--- a place of m entries is the one found, and m or more is none
-pub found_here : (m k : ℕ) (o : Option ℕ) → found m k ≡ o → k < m → o ≡ some k
-unfolding found
-found_here m k o e h = sym (rw (lt-ltb k m h) at e)
-
-pub found_nowhere : (m k : ℕ) (o : Option ℕ) → found m k ≡ o → m ≤ k → o ≡ none
-unfolding found
-found_nowhere m k o e h = sym (rw (le-ltb k m h) at e)
 
 -- ---- the tests
 

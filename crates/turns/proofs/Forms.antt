@@ -28,8 +28,7 @@ use Rattle.locks.specs.Changes.{LockFor, drop_of, ChangeFits}
 use Rattle.records.proofs.Tags.{tag}
 use Rattle.refusals.specs.Pieces.{match_of, admission}
 use Rattle.records.specs.declared.Refusal.{Refusal}
-use Rattle.records.specs.Records.{refusal_number, refusal_of}
-use Rattle.std.specs.Prelude.{Result, Err}
+use Rattle.records.specs.Records.{refusal_number}
 use Rattle.advance.specs.Pieces.{due_on, due_cell, advance_on, due_plan}
 use Rattle.advance.specs.declared.Due.{Due}
 use Rattle.advance.specs.declared.Due.TheVariants.{Refused, Slot}
@@ -161,17 +160,15 @@ module _ (k : Call) (B : Buffers) (x : Session) (s : ℕ) (i : s ≡ session_of 
       → TakesRecord k B x r.answer (record { values = vs; classes = B.classes; locks = N; logs = B.logs }) r.session
   kept_replies = replies k B x s i z q decided t vs B.logs in_logs_lem W w
 
--- the call is refused by 7 or 1, with its record as it came
-module _ (B : Buffers) (s : ℕ) (q : Result Unit Refusal) (l : the.Lengths) (f : l ≡ lengths_in B) (e : refusal_of q ≡ admission (match_of l) s) where
-  in_lengths : refusal_of q ≡ admission (match_of (lengths_in B)) s
-  in_lengths = rw f at e
+-- ---- admitted, or refused by 7 or 1 with the record as it came
 
-  pub admitted_by : ((r : Refusal) → q ≡ Err r → ⊥) → Admitted B s
-  admitted_by = admitted B s q in_lengths
+module _ (B : Buffers) (s : ℕ) (l : the.Lengths) (f : l ≡ lengths_in B) where
+  pub admitted_by : 0 ≡ admission (match_of l) s → Admitted B s
+  admitted_by e = admitted B s (rw f at e)
 
-  module _ (r : Refusal) (z : q ≡ Err r) (k : Call) (i : s ≡ session_of k) (x : Session) (y : SessionReply) (o : y ≡ record { answer = say.Refused (refusal_number r); session = x }) where
+  module _ (r : Refusal) (e : refusal_number r ≡ admission (match_of l) s) (k : Call) (i : s ≡ session_of k) (x : Session) (y : SessionReply) (o : y ≡ record { answer = say.Refused (refusal_number r); session = x }) where
     pub turned_down : TakesRecord k B x y.answer B y.session
-    turned_down = rw o (refused B s q in_lengths r z k i x)
+    turned_down = rw o (refused B s r (rw f at e) k i x)
 
     pub turned_down_under : (G : Limits) → table_fits k G ≡ true → TakesUnder G k B x y.answer B y.session
-    turned_down_under G t = rw o (refused_under B s q in_lengths r z k i G t x)
+    turned_down_under G t = rw o (refused_under B s r (rw f at e) k i G t x)

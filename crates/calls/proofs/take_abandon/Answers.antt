@@ -1,6 +1,5 @@
 -- Each return is the turn of its plan.
 use Rattle.std.proofs.Common.{refl, sym, ◌∙◌}
-use Rattle.records.proofs.Refusals.{passes}
 use Rattle.refusals.proofs.Ways.{guard_refuses, guard_passes}
 use Rattle.refusals.proofs.Turned.{turn_refused}
 use Rattle.calls.proofs.Turning.{turn_cancelled}
@@ -10,4 +9,4 @@ pub returns-in-Err : goal.returns-in-Err
 returns-in-Err c = λ vs. turn_refused vs _ _ _ _ _ (sym (guard_refuses _ _ _ _ _ _ c.in-Err.ensures)) (c.keeps.ensures ∙ rw c.from.ensures refl)
 
 pub returns : goal.returns
-returns c = λ vs. turn_cancelled vs _ _ _ _ (sym (guard_passes _ _ _ _ _ (passes _ c.in_default.not-Err ∙ c.tests.ensures))) c.idled.ensures
+returns c = λ vs. turn_cancelled vs _ _ _ _ (sym (guard_passes _ _ _ _ _ c.in_default.ensures)) c.idled.ensures

@@ -1,7 +1,6 @@
 -- Each return is a way through `read_plan`: the tests' number, the cell outside, known, or new.
 use Rattle.std.proofs.Common.{sym, ◌∙◌}
 use Rattle.model.specs.Plans.{read_plan}
-use Rattle.records.proofs.Refusals.{passes}
 use Rattle.session_log.proofs.Targets.{slot_some}
 use Rattle.refusals.proofs.Ways.{run_refused, room, inside, outside}
 use Rattle.plans.proofs.Ways.{read_known, read_new}
@@ -13,16 +12,16 @@ returns-in-Err c = c.from.ensures ∙ run_refused _ _ _ _ c.in-Err.ensures _
 
 pub returns-then-n-cell : goal.returns-then-n-cell
 unfolding read_plan
-returns-then-n-cell c = c.from.ensures ∙ outside _ _ _ (passes _ c.in_default.not-Err ∙ c.runs.ensures) _ _ c.if-n-cell.true
+returns-then-n-cell c = c.from-then-n-cell.ensures ∙ outside _ _ _ c.in_default.ensures _ _ c.if-n-cell.true
 
 pub locate-requires : goal.locate-requires
-locate-requires c = room _ _ _ (passes _ c.in_default.not-Err ∙ c.runs.ensures) c.requires.0
+locate-requires c = room _ _ _ c.in_default.ensures c.requires.0
 
 pub current-requires : goal.current-requires
-current-requires c = inside _ _ _ (passes _ c.in_default.not-Err ∙ c.runs.ensures) c.requires.0 _ (slot_some _ _ _ (sym c.in-Some.ensures)).0
+current-requires c = inside _ _ _ c.in_default.ensures c.requires.0 _ (slot_some _ _ _ (sym c.in-Some.ensures)).0
 
 pub returns-in-Some : goal.returns-in-Some
-returns-in-Some c = read_known _ _ _ (passes _ c.in_default.not-Err ∙ c.runs.ensures) _ _ c.if-n-cell.false _ c.in-Some.ensures _ c.current.ensures
+returns-in-Some c = read_known _ _ _ c.in_default.ensures _ _ c.if-n-cell.false _ c.in-Some.ensures _ c.current.ensures
 
 pub returns-in-None : goal.returns-in-None
-returns-in-None c = read_new _ _ _ (passes _ c.in_default.not-Err ∙ c.runs.ensures) _ _ c.if-n-cell.false c.in-None.ensures _ c.new_cell.ensures
+returns-in-None c = read_new _ _ _ c.in_default.ensures _ _ c.if-n-cell.false c.in-None.ensures _ c.new_cell.ensures

@@ -1,7 +1,6 @@
 -- Refused by the tests, or 100 with what `empty` leaves.
 use Rattle.std.proofs.Common.{sym, ◌∙◌}
 use Rattle.contracts.specs.Lent.{store_of}
-use Rattle.records.proofs.Refusals.{passes}
 use Rattle.loads.proofs.SetUp.{set_refused, set_done}
 use Rattle.set_up.proofs.set_up_with_caps.Goals as goal
 
@@ -16,4 +15,4 @@ returns c =
     let a = c.args in
     let σ = store_of (record { caps = a.caps.now }) a.values.now a.classes.now a.readers.now a.claimants.now a.exclusives.now a.logs.now a.sessions in
     let l = c.empty.ensures in
-    set_done σ (passes _ c.in_default.not-Err ∙ (rw c.of-lengths.ensures at c.judge_set_up.ensures)) _ _ _ _ _ l.0 l.1 l.2 l.3 c.all_idle.ensures
+    set_done σ (rw c.of-lengths.ensures at c.in_default.ensures) _ _ _ _ _ l.0 l.1 l.2 l.3 c.all_idle.ensures

@@ -10,27 +10,27 @@ pub returns-in-Err : goal.returns-in-Err
 returns-in-Err c =
     let a = c.args in
     let B = buffers_of a.values.now a.classes.now a.readers.now a.claimants.now a.exclusives.now a.logs.now in
-    turned_down B _ _ _ c.of-lengths.ensures c.admit.ensures _ c.in-Err.is (Abandon _) refl _ _ c.refused.ensures
+    turned_down B _ _ c.of-lengths.ensures _ c.in-Err.ensures (Abandon _) refl _ _ c.refused.ensures
 
 pub of_session-log-requires : goal.of_session-log-requires
 of_session-log-requires c =
     let a = c.args in
     let B = buffers_of a.values.now a.classes.now a.readers.now a.claimants.now a.exclusives.now a.logs.now in
-    let z = admitted_by B _ _ _ c.of-lengths.ensures c.admit.ensures c.in_default.not-Err in
+    let z = admitted_by B _ _ c.of-lengths.ensures c.in_default.ensures in
     (z.low, z.lengths.logs)
 
 pub take_abandon-t-requires : goal.take_abandon-t-requires
 take_abandon-t-requires c =
     let a = c.args in
     let B = buffers_of a.values.now a.classes.now a.readers.now a.claimants.now a.exclusives.now a.logs.now in
-    let z = admitted_by B _ _ _ c.of-lengths.ensures c.admit.ensures c.in_default.not-Err in
+    let z = admitted_by B _ _ c.of-lengths.ensures c.in_default.ensures in
     log_fits _ _ z _ c.of_session-log.ensures
 
 pub invariant_of-locks : goal.invariant_of-locks
 invariant_of-locks c =
     let a = c.args in
     let B = buffers_of a.values.now a.classes.now a.readers.now a.claimants.now a.exclusives.now a.logs.now in
-    let z = admitted_by B _ _ _ c.of-lengths.ensures c.admit.ensures c.in_default.not-Err in
+    let z = admitted_by B _ _ c.of-lengths.ensures c.in_default.ensures in
     even _ _ z
 
 pub apply-requires : goal.apply-requires
@@ -38,7 +38,7 @@ unfolding plan
 apply-requires c =
     let a = c.args in
     let B = buffers_of a.values.now a.classes.now a.readers.now a.claimants.now a.exclusives.now a.logs.now in
-    let z = admitted_by B _ _ _ c.of-lengths.ensures c.admit.ensures c.in_default.not-Err in
+    let z = admitted_by B _ _ c.of-lengths.ensures c.in_default.ensures in
     kept_carry (Abandon _) B _ _ refl z _ c.of_session-log.ensures _ refl _ _ (c.take_abandon-t.ensures a.values.now)
 
 pub returns : goal.returns
@@ -46,5 +46,5 @@ unfolding plan
 returns c =
     let a = c.args in
     let B = buffers_of a.values.now a.classes.now a.readers.now a.claimants.now a.exclusives.now a.logs.now in
-    let z = admitted_by B _ _ _ c.of-lengths.ensures c.admit.ensures c.in_default.not-Err in
+    let z = admitted_by B _ _ c.of-lengths.ensures c.in_default.ensures in
     kept_replies (Abandon _) B _ _ refl z _ c.of_session-log.ensures _ refl _ _ (c.take_abandon-t.ensures a.values.now) _ c.apply.ensures.carried _ c.from.ensures

@@ -10,41 +10,41 @@ pub returns-in-Err : goal.returns-in-Err
 returns-in-Err c =
     let a = c.args in
     let B = buffers_of a.values.now a.classes.now a.readers.now a.claimants.now a.exclusives.now a.logs.now in
-    turned_down B _ _ _ c.of-lengths.ensures c.admit.ensures _ c.in-Err.is (Hold _ _) refl _ _ c.refused.ensures
+    turned_down B _ _ c.of-lengths.ensures _ c.in-Err.ensures (Hold _ _) refl _ _ c.refused.ensures
 
 pub of_session-requires : goal.of_session-requires
 of_session-requires c =
     let a = c.args in
     let B = buffers_of a.values.now a.classes.now a.readers.now a.claimants.now a.exclusives.now a.logs.now in
-    let z = admitted_by B _ _ _ c.of-lengths.ensures c.admit.ensures c.in_default.not-Err in
+    let z = admitted_by B _ _ c.of-lengths.ensures c.in_default.ensures in
     (z.low, z.lengths.logs)
 
 pub hold_plan-p-requires : goal.hold_plan-p-requires
 hold_plan-p-requires c =
     let a = c.args in
     let B = buffers_of a.values.now a.classes.now a.readers.now a.claimants.now a.exclusives.now a.logs.now in
-    let z = admitted_by B _ _ _ c.of-lengths.ensures c.admit.ensures c.in_default.not-Err in
+    let z = admitted_by B _ _ c.of-lengths.ensures c.in_default.ensures in
     log_fits _ _ z _ c.of_session.ensures
 
 pub hold-t-requires : goal.hold-t-requires
 hold-t-requires c =
     let a = c.args in
     let B = buffers_of a.values.now a.classes.now a.readers.now a.claimants.now a.exclusives.now a.logs.now in
-    let z = admitted_by B _ _ _ c.of-lengths.ensures c.admit.ensures c.in_default.not-Err in
+    let z = admitted_by B _ _ c.of-lengths.ensures c.in_default.ensures in
     (z.low, z.lengths.logs, (rw c.of_session.ensures at c.hold_plan-p.ensures))
 
 pub of_session-log-requires : goal.of_session-log-requires
 of_session-log-requires c =
     let a = c.args in
     let B = buffers_of a.values.now a.classes.now a.readers.now a.claimants.now a.exclusives.now a.logs.now in
-    let z = admitted_by B _ _ _ c.of-lengths.ensures c.admit.ensures c.in_default.not-Err in
+    let z = admitted_by B _ _ c.of-lengths.ensures c.in_default.ensures in
     (z.low, c.hold-t.auto.logs ∙ z.lengths.logs)
 
 pub invariant_of-locks : goal.invariant_of-locks
 invariant_of-locks c =
     let a = c.args in
     let B = buffers_of a.values.now a.classes.now a.readers.now a.claimants.now a.exclusives.now a.logs.now in
-    let z = admitted_by B _ _ _ c.of-lengths.ensures c.admit.ensures c.in_default.not-Err in
+    let z = admitted_by B _ _ c.of-lengths.ensures c.in_default.ensures in
     even _ _ z
 
 pub apply-requires : goal.apply-requires
@@ -52,7 +52,7 @@ unfolding plan
 apply-requires c =
     let a = c.args in
     let B = buffers_of a.values.now a.classes.now a.readers.now a.claimants.now a.exclusives.now a.logs.now in
-    let z = admitted_by B _ _ _ c.of-lengths.ensures c.admit.ensures c.in_default.not-Err in
+    let z = admitted_by B _ _ c.of-lengths.ensures c.in_default.ensures in
     let d = hold_planned _ _ _ _ B.locks _ _ (rw c.of_session.ensures at c.hold_plan-p.ensures) c.lock_for-l.ensures in
     can_carry (Hold _ _) B _ _ refl z _ d _ _ _ c.hold-t.ensures _ c.of_session-log.ensures
 
@@ -61,6 +61,6 @@ unfolding plan
 returns c =
     let a = c.args in
     let B = buffers_of a.values.now a.classes.now a.readers.now a.claimants.now a.exclusives.now a.logs.now in
-    let z = admitted_by B _ _ _ c.of-lengths.ensures c.admit.ensures c.in_default.not-Err in
+    let z = admitted_by B _ _ c.of-lengths.ensures c.in_default.ensures in
     let d = hold_planned _ _ _ _ B.locks _ _ (rw c.of_session.ensures at c.hold_plan-p.ensures) c.lock_for-l.ensures in
     replies (Hold _ _) B _ _ refl z _ d _ _ _ c.hold-t.ensures _ c.of_session-log.ensures _ c.apply.ensures.carried _ c.from.ensures

@@ -10,20 +10,20 @@ pub returns-in-Err : goal.returns-in-Err
 returns-in-Err c =
     let a = c.args in
     let B = buffers_of a.values.now a.classes.now a.readers.now a.claimants.now a.exclusives.now a.logs.now in
-    turned_down B _ _ _ c.of-lengths.ensures c.admit.ensures _ c.in-Err.is (Seal _) refl _ _ c.refused.ensures
+    turned_down B _ _ c.of-lengths.ensures _ c.in-Err.ensures (Seal _) refl _ _ c.refused.ensures
 
 pub of_session-log-requires : goal.of_session-log-requires
 of_session-log-requires c =
     let a = c.args in
     let B = buffers_of a.values.now a.classes.now a.readers.now a.claimants.now a.exclusives.now a.logs.now in
-    let z = admitted_by B _ _ _ c.of-lengths.ensures c.admit.ensures c.in_default.not-Err in
+    let z = admitted_by B _ _ c.of-lengths.ensures c.in_default.ensures in
     (z.low, z.lengths.logs)
 
 pub take_seal-t-requires : goal.take_seal-t-requires
 take_seal-t-requires c =
     let a = c.args in
     let B = buffers_of a.values.now a.classes.now a.readers.now a.claimants.now a.exclusives.now a.logs.now in
-    let z = admitted_by B _ _ _ c.of-lengths.ensures c.admit.ensures c.in_default.not-Err in
+    let z = admitted_by B _ _ c.of-lengths.ensures c.in_default.ensures in
     log_fits _ _ z _ c.of_session-log.ensures
 
 pub change_drop-requires : goal.change_drop-requires
@@ -31,7 +31,7 @@ unfolding plan
 change_drop-requires c =
     let a = c.args in
     let B = buffers_of a.values.now a.classes.now a.readers.now a.claimants.now a.exclusives.now a.logs.now in
-    let z = admitted_by B _ _ _ c.of-lengths.ensures c.admit.ensures c.in_default.not-Err in
+    let z = admitted_by B _ _ c.of-lengths.ensures c.in_default.ensures in
     (kept_carry (Seal _) B _ _ refl z _ c.of_session-log.ensures _ refl _ _ (c.take_seal-t.ensures a.values.now)).1
 
 pub returns : goal.returns
@@ -39,7 +39,7 @@ unfolding plan
 returns c =
     let a = c.args in
     let B = buffers_of a.values.now a.classes.now a.readers.now a.claimants.now a.exclusives.now a.logs.now in
-    let z = admitted_by B _ _ _ c.of-lengths.ensures c.admit.ensures c.in_default.not-Err in
+    let z = admitted_by B _ _ c.of-lengths.ensures c.in_default.ensures in
     let k = kept_change (Seal _) B _ _ refl z _ c.of_session-log.ensures _ refl _ _ (c.take_seal-t.ensures a.values.now) in
     kept_replies (Seal _) B _ _ refl z _ c.of_session-log.ensures _ refl _ _ (c.take_seal-t.ensures a.values.now) _
     (rw (rw k (seal_drops _ _ _ _)) at (c.change_drop.ensures _ _ (even _ _ z).0 (even _ _ z).1))

@@ -11,41 +11,41 @@ pub returns-in-Err : goal.returns-in-Err
 returns-in-Err c =
     let a = c.args in
     let B = buffers_of a.values.now a.classes.now a.readers.now a.claimants.now a.exclusives.now a.logs.now in
-    turned_down B _ _ _ c.of-lengths.ensures c.admit.ensures _ c.in-Err.is (Write _ _ a.value) refl _ _ c.refused.ensures
+    turned_down B _ _ c.of-lengths.ensures _ c.in-Err.ensures (Write _ _ a.value) refl _ _ c.refused.ensures
 
 pub of_session-requires : goal.of_session-requires
 of_session-requires c =
     let a = c.args in
     let B = buffers_of a.values.now a.classes.now a.readers.now a.claimants.now a.exclusives.now a.logs.now in
-    let z = admitted_by B _ _ _ c.of-lengths.ensures c.admit.ensures c.in_default.not-Err in
+    let z = admitted_by B _ _ c.of-lengths.ensures c.in_default.ensures in
     (z.low, z.lengths.logs)
 
 pub write_plan-p-requires : goal.write_plan-p-requires
 write_plan-p-requires c =
     let a = c.args in
     let B = buffers_of a.values.now a.classes.now a.readers.now a.claimants.now a.exclusives.now a.logs.now in
-    let z = admitted_by B _ _ _ c.of-lengths.ensures c.admit.ensures c.in_default.not-Err in
+    let z = admitted_by B _ _ c.of-lengths.ensures c.in_default.ensures in
     ((log_fits _ _ z _ c.of_session.ensures).0, rw z.lengths.classes z.lengths.few)
 
 pub write-t-requires : goal.write-t-requires
 write-t-requires c =
     let a = c.args in
     let B = buffers_of a.values.now a.classes.now a.readers.now a.claimants.now a.exclusives.now a.logs.now in
-    let z = admitted_by B _ _ _ c.of-lengths.ensures c.admit.ensures c.in_default.not-Err in
+    let z = admitted_by B _ _ c.of-lengths.ensures c.in_default.ensures in
     (z.low, z.lengths.logs, record { caps = our_caps; classes = a.classes.now; is = (rw (c.of_session.ensures, z.lengths.classes) at c.write_plan-p.ensures) })
 
 pub of_session-log-requires : goal.of_session-log-requires
 of_session-log-requires c =
     let a = c.args in
     let B = buffers_of a.values.now a.classes.now a.readers.now a.claimants.now a.exclusives.now a.logs.now in
-    let z = admitted_by B _ _ _ c.of-lengths.ensures c.admit.ensures c.in_default.not-Err in
+    let z = admitted_by B _ _ c.of-lengths.ensures c.in_default.ensures in
     (z.low, c.write-t.auto.logs ∙ z.lengths.logs)
 
 pub invariant_of-locks : goal.invariant_of-locks
 invariant_of-locks c =
     let a = c.args in
     let B = buffers_of a.values.now a.classes.now a.readers.now a.claimants.now a.exclusives.now a.logs.now in
-    let z = admitted_by B _ _ _ c.of-lengths.ensures c.admit.ensures c.in_default.not-Err in
+    let z = admitted_by B _ _ c.of-lengths.ensures c.in_default.ensures in
     even _ _ z
 
 pub apply-requires : goal.apply-requires
@@ -53,7 +53,7 @@ unfolding plan
 apply-requires c =
     let a = c.args in
     let B = buffers_of a.values.now a.classes.now a.readers.now a.claimants.now a.exclusives.now a.logs.now in
-    let z = admitted_by B _ _ _ c.of-lengths.ensures c.admit.ensures c.in_default.not-Err in
+    let z = admitted_by B _ _ c.of-lengths.ensures c.in_default.ensures in
     let p = rw (c.of_session.ensures, z.lengths.classes) at c.write_plan-p.ensures in
     let d = write_planned _ _ _ _ B.locks _ our_caps a.classes.now a.value _ p c.lock_for-l.ensures in
     let h = c.write-t.ensures our_caps a.classes.now p in
@@ -64,7 +64,7 @@ unfolding plan
 returns c =
     let a = c.args in
     let B = buffers_of a.values.now a.classes.now a.readers.now a.claimants.now a.exclusives.now a.logs.now in
-    let z = admitted_by B _ _ _ c.of-lengths.ensures c.admit.ensures c.in_default.not-Err in
+    let z = admitted_by B _ _ c.of-lengths.ensures c.in_default.ensures in
     let p = rw (c.of_session.ensures, z.lengths.classes) at c.write_plan-p.ensures in
     let d = write_planned _ _ _ _ B.locks _ our_caps a.classes.now a.value _ p c.lock_for-l.ensures in
     let h = c.write-t.ensures our_caps a.classes.now p in
