@@ -4,15 +4,14 @@ use native.Mathlib.Omega.{arith}
 use mathlib.Core.Path.{◌≡◌, sym, ap, subst, ◌∙◌}
 use mathlib.Core.Bool.{true, false}
 use mathlib.Core.List.{List}
+use mathlib.Core.Option.{none}
 use borrow.Author.Tests.{lt-ltb, ltb-true}
 use lib.Dec.{ltb}
 use lib.ListN.{length, length-set}
 use Rattle.model.specs.Buffers.{cell_at, slot_in, appended}
 use Rattle.model.specs.Search.{below}
-use Rattle.model.proofs.Laws.{appended_cell, appended_apart}
+use Rattle.model.proofs.Laws.{appended_cell, appended_apart, below_is}
 use Rattle.model.proofs.Tools.{same, which, clash, both_l, both_r}
-use Rattle.session_log.specs.Slots.{found}
-use Rattle.session_log.proofs.Searches.{slot_nowhere}
 use Rattle.session_log.proofs.Targets.{slot_some}
 use Rattle.sweeps.specs.Sweeps.{marked, mark}
 use Rattle.sweeps.proofs.Marks.{marked_same, marked_other}
@@ -25,6 +24,10 @@ below_less n m f zero l b = b
 below_less n m f (suc k) l b =
     let i = ltb-true (f k) n (both_l (ltb (f k) n) (below n f k) b) in rw (lt-ltb (f k) m (omega arith)) (below_less n m f k l (both_r (ltb (f k) n) (below n f k) b))
 
+-- each of cells below n is
+pub cell_low : (n : ℕ) (log : List ℕ) (k i c : ℕ) → below n (cell_at log) k ≡ true → i < k → c ≡ cell_at log i → c < n
+cell_low n log k i c b l e = rw e (below_is n (cell_at log) k b i l)
+
 -- ---- the marks
 
 -- a cell marked: it and all that were
@@ -36,24 +39,23 @@ pub covers_none : (entered log : List ℕ) → length entered ≡ 16 → Covers 
 covers_none entered log w = record { words = w; cells = λ j l. absurd (omega arith) }
 
 -- the next entry's cell marked
-pub covers_next : (entered log : List ℕ) (k c : ℕ) → Covers entered log k → c ≡ cell_at log k → c < 1024 → (E : List ℕ) → E ≡ mark entered c → Covers E log (k + 1)
+pub covers_next : (entered log : List ℕ) (k c : ℕ) → Covers entered log k → c ≡ cell_at log k → c < 1024 → Covers (mark entered c) log (k + 1)
 unfolding mark
-covers_next entered log k c v e l E m =
+covers_next entered log k c v e l =
     record {
-      words = rw (m, length-set) v.words;
-      cells = λ j i. same j k (λ h. rw (m, h, ← e) (unfold mark in marked_same entered c (let w = v.words in omega arith)))
-          (λ n. rw m (unfold mark in marked_more entered c (cell_at log j) v.words l (v.cells j (omega arith))));
+      words = rw length-set v.words;
+      cells = λ j i. same j k (λ h. rw (h, ← e) (unfold mark in marked_same entered c (let w = v.words in omega arith)))
+          (λ n. unfold mark in marked_more entered c (cell_at log j) v.words l (v.cells j (omega arith)));
     }
 
 -- a cell that is not marked has no entry
-pub unmarked : (entered log : List ℕ) (k c : ℕ) → Covers entered log k → marked entered c ≡ false → found k k ≡ slot_in log k c
+pub unmarked : (entered log : List ℕ) (k c : ℕ) → Covers entered log k → marked entered c ≡ false → none ≡ slot_in log k c
 unmarked entered log k c v h =
-    which (slot_in log k c) (λ p. slot_nowhere log k c p)
+    which (slot_in log k c) (λ p. sym p)
     (λ j p. let w = slot_some log k c p in absurd (clash (marked entered c) (subst (λ (d : ℕ). marked entered d ≡ true) w.1 (v.cells j w.0)) h))
 
 -- a new entry's cell marked
-pub covers_entered : (entered log : List ℕ) (k c v : ℕ) → k < 32 → length log ≡ 128 → Covers entered log k → c < 1024 → (E W : List ℕ) → E ≡ mark entered c
-    → W ≡ appended log k c v → Covers E W (k + 1)
-covers_entered entered log k c v l w m i E W e a =
-    covers_next entered W k c
-    (record { words = m.words; cells = λ j q. rw (a, appended_apart log k c v l w j q) (m.cells j q) }) (sym (ap (λ (u : List ℕ). cell_at u k) a ∙ appended_cell log k c v l w)) i E e
+pub covers_entered : (entered log : List ℕ) (k c v : ℕ) → Covers entered log k → c < 1024 → k < 32 → length log ≡ 128 → Covers (mark entered c) (appended log k c v) (k + 1)
+covers_entered entered log k c v m i l w =
+    covers_next entered (appended log k c v) k c
+    (record { words = m.words; cells = λ j q. rw (appended_apart log k c v l w j q) (m.cells j q) }) (sym (appended_cell log k c v l w)) i

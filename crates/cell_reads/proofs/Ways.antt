@@ -4,6 +4,9 @@ use native.Mathlib.Numerals.{add-one}
 use native.Mathlib.Omega.{arith}
 use mathlib.Core.Path.{◌≡◌, refl, sym, subst, ◌∙◌}
 use mathlib.Core.List.{List, [], ◌∷◌}
+use mathlib.Core.Option.{Option, none}
+use Rattle.std.specs.Prelude.{Some, None, Ok, Err}
+use Rattle.std.specs.Prelude as code
 use borrow.Author.Tests.{lt-ltb, le-ltb, eq-eqb, ne_eqb, ltb-true}
 use lib.Dec.{ltb, eqb}
 use lib.ListN.{length, get_or, set, drop, length-set, drop_of_length-le}
@@ -14,40 +17,28 @@ use Rattle.model.proofs.Carried.{length-appended}
 use Rattle.model.proofs.Laws.{appended_below}
 use Rattle.model.proofs.Tools.{split, test, which}
 use Rattle.session_log.specs.Slots.{found}
-use Rattle.refusals.proofs.Ways.{found_here, found_nowhere}
-use Rattle.cell_reads.specs.Cells.{Fits, Covers, CellRead, cell_read, new_read, slot_read, read_cell, CellsRead, cells_read, read_cells}
-use Rattle.cell_reads.specs.declared.CellReply.{CellReply}
+use Rattle.records.specs.declared.Refusal.{Refusal}
+use Rattle.records.specs.declared.Refusal.TheVariants.{UnknownSession, WrongPhase, UnknownCell, AboveCap, FullLog, Conflict, WrongLengths, UnknownClass, DamagedRecord, ShortTarget, NotEntered, WrongList, WrongCaps, ValueAboveCaps}
+use Rattle.records.specs.Records.{refusal_number}
+use Rattle.cell_reads.specs.Cells.{Fits, Covers, CellRead, cell_read, new_read, slot_read, read_cell, CellsRead, cells_read, read_cells, answered}
+use Rattle.cell_reads.specs.declared.Obtained.{Obtained}
 
--- a refusal n, as the code replies it, with the marks as they were
-pub refused_is : (n k : ℕ) (R W E : List ℕ) (o : CellRead) → cell_read n 0 R W k ≡ o → Covers E W k → (r : CellReply) → r ≡ record { number = n; value = 0; entries = k }
-    → (cell_read r.number r.value R W r.entries ≡ o) × Covers E W r.entries
-refused_is n k R W E o e v r i = rw i (e, v)
-
-module _ (vs C : List ℕ) (s : ℕ) (R W : List ℕ) (k c : ℕ) where
-  pub cell_outside : length vs ≤ c → cell_read 3 0 R W k ≡ read_cell vs C s R W k c
-  unfolding read_cell
-  cell_outside h = rw (le-ltb c (length vs) h) refl
-
-  -- j is the place that the search for the cell answered
-  module _ (h : c < length vs) (j : ℕ) (e : found k j ≡ slot_in W k c) where
-    pub cell_known : j < k → (v : ℕ) → v ≡ (entry_at W j).current → cell_read 101 v R W k ≡ read_cell vs C s R W k c
-    unfolding read_cell slot_read
-    cell_known l v q = rw (lt-ltb c (length vs) h, found_here k j _ e l, q) refl
-
-    module _ (n : k ≤ j) where
-      pub cell_full : 31 < k → cell_read 5 0 R W k ≡ read_cell vs C s R W k c
-      unfolding read_cell slot_read new_read
-      cell_full l = rw (lt-ltb c (length vs) h, found_nowhere k j _ e n, le-ltb k 32 (omega arith)) refl
-
-      module _ (l : k ≤ 31) where
-        pub cell_claimed : (get_or C c 0 ≡ 16 → ⊥) → cell_read 6 0 R W k ≡ read_cell vs C s R W k c
-        unfolding read_cell slot_read new_read
-        cell_claimed m = rw (lt-ltb c (length vs) h, found_nowhere k j _ e n, lt-ltb k 32 (omega arith), ne_eqb (get_or C c 0) 16 m) refl
-
-        pub cell_entered : get_or C c 0 ≡ 16 → (v : ℕ) (R' W' : List ℕ) → v ≡ get_or vs c 0 → R' ≡ set R c (with_reader s (get_or R c 0)) → W' ≡ appended W k c (get_or vs c 0)
-            → cell_read 101 v R' W' (k + 1) ≡ read_cell vs C s R W k c
-        unfolding read_cell slot_read new_read
-        cell_entered m v R' W' q r w = rw (lt-ltb c (length vs) h, found_nowhere k j _ e n, lt-ltb k 32 (omega arith), eq-eqb (get_or C c 0) 16 m, q, r, w, add-one) refl
+-- a refusal is no value
+pub not_read : (r : Refusal) → refusal_number r ≡ 101 → ⊥
+not_read UnknownSession h = omega arith
+not_read WrongPhase h = omega arith
+not_read UnknownCell h = omega arith
+not_read AboveCap h = omega arith
+not_read FullLog h = omega arith
+not_read Conflict h = omega arith
+not_read WrongLengths h = omega arith
+not_read UnknownClass h = omega arith
+not_read DamagedRecord h = omega arith
+not_read ShortTarget h = omega arith
+not_read NotEntered h = omega arith
+not_read WrongList h = omega arith
+not_read WrongCaps h = omega arith
+not_read ValueAboveCaps h = omega arith
 
 -- ---- what is known of a running session past its tests is known after a read
 
@@ -81,7 +72,7 @@ module _ (vs C : List ℕ) (s : ℕ) (R W : List ℕ) (k : ℕ) (f : Fits s (len
   pub fits_after : (n v : ℕ) (R' W' : List ℕ) (k' : ℕ) → cell_read n v R' W' k' ≡ read_cell vs C s R W k c → Fits s (length vs) (length R') (length C) W' k'
   fits_after n v R' W' k' e = subst (λ (o : CellRead). Fits s (length vs) (length o.readers) (length C) o.log o.entries) (sym e) fits_still
 
--- ---- the reads so far: of cells cs those from place i on are left, and the next came to n, v, R', W' and k'
+-- ---- the reads so far: of cells cs those from place i on are left
 
 module _ (vs C : List ℕ) (s : ℕ) (cs T R W : List ℕ) (k i : ℕ) where
   -- none is left
@@ -89,14 +80,17 @@ module _ (vs C : List ℕ) (s : ℕ) (cs T R W : List ℕ) (k i : ℕ) where
   unfolding read_cells
   reads_end e = rw (drop_of_length-le cs {i = i} (omega arith), e) refl
 
-  module _ (l : i < length cs) (n v : ℕ) (R' W' : List ℕ) (k' : ℕ) (e : cell_read n v R' W' k' ≡ read_cell vs C s R W k (get_or cs i 0)) where
-    pub reads_stop : (n ≡ 101 → ⊥) → cells_read n i T R' W' k' ≡ read_cells vs C s i (drop i cs) T R W k
+  -- what the next one left of the reader sets and the log
+  module _ (l : i < length cs) (R' W' : List ℕ) where
+    pub reads_stop : (r : Refusal) → answered R' W' k (Err r) ≡ read_cell vs C s R W k (get_or cs i 0)
+        → cells_read (refusal_number r) i T R' W' k ≡ read_cells vs C s i (drop i cs) T R W k
     unfolding read_cells
-    reads_stop h = rw (drop-cons cs i 0 l, ← e, ne_eqb n 101 h) refl
+    reads_stop r e = rw (drop-cons cs i 0 l, ← e, ne_eqb (refusal_number r) 101 (not_read r)) refl
 
-    pub reads_go_on : n ≡ 101 → read_cells vs C s i (drop i cs) T R W k ≡ read_cells vs C s (i + 1) (drop (i + 1) cs) (set T i v) R' W' k'
+    pub reads_go_on : (o : Obtained) → answered R' W' k (Ok o) ≡ read_cell vs C s R W k (get_or cs i 0)
+        → read_cells vs C s i (drop i cs) T R W k ≡ read_cells vs C s (i + 1) (drop (i + 1) cs) (set T i o.value) R' W' o.entries
     unfolding read_cells
-    reads_go_on h = rw (drop-cons cs i 0 l, ← e, eq-eqb n 101 h, add-one) refl
+    reads_go_on o e = rw (drop-cons cs i 0 l, ← e, add-one) refl
 
 -- ---- what is known of the session is known after the reads; no more values are obtained than there are cells
 

@@ -1,6 +1,6 @@
 -- Reads of a running session past the tests of 7, 1, 9 and 2, on the values, the reader sets, the claimants and its log alone: what the functions leave of each
 -- other. Nothing here is part of what the call promises.
-use Rattle.std.specs.Prelude.{◌≡◌, ℕ, suc, ◌<◌, ◌≤◌, true, cond, List, [], ◌∷◌, ltb, eqb, length, get_or, set}
+use Rattle.std.specs.Prelude.{◌≡◌, ℕ, suc, ◌<◌, ◌≤◌, true, cond, List, [], ◌∷◌, ltb, eqb, length, get_or, set, Result, Ok, Err}
 use Rattle.std.proofs.Math.Option.{Option, none, some}
 use Rattle.model.specs.Search.{below}
 use Rattle.model.specs.Readers.{with_reader}
@@ -8,7 +8,9 @@ use Rattle.model.specs.Buffers.{cell_at, entry_at, slot_in, appended}
 use Rattle.model.specs.Plans.{require}
 use Rattle.model.specs.Slices.{Slice}
 use Rattle.sweeps.specs.Sweeps.{marked}
-use Rattle.cell_reads.specs.declared.CellReply.{CellReply}
+use Rattle.records.specs.declared.Refusal.{Refusal}
+use Rattle.records.specs.Records.{refusal_number}
+use Rattle.cell_reads.specs.declared.Obtained.{Obtained}
 use Rattle.cell_reads.specs.declared.CellsReply.{CellsReply}
 
 -- past the tests, of n cells, r reader sets and c claimants: the session is one of sixteen, and the k entries of its log, at most 32, are of cells below n
@@ -85,13 +87,22 @@ Enters values readers log k s c r =
     × (readers.exit.now ≡ set readers.entry.now c (with_reader s (get_or readers.entry.now c 0)))
     × (log.exit.now ≡ appended log.entry.now k c (get_or values.entry.now c 0))
 
-abbrev pub ReadsCell : Slice → Slice → Slice → Slice → Slice → ℕ → ℕ → ℕ → CellReply → Type 0
+-- one read, as the code answers it: the value and the entries on the reader sets and the log that it left, or a refusal with the k entries that there were
+abbrev pub answered : List ℕ → List ℕ → ℕ → Result Obtained Refusal → CellRead
+answered R W k (Ok o) = cell_read 101 o.value R W o.entries
+answered R W k (Err r) = cell_read (refusal_number r) 0 R W k
+
+abbrev pub ReadsCell : Slice → Slice → Slice → Slice → Slice → ℕ → ℕ → ℕ → Result Obtained Refusal → Type 0
 ReadsCell values readers claimants log entered k s c r =
-    (cell_read r.number r.value readers.exit.now log.exit.now r.entries
-    ≡ read_cell values.entry.now claimants.entry.now s readers.entry.now log.entry.now k c)
-    × Covers entered.exit.now log.exit.now r.entries
+    let o = answered readers.exit.now log.exit.now k r in
+    (o ≡ read_cell values.entry.now claimants.entry.now s readers.entry.now log.entry.now k c) × Covers entered.exit.now log.exit.now o.entries
+
+-- the number of what reads came to: 101 where each got a value, else the refusal's
+abbrev pub number_of : {A : Type 0} → Result A Refusal → ℕ
+number_of (Ok _) = 101
+number_of (Err r) = refusal_number r
 
 abbrev pub ReadsCells : Slice → Slice → Slice → Slice → ℕ → ℕ → Slice → Slice → CellsReply → Type 0
 ReadsCells values readers claimants log k s cells target r =
-    cells_read r.number r.count target.exit.now readers.exit.now log.exit.now r.entries
+    cells_read (number_of r.ended) r.count target.exit.now readers.exit.now log.exit.now r.entries
     ≡ read_cells values.entry.now claimants.entry.now s 0 cells.entry.now target.entry.now readers.entry.now log.entry.now k

@@ -6,50 +6,55 @@ ghost use Rattle.model.specs.Search.{below};
 ghost use Rattle.model.specs.Buffers.{cell_at, slot_in};
 ghost use Rattle.model.specs.ManyReads.{list_refusal};
 ghost use Rattle.model.specs.Slices.{as_lent};
+ghost use Rattle.records.specs.Records.{refusal_of};
 ghost use Rattle.session_log.specs.Slots.{found};
 ghost use Rattle.cell_reads.specs.Cells.{Covers, Enters, ReadsCell, ReadsCells, Fits};
 
+use records::Refusal;
+use sweeps::CellSet;
+
 // ---- the list and the target
 
-// 15 where the list has no cell or more than 32, 13 where the target is shorter than the list, or 0.
-pub fn list_refusal(cells: usize, target: usize) -> u32
-    ensures { result ≡ list_refusal cells target }
+// 15 where the list has no cell or more than 32, 13 where the target is shorter than the list.
+#[tactic(auto, unfolding(model::specs::ManyReads::list_refusal))]
+pub fn list_refusal(cells: usize, target: usize) -> Result<(), Refusal>
+    ensures { refusal_of result ≡ list_refusal cells target }
 {
     if (cells == 0) | (32 < cells) {
-        return 15;
+        return Err(Refusal::WrongList);
     }
     if target < cells {
-        return 13;
+        return Err(Refusal::ShortTarget);
     }
-    0
+    Ok(())
 }
 
 // ---- the cells in the log
 
-// The cells of the first count entries are marked.
-fn mark_entries(log: &[u32], count: usize, entered: &mut [u64; 16])
-    requires { (4 * count ≤ length log.now) × (below 1024 (cell_at log.now) count ≡ true) × (length entered.old ≡ 16) }
-    ensures { Covers entered.new log.now count }
+// The cells of the first count entries.
+#[tactic(auto, using(crate::proofs::Marks::cell_low, crate::proofs::Marks::covers_none))]
+fn cells_of(log: &[u32], count: usize) -> CellSet
+    requires { (4 * count ≤ length log.now) × (below 1024 (cell_at log.now) count ≡ true) }
+    ensures { Covers result log.now count }
 {
-    let mut i = 0;
-    while i < count {
-        let cell = session_log::cell_at(log, i);
-        sweeps::put_mark(entered, cell);
-        i += 1;
+    let mut entered = CellSet::new();
+    for i in 0..count {
+        entered.insert(session_log::cell_at(log, i));
     }
+    entered
 }
 
-// The place of a cell's first entry, or count where there is none. A cell that is not marked has none, and is not searched for.
-fn slot_of(log: &[u32], count: usize, entered: &[u64; 16], cell: u32) -> usize
+// The place of a cell's first entry. A cell that is not in the set has none, and is not searched for.
+#[tactic(auto, using(crate::proofs::Marks::unmarked))]
+fn slot_of(log: &[u32], count: usize, entered: &CellSet, cell: u32) -> Option<usize>
     requires { (4 * count ≤ length log.now) × (cell < 1024) × Covers entered.now log.now count }
-    ensures { found count result ≡ slot_in log.now count cell }
+    ensures { found result ≡ slot_in log.now count cell }
 {
-    let unmarked = !sweeps::is_marked(entered, cell);
+    let unmarked = !entered.contains(cell);
     if unmarked {
-        return count;
+        return None;
     }
-    let place = look_ups::locate(log, count, cell);
-    place.slot
+    look_ups::locate(log, count, cell)
 }
 
 // ---- one read, past the tests of 7, 1, 9 and 2
@@ -74,72 +79,59 @@ fn enter(
     value
 }
 
-// What a read came to: its number, the value with 101, and how many entries the log has.
+// What a read that is not refused comes to: the value, and how many entries the log has.
 #[derive(Clone, Copy)]
-struct CellReply {
-    number: u32,
+struct Obtained {
     value: u32,
     entries: usize,
 }
 
-// A read that gets no value and leaves all as before.
-fn refused_cell(number: u32, entries: usize) -> CellReply
-    ensures { result ≡ record { number = number; value = 0; entries = entries } }
-{
-    CellReply {
-        number,
-        value: 0,
-        entries,
-    }
-}
-
-// 3, a known cell's value, 5, 6, or a new cell's value. The session is not rolled back here.
+#[tactic(auto, unfolding(crate::specs::Cells::read_cell, crate::specs::Cells::slot_read, crate::specs::Cells::new_read))]
+// A known cell's value or a new cell's, or 3, 5 or 6 with all as before. The session is not rolled back here.
 fn read_cell(
     values: &[u32],
     readers: &mut [u16],
     claimants: &[u8],
     log: &mut [u32],
-    entered: &mut [u64; 16],
+    entered: &mut CellSet,
     count: usize,
     session: u8,
     cell: u32,
-) -> CellReply
+) -> Result<Obtained, Refusal>
     requires { Fits session (length values.now) (length readers.old) (length claimants.now) log.old count × Covers entered.old log.old count }
     ensures { ReadsCell values (as_lent readers) claimants (as_lent log) (as_lent entered) count session cell result }
 {
     let c = cell as usize;
     if values.len() <= c {
-        return refused_cell(3, count);
+        return Err(Refusal::UnknownCell);
     }
-    let k = slot_of(&log[..], count, &*entered, cell);
-    if k < count {
-        return CellReply {
-            number: 101,
-            value: session_log::current(&log[..], k),
+    let place = slot_of(log, count, entered, cell);
+    if let Some(k) = place {
+        return Ok(Obtained {
+            value: session_log::current(log, k),
             entries: count,
-        };
+        });
     }
     if 31 < count {
-        return refused_cell(5, count);
+        return Err(Refusal::FullLog);
     }
     if claimants[c] != 16 {
-        return refused_cell(6, count);
+        return Err(Refusal::Conflict);
     }
-    sweeps::put_mark(entered, cell);
+    entered.insert(cell);
     let value = enter(values, readers, log, count, session, cell);
-    CellReply {
-        number: 101,
+    Ok(Obtained {
         value,
         entries: count + 1,
-    }
+    })
 }
 
 // ---- the reads
 
-// What they came to: the last answer's number, how many values were obtained, and how many entries the log has.
+// What they came to: how the last ended, how many values were obtained, and how many entries the log has.
 #[derive(Clone, Copy)]
 pub struct CellsReply {
-    pub number: u32,
+    pub ended: Result<(), Refusal>,
     pub count: usize,
     pub entries: usize,
 }
@@ -158,12 +150,10 @@ pub fn read_cells(
     requires { Fits session (length values.now) (length readers.old) (length claimants.now) log.old count × (length cells.now ≤ 32) × (length cells.now ≤ length target.old) }
     ensures { ReadsCells values (as_lent readers) claimants (as_lent log) count session cells (as_lent target) result }
 {
-    let mut entered = [0u64; 16];
-    mark_entries(&log[..], count, &mut entered);
+    let mut entered = cells_of(log, count);
     let mut entries = count;
-    let mut i = 0;
-    while i < cells.len() {
-        let reply = read_cell(
+    for (i, cell) in cells.iter().enumerate() {
+        let read = read_cell(
             values,
             readers,
             claimants,
@@ -171,22 +161,24 @@ pub fn read_cells(
             &mut entered,
             entries,
             session,
-            cells[i],
+            *cell,
         );
-        let number = reply.number;
-        entries = reply.entries;
-        if number != 101 {
-            return CellsReply {
-                number,
-                count: i,
-                entries,
-            };
+        match read {
+            Ok(obtained) => {
+                target[i] = obtained.value;
+                entries = obtained.entries;
+            }
+            Err(refusal) => {
+                return CellsReply {
+                    ended: Err(refusal),
+                    count: i,
+                    entries,
+                };
+            }
         }
-        target[i] = reply.value;
-        i += 1;
     }
     CellsReply {
-        number: 101,
+        ended: Ok(()),
         count: cells.len(),
         entries,
     }

@@ -1,4 +1,4 @@
+pub mod Lengths
 pub mod OneRead
 pub mod AsModel
-pub mod InLogs
 pub mod Whole

@@ -16,8 +16,6 @@ use Rattle.model.specs.Step.{plan_of, step, answer_of}
 use Rattle.records.specs.declared.Session.{Session}
 use Rattle.records.specs.declared.Sessions.{Sessions}
 use Rattle.records.specs.declared.Lock.{Lock}
-use Rattle.model.specs.Turns.{changed}
-use Rattle.records.specs.declared.Change.TheVariants.{Join}
 use Rattle.records.specs.declared.Call.TheVariants.{Read}
 use Rattle.records.specs.declared.Plan.{Plan}
 use Rattle.records.specs.declared.Plan.TheVariants.{Refuse, Tell, Enter, RollBack}
@@ -25,8 +23,7 @@ use Rattle.model.proofs.Carried.{over}
 use Rattle.model.proofs.Laws.{log_same, length-on}
 use Rattle.model.proofs.Tools.{test, which}
 use Rattle.contracts.specs.Lent.{locks_of}
-use Rattle.locks.specs.Changes.{one_of}
-use Rattle.locks.proofs.Changes.{joins}
+use Rattle.locks.proofs.Changes.{join_stored}
 use Rattle.sweeps.proofs.Sweeps.{lock_here}
 use Rattle.refusals.proofs.Admission.{Admitted}
 use Rattle.cell_reads.specs.Cells.{Fits, CellRead, cell_read, new_read, slot_read, read_cell}
@@ -103,8 +100,7 @@ module _ (B : Buffers) (s : ℕ) (z : Admitted B s) (G : Limits) (ss : Sessions)
     rolls c e = rw (plan_is c, e) (refl, refl, rw (record_is, log_is, twice idle))
 
     joined : (c : ℕ) → on_lock c (join s) (locks_with R) ≡ locks_with (set R c (with_reader s (get_or R c 0)))
-    unfolding changed one_of
-    joined c = sym (joins (Join c) s R B.locks.claimants B.locks.exclusives c refl (with_reader s (get_or R c 0)) refl)
+    joined c = sym (join_stored s R B.locks.claimants B.locks.exclusives c)
 
     entered : (c v : ℕ) → on_log s (λ log. appended log k c v) (on_log s (λ log. W) B.logs) ≡ on_log s (λ log. appended W k c v) B.logs
     entered c v = sym (over s (record { lent = B; limits = G; sessions = ss }) z.low z.lengths.logs (λ log. W) (λ log. appended log k c v) f.words)

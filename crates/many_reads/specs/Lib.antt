@@ -1,2 +1,2 @@
 pub mod Lent
-pub mod InLogs
+pub mod Tests

@@ -1,59 +1,69 @@
-// Many reads in one call (document 02, Paper 1), on number slices that the caller lends. The tests of 7, 1, 9 and 2, which each of the single reads would make,
-// are made once: they pass again after every read answered 101.
+// Many reads in one call (document 02, Paper 1), on number slices that the caller lends.
 #![tactic(auto)]
 
-ghost use Rattle.std.specs.Prelude.{◌≡◌, ◌≤◌, length};
-ghost use Rattle.model.specs.Buffers.{log_in};
+ghost use Rattle.std.specs.Prelude.{◌≡◌, length, eqb};
 ghost use Rattle.model.specs.Slices.{as_lent};
-ghost use Rattle.cell_reads.specs.Cells.{Fits};
+ghost use Rattle.records.specs.Records.{refusal_number, refusal_of};
+ghost use Rattle.cell_reads.specs.Cells.{number_of};
 ghost use Rattle.many_reads.specs.Lent.{ReadsMany};
-ghost use Rattle.many_reads.specs.InLogs.{ReadsIn};
+ghost use Rattle.many_reads.specs.Tests.{first_refusal};
 
-use cell_reads::CellsReply;
-use records::{ReadManyReply, Session};
+use locks::Locks;
+use records::{ReadManyReply, Refusal, Session};
+use refusals::Lengths;
 
-// ---- the reads
+// ---- before the first read
 
-// Reads in order, to the first that gets no value, on the logs of all sessions.
-fn read_in(
-    values: &[u32],
-    readers: &mut [u16],
-    claimants: &[u8],
-    logs: &mut [u32],
-    count: usize,
+// 15 and 13, of the list and its target; then 7, 1, 9 and 2, which each of the single reads would test. They are tested once: they pass again after every read
+// answered 101.
+#[tactic(auto, unfolding(crate::specs::Tests::first_refusal), using(records::proofs::Refusals::nonzero))]
+fn tests(
+    x: Session,
+    lengths: Lengths,
+    logs: &[u32],
     session: u8,
-    cells: &[u32],
-    target: &mut [u32],
-) -> CellsReply
-    requires { (length logs.old ≡ 2048) × Fits session (length values.now) (length readers.old) (length claimants.now) (log_in logs.old session) count × (length cells.now ≤ 32) × (length cells.now ≤ length target.old) }
-    ensures { ReadsIn values (as_lent readers) claimants (as_lent logs) count session cells (as_lent target) result }
+    cells: usize,
+    target: usize,
+) -> Result<(), Refusal>
+    requires { lengths.logs ≡ length logs.now }
+    ensures { refusal_of result ≡ first_refusal x lengths logs.now session cells target }
 {
-    let a = 128 * (session as usize);
-    let e = a + 128;
-    cell_reads::read_cells(
-        values,
-        readers,
-        claimants,
-        &mut logs[a..e],
-        count,
-        session,
-        cells,
-        target,
-    )
+    cell_reads::list_refusal(cells, target)?;
+    lengths.admit(session)?;
+    refusals::runs(session_log::of_session(logs, session), lengths.values, x)
 }
 
-// ---- the call
-
 // Nothing is obtained, and the record comes back as it came.
-fn refused(number: u32, session: Session) -> ReadManyReply
-    ensures { result ≡ record { number = number; count = 0; session = session } }
+fn refused(refusal: Refusal, session: Session) -> ReadManyReply
+    ensures { result ≡ record { number = refusal_number refusal; count = 0; session = session } }
 {
     ReadManyReply {
-        number,
+        number: u32::from(refusal.number()),
         count: 0,
         session,
     }
 }
+
+// ---- after the last
+
+// 101 where each cell was read, else the number of the refusal.
+fn number(ended: Result<(), Refusal>) -> u32
+    ensures { result ≡ number_of ended }
+{
+    match ended {
+        Ok(()) => 101,
+        Err(refusal) => u32::from(refusal.number()),
+    }
+}
+
+// Whether the reads ended at a claim.
+fn met_claim(ended: Result<(), Refusal>) -> bool
+    ensures { result ≡ eqb (number_of ended) 6 }
+{
+    matches!(ended, Err(Refusal::Conflict))
+}
+
+// ---- the call
 
 // Many reads: 101 where every cell was read, else the number of the first refusal, with how many were read before it. 15 and 13 come before all else.
 pub fn read_many(
@@ -70,66 +80,37 @@ pub fn read_many(
 ) -> ReadManyReply
     ensures { ReadsMany session cells values classes (as_lent readers) (as_lent claimants) (as_lent exclusives) (as_lent logs) (as_lent target) x result }
 {
-    let refusal = cell_reads::list_refusal(cells.len(), target.len());
-    if refusal != 0 {
+    let lengths = Lengths::of(values, classes, readers, claimants, exclusives, logs);
+    if let Err(refusal) = tests(x, lengths, logs, session, cells.len(), target.len()) {
         return refused(refusal, x);
     }
-    let n = values.len();
-    let k = classes.len();
-    let r = readers.len();
-    let c = claimants.len();
-    let m = exclusives.len();
-    let w = logs.len();
-    if !refusals::admits(n, k, r, c, m, w, session) {
-        return refused(refusals::admit(n, k, r, c, m, w, session) as u32, x);
-    }
-    let phase = x.phase;
     let count = x.count as usize;
-    if !refusals::runs(session_log::of_session(&logs[..], session), n, x) {
-        return refused(
-            refusals::tests(
-                session_log::of_session(&logs[..], session),
-                n,
-                x,
-                phase == 1,
-            ) as u32,
-            x,
-        );
-    }
-    let reads = read_in(
-        values,
-        readers,
-        &claimants[..],
-        logs,
-        count,
-        session,
-        cells,
-        target,
+    let a = 128 * (session as usize);
+    let e = a + 128;
+    let log = &mut logs[a..e];
+    let reads = cell_reads::read_cells(
+        values, readers, claimants, log, count, session, cells, target,
     );
-    let number = reads.number;
+    let number = number(reads.ended);
     let obtained = reads.count as u32;
     let entries = reads.entries;
-    let unclaimed = number != 6;
-    if unclaimed {
-        let y = x.with_entries(entries as u8);
+    let claimed = met_claim(reads.ended);
+    if !claimed {
         return ReadManyReply {
             number,
             count: obtained,
-            session: y,
+            session: x.with_entries(entries as u8),
         };
     }
-    sweeps::roll_back(
-        session_log::of_session(&logs[..], session),
-        entries,
+    let mut locks = Locks {
         readers,
         claimants,
         exclusives,
-        session,
-    );
-    let y = x.idled();
+    };
+    sweeps::roll_back(&mut locks, log, entries, session);
     ReadManyReply {
         number,
         count: obtained,
-        session: y,
+        session: x.idled(),
     }
 }

@@ -1,7 +1,0 @@
--- A cell that is not marked is not in the log.
-use Rattle.std.proofs.Common.{sym, ◌∙◌}
-use Rattle.cell_reads.proofs.Marks.{unmarked}
-use Rattle.cell_reads.proofs.slot_of.Goals as goal
-
-pub returns-then-unmarked : goal.returns-then-unmarked
-returns-then-unmarked c = unmarked _ _ _ _ c.requires.2 (sym c.is_marked-unmarked.ensures ∙ c.if-unmarked.true)
