@@ -1,14 +1,10 @@
 -- A plan is of one variant.
-use mathlib.Core.Path.{◌≡◌, refl, sym, ap, subst, ◌∙◌}
-use mathlib.Core.Bool.{not, cond}
-use mathlib.Core.List.{List, [], ◌∷◌}
+use mathlib.Core.Path.{◌≡◌, sym, ap, subst, ◌∙◌}
+use mathlib.Core.Bool.{not}
 use Prim.Native.Nat.{ℕ}
 use lib.Dec.{T, T_not, eqb, eqb_refl}
-use types.Run.{OneOf, hit, miss}
-use mir.Val.{has_key}
 use denote.Enum.Declared.{tag_of}
 use Rattle.records.specs.declared.Plan.{Plan}
-use Rattle.records.specs.declared.Plan.TheVariants.{Refuse, ShowStore, ShowLog}
 use Rattle.records.specs.contracts.Plan as plan
 
 abbrev pub tag : Plan → ℕ
