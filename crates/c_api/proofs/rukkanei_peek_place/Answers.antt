@@ -7,10 +7,10 @@ use Rattle.c_api.proofs.rukkanei_peek_place.Goals as goal
 pub returns-in-ShowStore : goal.returns-in-ShowStore
 returns-in-ShowStore c = λ G ss o. place_store _ _ _ (c.peek_plan-p.ensures G ss o) c.in-ShowStore.is
 
-pub returns : goal.returns
-returns c =
+pub returns-in_default : goal.returns-in_default
+returns-in_default c =
     let a = c.args in
     λ G ss o.
     let σ = store_of G a.values.now a.classes.now a.readers.now a.claimants.now a.exclusives.now a.logs.now ss in
     let e = c.peek_plan-p.ensures G ss o in
-    place_none _ _ _ e (peek_neither σ a.session a.cell _ e c.in_default.not-ShowStore c.in_default-p.not-ShowLog).1
+    place_none _ _ _ e (peek_neither σ a.session a.cell _ e c.in_default.not-ShowStore c.in_default.not-ShowLog).1
