@@ -5,28 +5,21 @@ use mathlib.Core.Path.{◌≡◌, refl, sym, ◌∙◌, ap, subst}
 use mathlib.Core.Logic.{◌⊎◌, inl, inr}
 use mathlib.Core.Bool.{Bool, true, false, cond, ◌&&◌, ◌||◌}
 use mathlib.Core.List.{List, [], ◌∷◌}
-use native.Mathlib.Omega.{arith}
 use borrow.Author.Tests.{ne_eqb}
 use lib.Dec.{T, eqb, eqb→eq}
+use mir.Facts.{or_yes}
+use mir.ValLaws.{and_both}
 use Rattle.field.specs.declared.Layout.{Layout}
 use Rattle.std.specs.Prelude.{Option, Some, None, Result, Err}
 use Rattle.std.specs.Option.{ok_or}
 use Rattle.little_endian.specs.LittleEndian.{Whole}
 use Rattle.field.specs.Table.{Row, Proper, table, find, layout_of}
 
-both : (a b : Bool) → T (a && b) → T a × T b
-both true b h = (tt, h)
-both false b h = absurd h
-
-either : (a b : Bool) → T (a || b) → T a ⊎ T b
-either true b h = inl tt
-either false b h = inr h
-
 abbrev whole : ℕ → ℕ → Bool
 whole all w = eqb w 0 || eqb w all
 
 whole_law : (all w : ℕ) → T (whole all w) → Whole all w
-whole_law all w h = by_cases_of (either (eqb w 0) (eqb w all) h)
+whole_law all w h = by_cases_of (or_yes (eqb w 0) (eqb w all) h)
   where
     by_cases_of : T (eqb w 0) ⊎ T (eqb w all) → Whole all w
     by_cases_of (inl t) = inl (eqb→eq w 0 t)
@@ -40,10 +33,10 @@ passes l =
 
 passes_law : (l : Layout) → T (passes l) → Proper l
 passes_law l h =
-    let n = both (((whole 1 l.session && whole 1 l.class) && whole 2 l.cell) && whole 4 l.value) _ h in
-    let v = both ((whole 1 l.session && whole 1 l.class) && whole 2 l.cell) _ n.0 in
-    let e = both (whole 1 l.session && whole 1 l.class) _ v.0 in
-    let s = both (whole 1 l.session) _ e.0 in
+    let n = and_both (((whole 1 l.session && whole 1 l.class) && whole 2 l.cell) && whole 4 l.value) _ h in
+    let v = and_both ((whole 1 l.session && whole 1 l.class) && whole 2 l.cell) _ n.0 in
+    let e = and_both (whole 1 l.session && whole 1 l.class) _ v.0 in
+    let s = and_both (whole 1 l.session) _ e.0 in
     record {
       session = whole_law 1 _ s.0;
       class = whole_law 1 _ s.1;
@@ -63,9 +56,9 @@ chosen false e p f = f e
 -- What a tag finds among rows that pass is proper.
 found : (t : ℕ) (rows : List Row) (l : Layout) → T (all_pass rows) → find t rows ≡ Some l → Proper l
 unfolding find
-found t [] l h e = absurd (let z : ◌≡◌ {A = ℕ} 0 1 = cc in omega arith)
+found t [] l h e = absurd cc
 found t (r ∷ rows) l h e =
-    let parts : T (passes r.layout) × T (all_pass rows) = both (passes r.layout) (all_pass rows) h in
+    let parts : T (passes r.layout) × T (all_pass rows) = and_both (passes r.layout) (all_pass rows) h in
     chosen (eqb t r.tag) e (passes_law r.layout parts.0) (found t rows l parts.1)
 
 pub proper : (t : ℕ) (l : Layout) → layout_of t ≡ Some l → Proper l

@@ -40,7 +40,7 @@ long_or b d l m rest h e f = split (leb 1 m.length) refl h b e
 
 long_in : (t : ℕ) (rows : List Row) (l : Layout) → T (all_long rows) → find t rows ≡ Some l → 1 ≤ l.length
 unfolding find
-long_in t [] l h e = absurd (let z : ◌≡◌ {A = ℕ} 0 1 = cc in omega arith)
+long_in t [] l h e = absurd cc
 long_in t (r ∷ rows) l h e = long_or (eqb t r.tag) (all_long rows) l r.layout (find t rows) h e (long_in t rows l)
 
 long : (t : ℕ) (l : Layout) → layout_of t ≡ Some l → 1 ≤ l.length

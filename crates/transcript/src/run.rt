@@ -25,7 +25,8 @@ fn call_of(next: Result<Option<Next>, Refused>) -> Option<(Call, usize)>
     }
 }
 
-// The calls from a place on, each with its line, then the line of what ends them and the cells.
+// The calls from a place on, each with its line, then the line of what ends them and the cells. The six slices of the store stand apart: so `lists::step` and
+// `set_up::set_up` take them.
 fn run_calls(
     input: &[u8],
     mut place: usize,
