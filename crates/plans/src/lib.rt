@@ -136,12 +136,8 @@ pub fn peek_plan_in(lengths: Lengths, logs: &[u32], x: Session, session: u8, cel
     if let Err(refusal) = lengths.admit(session) {
         return Plan::from(refusal);
     }
-    peek_plan(
-        session_log::of_session(logs, session),
-        lengths.values,
-        x,
-        cell,
-    )
+    let log = session_log::of_session(logs, session);
+    peek_plan(log, lengths.values, x, cell)
 }
 
 // A peek's part: one word, the store's own or the log's own; no word where the peek is refused.

@@ -8,13 +8,13 @@ use Rattle.plans.proofs.peek_plan_in.Goals as goal
 pub returns-in-Err : goal.returns-in-Err
 returns-in-Err c = rw c.from.ensures (peek_turned c.args.lengths c.args.logs.now c.args.x c.args.session c.args.cell c.in-Err.refusal c.in-Err.ensures)
 
-pub of_session-requires : goal.of_session-requires
-of_session-requires c = let z = admits _ _ c.in_default.ensures in (z.1, sym c.requires ∙ (fitting _ z.0).logs)
+pub of_session-log-requires : goal.of_session-log-requires
+of_session-log-requires c = let z = admits _ _ c.in_default.ensures in (z.1, sym c.requires ∙ (fitting _ z.0).logs)
 
 pub peek_plan-requires : goal.peek_plan-requires
 peek_plan-requires c =
     let z = admits _ _ c.in_default.ensures in let f = fitting _ z.0 in
-    (log_long _ _ (sym c.requires ∙ f.logs) z.1 _ c.of_session.ensures, f.few)
+    (log_long _ _ (sym c.requires ∙ f.logs) z.1 _ c.of_session-log.ensures, f.few)
 
 pub returns : goal.returns
-returns c = peek_admitted _ _ _ _ _ c.in_default.ensures _ c.of_session.ensures _ c.peek_plan.ensures
+returns c = peek_admitted _ _ _ _ _ c.in_default.ensures _ c.of_session-log.ensures _ c.peek_plan.ensures
