@@ -5,14 +5,13 @@ use Rattle.model.specs.Buffers.{Limits, ours, session_at, log_in, lengths_match}
 use Rattle.model.specs.Load.{load_effect}
 use Rattle.model.specs.Plans.{require}
 use Rattle.model.specs.Slices.{Slice, caps_before, IsPart}
-use Rattle.model.specs.Step.{outcome, effect, set_up_effect, plan_of, session_of, peek_shows, GoesBy}
+use Rattle.model.specs.Step.{outcome, effect, set_up_effect, session_of, peek_shows, GoesBy}
 use Rattle.records.specs.declared.Sessions.{Sessions}
 use Rattle.records.specs.declared.Lock.{Lock}
 use Rattle.records.specs.declared.Reply.{Reply}
 use Rattle.records.specs.declared.Answer.{Answer}
-use Rattle.records.specs.declared.Plan.{Plan}
 use Rattle.records.specs.declared.Call.{Call}
-use Rattle.records.specs.declared.Call.TheVariants.{Write, Peek}
+use Rattle.records.specs.declared.Call.TheVariants.{Write}
 use Rattle.refusals.specs.Pieces.{admission}
 use Rattle.any_call.specs.AnyCall.{cell_for}
 use Rattle.refusals.specs.declared.Lengths.{Lengths}
@@ -66,12 +65,7 @@ IsLoad T caps T' values classes m w sessions r =
     → outcome r.answer (store_on (record { caps = T' }) values classes L logs r.sessions)
     ≡ load_effect T (store_on (record { caps = caps }) values classes L logs sessions)
 
--- a peek's plan, and its part, whatever the limits are
-abbrev pub IsPeekPlan : ℕ → ℕ → ℕ → List ℕ → Sessions → ℕ → ℕ → Plan → Type 0
-IsPeekPlan n k m logs sessions s c p =
-    (G : Limits) (values classes : List ℕ) (L : List Lock) → length values ≡ n → length classes ≡ k → length L ≡ m
-    → p ≡ plan_of (Peek s c) (store_on G values classes L logs sessions)
-
+-- a peek's part, whatever the limits are
 abbrev pub IsPeekPart : Bor (List ℕ) → ℕ → ℕ → Bor (List ℕ) → Sessions → ℕ → ℕ → Bor (List ℕ) → Type 0
 IsPeekPart values k m logs sessions s c r =
     (G : Limits) (classes : List ℕ) (L : List Lock) → length classes ≡ k → length L ≡ m
