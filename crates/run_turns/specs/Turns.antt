@@ -1,7 +1,7 @@
 -- What the code of a call sees of the run is its length and one lock. So what it ensures, it ensures of every run of that length with that lock.
 use Rattle.std.specs.Prelude.{◌≡◌, ℕ, List, eqb, length}
 use Rattle.std.specs.Borrow.{Bor}
-use Rattle.model.specs.Buffers.{Limits, ours, session_at, log_in, lengths_match}
+use Rattle.model.specs.Buffers.{Limits, session_at, log_in, lengths_match}
 use Rattle.model.specs.Load.{load_effect}
 use Rattle.model.specs.Plans.{require}
 use Rattle.model.specs.Slices.{Slice, caps_before, IsPart}
@@ -71,7 +71,7 @@ IsPeekPart values k m logs sessions s c r =
     (G : Limits) (classes : List ℕ) (L : List Lock) → length classes ≡ k → length L ≡ m
     → IsPart values logs (peek_shows s c (store_on G values.now classes L logs.now sessions)) r
 
--- the same over whole parameters: of a call, of a write by a table, of set-up by our caps and by a table, and of a table loaded
+-- the same over whole parameters: of a call, of a write by a table, of set-up by a table, and of a table loaded
 abbrev pub TakesOnRun : Call → Slice → Slice → ℕ → Lock → Slice → Sessions → Turn → Type 0
 TakesOnRun k values classes m l logs sessions r =
     IsTurn k values.entry.now classes.entry.now m l logs.entry.now sessions values.exit.now logs.exit.now r
@@ -79,10 +79,6 @@ TakesOnRun k values classes m l logs sessions r =
 abbrev pub WritesOnRun : Slice → ℕ → ℕ → ℕ → Slice → Slice → ℕ → Lock → Slice → Sessions → Turn → Type 0
 WritesOnRun caps s c v values classes m l logs sessions r =
     IsTurnUnder (caps_before caps) (Write s c v) c values.entry.now classes.entry.now m l logs.entry.now sessions values.exit.now logs.exit.now r
-
-abbrev pub SetsUpTurn : Slice → Slice → ℕ → Slice → Sessions → Turn → Type 0
-SetsUpTurn values classes m logs sessions r =
-    IsSetUpTurn ours values.entry.now classes.entry.now m logs.entry.now sessions logs.exit.now r
 
 abbrev pub SetsUpTurnBy : Slice → Slice → Slice → ℕ → Slice → Sessions → Turn → Type 0
 SetsUpTurnBy caps values classes m logs sessions r =

@@ -8,7 +8,7 @@ ghost use Rattle.model.specs.Slices.{as_lent};
 ghost use Rattle.records.specs.declared.Answer.TheVariants.{Refused};
 ghost use Rattle.records.specs.Records.{refusal_number};
 ghost use Rattle.run_changes.specs.Run.{on_run};
-ghost use Rattle.run_turns.specs.Turns.{lengths_on, only_answer, look_of, IsPeekPart, TakesOnRun, WritesOnRun, SetsUpTurn, SetsUpTurnBy, LoadsOnRun};
+ghost use Rattle.run_turns.specs.Turns.{lengths_on, only_answer, look_of, IsPeekPart, TakesOnRun, WritesOnRun, SetsUpTurnBy, LoadsOnRun};
 
 use records::{Answer, Call, Lock, Refusal, Reply, Sessions};
 use refusals::Lengths;
@@ -95,19 +95,6 @@ pub fn set_up_turn_by(
         },
         change: Change::Clear(n as u32),
     }
-}
-
-// The same by our table.
-pub fn set_up_turn(
-    sessions: Sessions,
-    values: &[u32],
-    classes: &[u8],
-    locks: usize,
-    logs: &mut [u32],
-) -> Turn
-    ensures { SetsUpTurn values classes locks (as_lent logs) sessions result }
-{
-    set_up_turn_by(sessions, values, classes, locks, logs, caps::ours())
 }
 
 // ---- a call, but for the run
