@@ -71,6 +71,7 @@ fn write_capped(log: &[u32], x: Session, cell: u32, value: u32, most: u32) -> Pl
 }
 
 // Write by a table, which need not pass: the cap is that of the cell's class.
+#[inline(always)]
 pub fn write_plan_by(
     caps: &[u32],
     log: &[u32],

@@ -43,6 +43,7 @@ fn run_calls(
     ensures same { page.new.output.ghost_name ≡ page.old.output.ghost_name }
     ensures text { PutsCalls input place page.old page.new (before ours (as_lent values) classes (as_lent readers) (as_lent claimants) (as_lent exclusives) (as_lent logs) sessions) }
 {
+    // The ordinal is printed, and indexes nothing.
     let mut ordinal: u32 = 1;
     loop {
         let next = next_at(input, place);
