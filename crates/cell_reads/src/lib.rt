@@ -8,6 +8,7 @@ ghost use Rattle.model.specs.ManyReads.{list_refusal};
 ghost use Rattle.model.specs.Slices.{as_lent};
 ghost use Rattle.records.specs.Records.{refusal_of};
 ghost use Rattle.session_log.specs.Slots.{found};
+ghost use Rattle.sweeps.specs.Sweeps.{marked, mark};
 ghost use Rattle.cell_reads.specs.Cells.{Fits, Covers, ReadsFit, current_of, SameReads, Enters, ReadsCell, ReadsCells};
 
 use records::Refusal;
@@ -59,15 +60,11 @@ struct Reads<'a> {
 }
 
 impl Reads<'_> {
-    // The present value of a cell that has an entry. A cell that is not in the set has none, and is not searched for.
-    fn known(&self, cell: u32) -> Option<u32>
-        requires { ReadsFit self.now × (cell < 1024) }
+    // The present value of a cell that has an entry.
+    fn value_of(&self, cell: u32) -> Option<u32>
+        requires { 4 * self.now.entries ≤ length self.now.log.now }
         ensures { found result ≡ current_of self.now.log.now (slot_in self.now.log.now self.now.entries cell) }
     {
-        let unmarked = !self.entered.contains(cell);
-        if unmarked {
-            return None;
-        }
         let place = look_ups::locate(self.log, self.entries, cell);
         if let Some(k) = place {
             return Some(session_log::current(self.log, k));
@@ -75,22 +72,35 @@ impl Reads<'_> {
         None
     }
 
+    // The same, and the cell is in the set from now on. One that was not in it has none, and is not searched for.
+    fn known(&mut self, cell: u32) -> Option<u32>
+        requires { ReadsFit self.old × (cell < 1024) }
+        ensures value { found result ≡ current_of self.old.log.now (slot_in self.old.log.now self.old.entries cell) }
+        ensures inserted { self.new ≡ record self.old { entered = mark self.old.entered cell } }
+    {
+        let unmarked = !self.entered.contains(cell);
+        self.entered.insert(cell);
+        if unmarked {
+            return None;
+        }
+        self.value_of(cell)
+    }
+
     // A new cell: the session joins its readers, and an entry is appended. The value.
     fn enter(&mut self, cell: u32) -> u32
-        requires { ReadsFit self.old × (self.old.entries < 32) × (cell < length self.old.values.now) }
+        requires { ReadsFit self.old × (self.old.entries < 32) × (cell < length self.old.values.now) × (marked self.old.entered cell ≡ true) }
         ensures kept { SameReads self.old self.new }
         ensures entered { Enters cell self.old self.new result }
     {
         let c = cell as usize;
         let value = self.values[c];
-        self.entered.insert(cell);
         self.readers[c] = lock::with_reader(self.readers[c], self.session);
         session_log::append(self.log, self.entries, cell, value);
         self.entries += 1;
         value
     }
 
-    // A known cell's value or a new cell's, or 3, 5 or 6 with all as before. The session is not rolled back here.
+    // A known cell's value or a new cell's, or 3, 5 or 6 with the reader sets and the log as before. The session is not rolled back here.
     #[tactic(auto, unfolding(crate::specs::Cells::read_cell, crate::specs::Cells::new_read), using(crate::proofs::Ways::slot_known, crate::proofs::Ways::slot_new))]
     fn read(&mut self, cell: u32) -> Result<u32, Refusal>
         requires { ReadsFit self.old }
