@@ -84,7 +84,7 @@ read_cells vs C s i (c ∷ cs) T R W k =
 -- past the tests, with the cells entered in the set
 abbrev pub ReadsFit : Reads → Type 0
 ReadsFit a =
-    Fits a.session (length a.values.now) (length a.readers.now) (length a.claimants.now) a.log.now a.entries × Covers a.entered a.log.now a.entries
+    Fits a.session (length a.values.now) (length a.readers.now) (length a.claimants.now) a.log.now a.entries × Covers a.entered.now a.log.now a.entries
 
 -- of the same values and claims, with the same two slices, whatever stands in these: so who lent them learns what stands there
 abbrev pub SameReads : Reads → Reads → Type 0
@@ -102,7 +102,7 @@ Enters c a b r =
     (r ≡ get_or a.values.now c 0)
     × (b.readers.now ≡ set a.readers.now c (with_reader a.session (get_or a.readers.now c 0)))
     × (b.log.now ≡ appended a.log.now a.entries c (get_or a.values.now c 0))
-    × (b.entries ≡ suc a.entries) × Covers b.entered b.log.now b.entries
+    × (b.entries ≡ suc a.entries) × Covers b.entered.now b.log.now b.entries
 
 -- the number of what reads came to: 101 where each got a value, else the refusal's
 abbrev pub number_of : {A : Type 0} → Result A Refusal → ℕ
@@ -120,7 +120,7 @@ answered b r = cell_read (number_of r) (value_of r) b.readers.now b.log.now b.en
 
 abbrev pub ReadsCell : ℕ → Reads → Reads → Result ℕ Refusal → Type 0
 ReadsCell c a b r =
-    (answered b r ≡ read_cell a.values.now a.claimants.now a.session a.readers.now a.log.now a.entries c) × Covers b.entered b.log.now b.entries
+    (answered b r ≡ read_cell a.values.now a.claimants.now a.session a.readers.now a.log.now a.entries c) × Covers b.entered.now b.log.now b.entries
 
 abbrev pub ReadsCells : Slice → Slice → Slice → Slice → ℕ → ℕ → Slice → Slice → CellsReply → Type 0
 ReadsCells values readers claimants log k s cells target r =

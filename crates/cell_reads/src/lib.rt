@@ -56,7 +56,7 @@ struct Reads<'a> {
     readers: &'a mut [u16],
     log: &'a mut [u32],
     entries: usize,
-    entered: CellSet,
+    entered: &'a mut CellSet,
 }
 
 impl Reads<'_> {
@@ -76,7 +76,8 @@ impl Reads<'_> {
     fn known(&mut self, cell: u32) -> Option<u32>
         requires { ReadsFit self.old × (cell < 1024) }
         ensures value { found result ≡ current_of self.old.log.now (slot_in self.old.log.now self.old.entries cell) }
-        ensures inserted { self.new ≡ record self.old { entered = mark self.old.entered cell } }
+        ensures kept { self.new ≡ record self.old { entered = self.new.entered } }
+        ensures inserted { self.new.entered.now ≡ mark self.old.entered.now cell }
     {
         let unmarked = !self.entered.contains(cell);
         self.entered.insert(cell);
@@ -88,7 +89,7 @@ impl Reads<'_> {
 
     // A new cell: the session joins its readers, and an entry is appended. The value.
     fn enter(&mut self, cell: u32) -> u32
-        requires { ReadsFit self.old × (self.old.entries < 32) × (cell < length self.old.values.now) × (marked self.old.entered cell ≡ true) }
+        requires { ReadsFit self.old × (self.old.entries < 32) × (cell < length self.old.values.now) × (marked self.old.entered.now cell ≡ true) }
         ensures kept { SameReads self.old self.new }
         ensures entered { Enters cell self.old self.new result }
     {
@@ -148,14 +149,15 @@ pub fn read_cells(
     requires { Fits session (length values.now) (length readers.old) (length claimants.now) log.old count × (length cells.now ≤ 32) × (length cells.now ≤ length target.old) }
     ensures { ReadsCells values (as_lent readers) claimants (as_lent log) count session cells (as_lent target) result }
 {
+    let mut entered = cells_of(log, count);
     let mut reads = Reads {
         values,
         claimants,
         session,
-        entered: cells_of(log, count),
         readers,
         log,
         entries: count,
+        entered: &mut entered,
     };
     for (i, cell) in cells.iter().enumerate() {
         match reads.read(*cell) {

@@ -4,8 +4,8 @@ use Rattle.cell_reads.proofs.Marks.{below_less}
 use Rattle.cell_reads.proofs.Ways.{fits_after, reads_end, reads_stop, reads_go_on}
 use Rattle.cell_reads.proofs.read_cells.Goals as goal
 
-pub cells_of-requires : goal.cells_of-requires
-cells_of-requires c =
+pub cells_of-entered-requires : goal.cells_of-entered-requires
+cells_of-entered-requires c =
     let f = c.requires.0 in
     (omega (arith, f.count, f.words), below_less _ _ _ _ f.few f.cells)
 
