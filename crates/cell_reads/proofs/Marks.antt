@@ -30,21 +30,19 @@ cell_low n log k i c b l e = rw e (below_is n (cell_at log) k b i l)
 
 -- ---- the marks
 
--- a cell marked: it and all that were
-pub marked_here : (entered : List ℕ) (c : ℕ) → length entered ≡ 16 → c < 1024 → marked (mark entered c) c ≡ true
+marked_here : (entered : List ℕ) (c : ℕ) → length entered ≡ 16 → c < 1024 → marked (mark entered c) c ≡ true
 marked_here entered c w l = marked_same entered c (omega arith)
 
 marked_more : (entered : List ℕ) (c d : ℕ) → length entered ≡ 16 → c < 1024 → marked entered d ≡ true → marked (mark entered c) d ≡ true
 marked_more entered c d w l h = same d c (λ e. rw e (marked_here entered c w l)) (λ n. marked_other entered c d (omega arith) n ∙ h)
 
-pub covers_more : (entered log : List ℕ) (k c : ℕ) → Covers entered log k → c < 1024 → Covers (mark entered c) log k
+-- a cell marked: it is, and all that were still are
+pub inserted : (entered log : List ℕ) (k c : ℕ) → Covers entered log k → c < 1024 → Covers (mark entered c) log k × (marked (mark entered c) c ≡ true)
 unfolding mark
-covers_more entered log k c v l =
-    record { words = rw length-set v.words; cells = λ j i. unfold mark in marked_more entered c (cell_at log j) v.words l (v.cells j i) }
-
--- before the first entry nothing need be marked
-pub covers_none : (entered log : List ℕ) → length entered ≡ 16 → Covers entered log 0
-covers_none entered log w = record { words = w; cells = λ j l. absurd (omega arith) }
+inserted entered log k c v l = (
+  record { words = rw length-set v.words; cells = λ j i. unfold mark in marked_more entered c (cell_at log j) v.words l (v.cells j i) },
+  unfold mark in marked_here entered c v.words l,
+)
 
 -- the next entry's cell is
 pub covers_next : (entered log : List ℕ) (k c : ℕ) → Covers entered log k → c ≡ cell_at log k → marked entered c ≡ true → Covers entered log (k + 1)

@@ -8,7 +8,7 @@ ghost use Rattle.model.specs.ManyReads.{list_refusal};
 ghost use Rattle.model.specs.Slices.{as_lent};
 ghost use Rattle.records.specs.Records.{refusal_of};
 ghost use Rattle.session_log.specs.Slots.{found};
-ghost use Rattle.sweeps.specs.Sweeps.{marked, mark};
+ghost use Rattle.sweeps.specs.Sweeps.{marked};
 ghost use Rattle.cell_reads.specs.Cells.{Fits, Covers, ReadsFit, current_of, SameReads, Enters, ReadsCell, ReadsCells};
 
 use records::Refusal;
@@ -33,7 +33,7 @@ pub fn list_refusal(cells: usize, target: usize) -> Result<(), Refusal>
 // ---- the cells in the log
 
 // The cells of the first count entries.
-#[tactic(auto, using(crate::proofs::Marks::cell_low, crate::proofs::Marks::covers_none))]
+#[tactic(auto, using(crate::proofs::Marks::cell_low))]
 fn cells_of(log: &[u32], count: usize) -> CellSet
     requires { (4 * count ≤ length log.now) × (below 1024 (cell_at log.now) count ≡ true) }
     ensures { Covers result log.now count }
@@ -65,11 +65,8 @@ impl Reads<'_> {
         requires { 4 * self.now.entries ≤ length self.now.log.now }
         ensures { found result ≡ current_of self.now.log.now (slot_in self.now.log.now self.now.entries cell) }
     {
-        let place = look_ups::locate(self.log, self.entries, cell);
-        if let Some(k) = place {
-            return Some(session_log::current(self.log, k));
-        }
-        None
+        let k = look_ups::locate(self.log, self.entries, cell)?;
+        Some(session_log::current(self.log, k))
     }
 
     // The same, and the cell is in the set from now on. One that was not in it has none, and is not searched for.
@@ -77,7 +74,7 @@ impl Reads<'_> {
         requires { ReadsFit self.old × (cell < 1024) }
         ensures value { found result ≡ current_of self.old.log.now (slot_in self.old.log.now self.old.entries cell) }
         ensures kept { self.new ≡ record self.old { entered = self.new.entered } }
-        ensures inserted { self.new.entered.now ≡ mark self.old.entered.now cell }
+        ensures inserted { Covers self.new.entered.now self.new.log.now self.new.entries × (marked self.new.entered.now cell ≡ true) }
     {
         let unmarked = !self.entered.contains(cell);
         self.entered.insert(cell);
