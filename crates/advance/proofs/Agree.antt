@@ -1,5 +1,5 @@
 -- An advance is decided at the entry that is due.
-use mathlib.Core.Path.{◌≡◌, refl, sym}
+use mathlib.Core.Path.{◌≡◌, refl, sym, ap}
 use mathlib.Core.Bool.{Bool, true, false, cond}
 use mathlib.Core.Option.{Option, none, some}
 use mathlib.Core.List.{List}
@@ -21,15 +21,18 @@ use Rattle.model.proofs.Laws.{below_is}
 use Rattle.session_log.specs.Slots.{slot_of, target_slot, is_more}
 use Rattle.session_log.proofs.Targets.{slot_some}
 use Rattle.advance.specs.Pieces.{due_at, due_on, due_cell, DueFits, advance_on, due_plan}
-use Rattle.advance.specs.declared.Due.{Due}
-use Rattle.advance.specs.declared.Due.TheVariants.{Refused, Slot}
+use Rattle.targets.specs.declared.Next.{Next}
+use Rattle.records.specs.declared.Refusal.{Refusal}
+use Rattle.records.specs.declared.Refusal.TheVariants.{WrongPhase, DamagedRecord}
+use Rattle.records.specs.Records.{refusal_number}
+use Rattle.std.specs.Prelude.{Result, Ok, Err}
 use Rattle.model.proofs.Passing.{Entries, entries_of}
 use Rattle.advance.proofs.Ways.{target_slot_lem}
 
 -- ---- advance: the entry that is due, with the lock of its cell
 
 module _ (n s : ℕ) (ks : List ℕ) (G : Limits) (log : List ℕ) (x : Session) (lock : ℕ → Lock) where
-  abbrev due_with : Due → Plan
+  abbrev due_with : Result Next Refusal → Plan
   due_with d = due_plan s log x (lock (due_cell log d)) d
 
   -- an entry of the lowest written cell is there
@@ -60,25 +63,27 @@ pub record Advancing (n : ℕ) (log : List ℕ) (x : Session) (k : ℕ) (more : 
   pub cell : cell_at log k < n
   pub left : more ≡ is_left log (cell_at log k) x
 
-not_slot : {r k : ℕ} {more : Bool} → Refused r ≡ Slot k more → ⊥
-not_slot e = let z : ◌≡◌ {A = ℕ} 0 1 = cc in omega arith
+not_due : {r : Refusal} {d : Next} → Err r ≡ Ok d → ⊥
+not_due e = cc
 
-picks : (log : List ℕ) (m : ℕ) (a b : Bool) (o : Option ℕ) {k : ℕ} {more : Bool} → cond a (cond b (due_at log m o) (Refused 2)) (Refused 9) ≡ Slot k more
-    → (a ≡ true) × (b ≡ true) × (o ≡ some k) × (more ≡ is_more log m (some k))
+picks : (log : List ℕ) (m : ℕ) (a b : Bool) (o : Option ℕ) {d : Next} → cond a (cond b (due_at log m o) (Err WrongPhase)) (Err DamagedRecord) ≡ Ok d
+    → (a ≡ true) × (b ≡ true) × (o ≡ some d.slot) × (d.more ≡ is_more log m (some d.slot))
 unfolding due_at
-picks log m true true none e = absurd (not_slot e)
-picks log m true true (some j) e = (refl, refl, cc, cc)
-picks log m true false o e = absurd (not_slot e)
-picks log m false b o e = absurd (not_slot e)
+picks log m true true none e = absurd (not_due e)
+picks log m true true (some j) {d} e =
+    let w : record { slot = j; more = is_more log m (some j) } ≡ d = cc in
+    (refl, refl, ap (λ (f : Next). some f.slot) w, rw (← w) refl)
+picks log m true false o e = absurd (not_due e)
+picks log m false b o e = absurd (not_due e)
 
 slot_below : (log : List ℕ) (m : ℕ) (o : Option ℕ) {k : ℕ} → slot_of log m o ≡ some k → k < m
 unfolding slot_of
 slot_below log m none e = nothing e
 slot_below log m (some c) e = (slot_some log m c e).0
 
-pub due_known : (n : ℕ) (log : List ℕ) (x : Session) (k : ℕ) (more : Bool) → due_on n log x ≡ Slot k more → Advancing n log x k more
+pub due_known : (n : ℕ) (log : List ℕ) (x : Session) (d : Next) → due_on n log x ≡ Ok d → Advancing n log x d.slot d.more
 unfolding due_on target_slot entries_fit is_more is_left
-due_known n log x k more e =
+due_known n log x d e =
     let w = picks log x.count (entries_fit n log x) (leb 2 x.phase) (target_slot log x.count x.next) e in
     let two = leb-true 2 x.phase w.1 in
     let fit = entries_of n log x w.0 (omega arith) in
@@ -88,44 +93,30 @@ due_known n log x k more e =
       upto = leb-true x.phase 4 (both_l (leb x.phase 4) _ w.0);
       entries = fit;
       slot = i;
-      cell = below_is n (cell_at log) x.count fit.cells k i;
+      cell = below_is n (cell_at log) x.count fit.cells d.slot i;
       left = w.3;
     }
 
-pub due_fits : (n : ℕ) (log : List ℕ) (x : Session) (d : Due) → d ≡ due_on n log x → DueFits d
+pub due_fits : (n : ℕ) (log : List ℕ) (x : Session) (r : Result Next Refusal) → r ≡ due_on n log x → DueFits r
 unfolding DueFits
-due_fits n log x (Refused r) e = tt
-due_fits n log x (Slot k more) e = let a = due_known n log x k more (sym e) in omega (arith, a.slot, a.entries.count)
+due_fits n log x (Err r) e = tt
+due_fits n log x (Ok d) e = let a = due_known n log x d (sym e) in omega (arith, a.slot, a.entries.count)
 
 -- ---- by what an advance found due
 
-module _ (d : Due) where
-  pub slot_fits : (k : ℕ) (more : Bool) → d ≡ Slot k more → DueFits d → k < 32
-  unfolding DueFits
-  slot_fits k more e h = rw e at h
+module _ (r : Result Next Refusal) (s : ℕ) (log : List ℕ) (x : Session) (l : Lock) where
+  pub plan_refused : (q : Refusal) → r ≡ Err q → due_plan s log x l r ≡ Refuse (refusal_number q)
+  unfolding due_plan
+  plan_refused q e = rw e
 
-  module _ (log : List ℕ) where
-    pub cell_refused : (r : ℕ) → d ≡ Refused r → 0 ≡ due_cell log d
-    unfolding due_cell
-    cell_refused r e = rw e
-
-    pub cell_due : (k c : ℕ) (more : Bool) → d ≡ Slot k more → c ≡ cell_at log k → c ≡ due_cell log d
-    unfolding due_cell
-    cell_due k c more e f = rw e f
-
-  module _ (s : ℕ) (log : List ℕ) (x : Session) (l : Lock) where
-    pub plan_refused : (r : ℕ) → d ≡ Refused r → due_plan s log x l d ≡ Refuse r
-    unfolding due_plan
-    plan_refused r e = rw e
-
-    pub plan_due : (k : ℕ) (more : Bool) → d ≡ Slot k more → advance_on log x l s k ≡ due_plan s log x l d
-    unfolding due_plan
-    plan_due k more e = rw e
+  pub plan_due : (d : Next) → r ≡ Ok d → advance_on log x l s d.slot ≡ due_plan s log x l r
+  unfolding due_plan
+  plan_due d e = rw e
 
 -- what is due, from the entry's side
-module _ (n : ℕ) (log : List ℕ) (x : Session) (k : ℕ) (more : Bool) (d : Slot k more ≡ due_on n log x) where
-  pub known : Advancing n log x k more
-  known = due_known n log x k more (sym d)
+module _ (n : ℕ) (log : List ℕ) (x : Session) (d : Next) (e : Ok d ≡ due_on n log x) where
+  pub known : Advancing n log x d.slot d.more
+  known = due_known n log x d (sym e)
 
-  pub left_at : (c : ℕ) → c ≡ cell_at log k → more ≡ is_left log c x
-  left_at c e = rw e known.left
+  pub left_at : (c : ℕ) → c ≡ cell_at log d.slot → d.more ≡ is_left log c x
+  left_at c q = rw q known.left

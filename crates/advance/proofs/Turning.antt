@@ -13,13 +13,13 @@ use Rattle.records.specs.declared.Plan.TheVariants.{Wait, Acquire, Publish, Rele
 use Rattle.records.specs.declared.Change.TheVariants as to
 use Rattle.records.specs.declared.Turn.{Turn}
 use Rattle.advance.specs.Pieces.{handled_by}
-use Rattle.advance.specs.declared.Handled.{Handled}
+use Rattle.records.specs.declared.SessionReply.{SessionReply}
 use Rattle.advance.proofs.Ways.{handled_is, released_is}
 
 -- p is the plan
 module _ (vs log : List ℕ) (x : Session) (p : Plan) where
   module _ (t : Turn) where
-    pub turn_published : (c v : ℕ) (more : Bool) (d : Handled) → p ≡ Publish c v → more ≡ is_left log c x → d ≡ handled_by more x c
+    pub turn_published : (c v : ℕ) (more : Bool) (d : SessionReply) → p ≡ Publish c v → more ≡ is_left log c x → d ≡ handled_by more x c
         → t ≡ record { answer = say.Moved; session = d.session; change = to.Keep }
         → leaves t.answer (set vs c v) log t.session t.change ≡ turn_of p vs log x
     unfolding turn_of
@@ -30,7 +30,7 @@ module _ (vs log : List ℕ) (x : Session) (p : Plan) where
     unfolding turn_of
     turn_waiting k h = rw h
 
-    module _ (more : Bool) (m : more ≡ is_left log c x) (d : Handled) (i : d ≡ handled_by more x c) where
+    module _ (more : Bool) (m : more ≡ is_left log c x) (d : SessionReply) (i : d ≡ handled_by more x c) where
       pub turn_acquired : p ≡ Acquire c → leaves say.Moved vs log d.session (to.Acquire c) ≡ turn_of p vs log x
       unfolding turn_of
       turn_acquired h = rw (h, i, handled_is log x c more m)

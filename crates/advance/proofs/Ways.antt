@@ -1,7 +1,7 @@
 -- One law for each way through an advance.
 use mathlib.Core.Path.{◌≡◌, sym, ap, ◌∙◌}
 use mathlib.Core.Bool.{Bool, true, false, not, ◌&&◌}
-use mathlib.Core.Option.{some}
+use mathlib.Core.Option.{Option, none, some}
 use mathlib.Core.List.{List}
 use Prim.Native.Nat.{ℕ, suc, ◌+◌, ◌<◌, ◌≤◌}
 use native.Mathlib.Numerals.{add-one}
@@ -21,12 +21,16 @@ use Rattle.records.specs.declared.Answer.TheVariants.{Moved, Waiting, Committed}
 use Rattle.records.specs.declared.Plan.{Plan}
 use Rattle.records.specs.declared.Plan.TheVariants.{RollBack, Wait, Acquire, Publish, Release}
 use Rattle.model.proofs.Sets.{others_told}
-use Rattle.model.proofs.Tools.{test}
-use Rattle.session_log.specs.Slots.{found, target_slot, is_more}
+use Rattle.model.proofs.Tools.{test, which}
+use Rattle.session_log.specs.Slots.{target_slot, is_more}
 use Rattle.session_log.proofs.Targets.{written_first, slot_some, target_some}
 use Rattle.advance.specs.Pieces.{due_at, due_on, advance_on, handled_by}
-use Rattle.advance.specs.declared.Due.TheVariants.{Refused, Slot}
-use Rattle.refusals.proofs.Ways.{found_here, found_nowhere}
+use Rattle.targets.specs.declared.Next.{Next}
+use Rattle.targets.specs.Told.{next_of, next_in}
+use Rattle.records.specs.declared.Refusal.TheVariants.{WrongPhase, DamagedRecord}
+use Rattle.records.specs.declared.SessionReply.{SessionReply}
+use Rattle.std.specs.Prelude as code
+use Rattle.std.specs.Prelude.{Ok, Err, None, Some}
 
 -- the lowest written cell has a first entry
 pub target_slot_lem : (log : List ℕ) (m from : ℕ) {c : ℕ} → target_in log m from ≡ some c
@@ -39,28 +43,32 @@ target_slot_lem log m from {c} e =
 module _ (n : ℕ) (log : List ℕ) (x : Session) where
   -- b is what the test of the entries answered
   module _ (b : Bool) (e : b ≡ entries_fit n log x) where
-    pub due_odd : b ≡ false → Refused 9 ≡ due_on n log x
+    pub due_odd : b ≡ false → Err DamagedRecord ≡ due_on n log x
     unfolding due_on
     due_odd h = simp (sym e ∙ h)
 
     module _ (h : b ≡ true) where
-      pub due_early : x.phase < 2 → Refused 2 ≡ due_on n log x
+      pub due_early : x.phase < 2 → Err WrongPhase ≡ due_on n log x
       unfolding due_on
       due_early l = simp (sym e ∙ h, lt-leb 2 x.phase l)
 
+      -- o is the first entry of the lowest written cell
       module _ (l : 2 ≤ x.phase) where
-        -- k is the place that the search for the lowest written cell answered
-        module _ (k : ℕ) (t : found x.count k ≡ target_slot log x.count x.next) where
-          pub due_none : x.count ≤ k → Refused 9 ≡ due_on n log x
-          unfolding due_on due_at
-          due_none i = simp (sym e ∙ h, le-leb 2 x.phase l, found_nowhere x.count k _ t i)
+        at : (o : Option ℕ) → target_slot log x.count x.next ≡ o → due_at log x.count o ≡ due_on n log x
+        unfolding due_on
+        at o q = simp (sym e ∙ h, le-leb 2 x.phase l, q)
 
-          pub due_some : k < x.count → (more : Bool) → more ≡ is_more log x.count (target_slot log x.count x.next) → Slot k more ≡ due_on n log x
-          unfolding due_on due_at
-          due_some i more m =
-              let q = found_here x.count k _ t i in
-              let w : more ≡ is_more log x.count (some k) = rw q at m in
-              simp (sym e ∙ h, le-leb 2 x.phase l, q, ← w)
+        -- r is what the search for it answered
+        module _ (r : code.Option Next) (t : r ≡ next_in log x.count x.next) where
+          pub due_none : r ≡ None → Err DamagedRecord ≡ due_on n log x
+          unfolding due_at
+          due_none i = which (target_slot log x.count x.next) (λ q. at none q) (λ k q. absurd (let z : None ≡ Some _ = sym i ∙ t ∙ ap (next_of log x.count) q in cc))
+
+          pub due_some : (d : Next) → r ≡ Some d → Ok d ≡ due_on n log x
+          unfolding due_at
+          due_some d i =
+              which (target_slot log x.count x.next) (λ q. absurd (let z : Some d ≡ None = sym i ∙ t ∙ ap (next_of log x.count) q in cc))
+              (λ k q. let z : Some d ≡ Some _ = sym i ∙ t ∙ ap (next_of log x.count) q in let w : d ≡ record { slot = k; more = is_more log x.count (some k) } = cc in rw w (at (some k) q))
 
 -- ---- advance
 
@@ -113,18 +121,21 @@ module _ (log : List ℕ) (x : Session) (l : Lock) (s k d : ℕ) (e : d ≡ cell
     unfolding advance_on
     advance_releases i = simp (ne_eqb x.phase 2 h, ne_eqb x.phase 3 i, e)
 
+abbrev reply : Answer → Session → SessionReply
+reply a y = record { answer = a; session = y }
+
 -- y is the record that is handed back
 module _ (x : Session) (c : ℕ) (more : Bool) (y : Session) where
-  pub handle_next : more ≡ true → y ≡ move_to x.phase (c + 1) x → record { session = y; answer = Moved } ≡ handled_by more x c
+  pub handle_next : more ≡ true → y ≡ move_to x.phase (c + 1) x → reply Moved y ≡ handled_by more x c
   unfolding handled_by
   handle_next h e = rw (e, add-one, h) (test (eqb x.phase 4) (λ p. rw p) (λ p. rw p))
 
   module _ (h : more ≡ false) where
-    pub handle_rests : x.phase ≡ 4 → y ≡ idle → record { session = y; answer = Committed } ≡ handled_by more x c
+    pub handle_rests : x.phase ≡ 4 → y ≡ idle → reply Committed y ≡ handled_by more x c
     unfolding handled_by
     handle_rests p e = simp (h, eq-eqb x.phase 4 p, e)
 
-    pub handle_raises : (x.phase ≡ 4 → ⊥) → y ≡ move_to (suc x.phase) 0 x → record { session = y; answer = Moved } ≡ handled_by more x c
+    pub handle_raises : (x.phase ≡ 4 → ⊥) → y ≡ move_to (suc x.phase) 0 x → reply Moved y ≡ handled_by more x c
     unfolding handled_by
     handle_raises p e = simp (h, ne_eqb x.phase 4 p, e)
 

@@ -10,7 +10,9 @@ use Rattle.records.specs.declared.Lock.{Lock}
 use Rattle.records.specs.declared.Call.{Call}
 use Rattle.records.specs.declared.Call.TheVariants.{Begin, Read, Write, Seal, Advance, Abandon, Peek, Hold}
 use Rattle.advance.specs.Pieces.{due_on, due_plan}
-use Rattle.advance.specs.declared.Due.{Due}
+use Rattle.targets.specs.declared.Next.{Next}
+use Rattle.records.specs.declared.Refusal.{Refusal}
+use Rattle.std.specs.Prelude.{Result}
 use Rattle.advance.proofs.Agree.{advance_agree}
 use Rattle.any_call.specs.AnyCall.{cell_for, plan_with}
 
@@ -27,6 +29,6 @@ one_lock (Peek s c) n ks log x f = refl
 one_lock (Hold s c) n ks log x f = refl
 
 -- an advance decides by that of the entry that is due
-pub advances : (n s : ℕ) (vs ks log : List ℕ) (x : Session) (l : Lock) (d : Due) → d ≡ due_on n log x → {t : TurnEffect} → t ≡ turn_of (due_plan s log x l d) vs log x
+pub advances : (n s : ℕ) (vs ks log : List ℕ) (x : Session) (l : Lock) (d : Result Next Refusal) → d ≡ due_on n log x → {t : TurnEffect} → t ≡ turn_of (due_plan s log x l d) vs log x
     → t ≡ turn_of (plan_with (Advance s) n ks log x l) vs log x
 advances n s vs ks log x l d e h = rw e at h ∙ ap (λ p. turn_of p vs log x) (advance_agree n s ks ours log x (λ c. l))

@@ -24,16 +24,9 @@ pub extern "C" fn rukkanei_set_up(
 ) -> SetUpReply
     ensures { SetsUpInNumbers values classes (as_lent readers) (as_lent claimants) (as_lent exclusives) (as_lent logs) sessions result }
 {
-    let reply = set_up::set_up(
+    SetUpReply::from(set_up::set_up(
         sessions, values, classes, readers, claimants, exclusives, logs,
-    );
-    let answer = reply.answer;
-    let after = reply.sessions;
-    SetUpReply {
-        number: answer.number() as u32,
-        value: answer.value(),
-        sessions: after,
-    }
+    ))
 }
 
 // Set-up by a table: 100, 7, 16 or 8.
@@ -50,16 +43,9 @@ pub extern "C" fn rukkanei_set_up_with_caps(
 ) -> SetUpReply
     ensures { SetsUpInNumbersBy caps values classes (as_lent readers) (as_lent claimants) (as_lent exclusives) (as_lent logs) sessions result }
 {
-    let reply = set_up::set_up_with_caps(
+    SetUpReply::from(set_up::set_up_with_caps(
         sessions, values, classes, readers, claimants, exclusives, logs, caps,
-    );
-    let answer = reply.answer;
-    let after = reply.sessions;
-    SetUpReply {
-        number: answer.number() as u32,
-        value: answer.value(),
-        sessions: after,
-    }
+    ))
 }
 
 // A load of a table of caps: 100, 7, 2, 16, 8 or 17.
@@ -77,16 +63,9 @@ pub extern "C" fn rukkanei_load_caps(
 ) -> SetUpReply
     ensures { LoadsInNumbers (as_lent caps) table values classes readers claimants exclusives logs sessions result }
 {
-    let reply = store::load_caps(
+    SetUpReply::from(store::load_caps(
         sessions, values, classes, readers, claimants, exclusives, logs, caps, table,
-    );
-    let answer = reply.answer;
-    let after = reply.sessions;
-    SetUpReply {
-        number: answer.number() as u32,
-        value: answer.value(),
-        sessions: after,
-    }
+    ))
 }
 
 // Begin: 100, or a refusal.
@@ -185,7 +164,7 @@ pub extern "C" fn rukkanei_write(
 ) -> NumberReply
     ensures { TakesInNumbers (Write session cell written) values classes (as_lent readers) (as_lent claimants) (as_lent exclusives) (as_lent logs) x result }
 {
-    numbers::in_numbers(store::write(
+    NumberReply::from(store::write(
         x, values, classes, readers, claimants, exclusives, logs, session, cell, written,
     ))
 }
@@ -207,7 +186,7 @@ pub extern "C" fn rukkanei_write_with_caps(
 ) -> NumberReply
     ensures { TakesInNumbersBy caps (Write session cell written) values classes (as_lent readers) (as_lent claimants) (as_lent exclusives) (as_lent logs) x result }
 {
-    numbers::in_numbers(store::write_with_caps(
+    NumberReply::from(store::write_with_caps(
         x, values, classes, readers, claimants, exclusives, logs, caps, session, cell, written,
     ))
 }
@@ -245,7 +224,7 @@ pub extern "C" fn rukkanei_advance(
 ) -> NumberReply
     ensures { TakesInNumbers (Advance session) (as_lent values) classes (as_lent readers) (as_lent claimants) (as_lent exclusives) logs x result }
 {
-    numbers::in_numbers(store::advance(
+    NumberReply::from(store::advance(
         x, values, classes, readers, claimants, exclusives, logs, session,
     ))
 }
@@ -264,7 +243,7 @@ pub extern "C" fn rukkanei_abandon(
 ) -> NumberReply
     ensures { TakesInNumbers (Abandon session) values classes (as_lent readers) (as_lent claimants) (as_lent exclusives) logs x result }
 {
-    numbers::in_numbers(store::abandon(
+    NumberReply::from(store::abandon(
         x, values, classes, readers, claimants, exclusives, logs, session,
     ))
 }
@@ -284,7 +263,7 @@ pub extern "C" fn rukkanei_peek_number(
 ) -> NumberReply
     ensures { TakesInNumbers (Peek session cell) values classes readers claimants exclusives logs x result }
 {
-    numbers::in_numbers(peeks::peek_number(
+    NumberReply::from(peeks::peek_number(
         x, values, classes, readers, claimants, exclusives, logs, session, cell,
     ))
 }
@@ -308,13 +287,15 @@ pub extern "C" fn rukkanei_peek_place(
     let p = peeks::peek_plan(
         x, values, classes, readers, claimants, exclusives, logs, session, cell,
     );
-    if let Plan::ShowStore(c) = p {
-        *index = c as usize;
-        return 1;
+    match p {
+        Plan::ShowStore(c) => {
+            *index = c as usize;
+            1
+        }
+        Plan::ShowLog(k) => {
+            *index = numbers::shown_at(session, k);
+            2
+        }
+        _ => 0,
     }
-    if let Plan::ShowLog(k) = p {
-        *index = numbers::shown_at(session, k);
-        return 2;
-    }
-    0
 }

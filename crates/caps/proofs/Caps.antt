@@ -1,6 +1,5 @@
--- The model's tests of a table and of classes, as the library's tests of each element.
-use Rattle.std.proofs.Common.{◌≡◌, ◌∙◌, refl, ap, arith, ℕ, ◌+◌, ◌≤◌, ◌<◌, add-one, ◌&&◌, true, false, List, [], ◌∷◌, length, drop}
-use Rattle.std.specs.List.{list_all}
+-- What one element more makes of the model's tests of classes, of values and of a table.
+use Rattle.std.proofs.Common.{◌≡◌, ◌∙◌, arith, ℕ, ◌+◌, ◌≤◌, ◌<◌, add-one, ◌&&◌, true, false, List, length, drop}
 use Rattle.std.proofs.lemmas.Bool.{le-ltb, lt-ltb}
 use lib.Dec.{ltb}
 use lib.ListN.{get_or, drop_of_length-le}
@@ -8,10 +7,21 @@ use lib.Seq.{drop-cons}
 use Rattle.model.specs.Buffers.{rise_from, fits, all_fit}
 use Rattle.model.specs.Load.{all_classed}
 
-pub all_classed_is : (ks : List ℕ) → list_all (λ k. ltb k 16) ks ≡ all_classed ks
+-- what one class more makes of the test
+module _ (ks : List ℕ) (i : ℕ) (h : i < length ks) where
+  class_step : all_classed (drop i ks) ≡ (ltb (get_or ks i 0) 16 && all_classed (drop (i + 1) ks))
+  unfolding all_classed
+  class_step = rw (drop-cons ks i 0 h, add-one)
+
+  pub class_stops : 15 < get_or ks i 0 → all_classed (drop i ks) ≡ false
+  class_stops q = class_step ∙ rw (le-ltb (get_or ks i 0) 16 q)
+
+  pub class_goes_on : get_or ks i 0 ≤ 15 → all_classed (drop i ks) ≡ all_classed (drop (i + 1) ks)
+  class_goes_on q = class_step ∙ rw (lt-ltb (get_or ks i 0) 16 (omega arith))
+
+pub class_ends : (ks : List ℕ) (i : ℕ) → length ks ≤ i → all_classed (drop i ks) ≡ true
 unfolding all_classed
-all_classed_is [] = refl
-all_classed_is (k ∷ ks) = ap (λ b. ltb k 16 && b) (all_classed_is ks)
+class_ends ks i h = rw (drop_of_length-le ks h)
 
 -- what one cell more makes of the test
 module _ (T vs ks : List ℕ) (i : ℕ) (h : i < length vs) (e : length ks ≡ length vs) where

@@ -11,37 +11,38 @@ use lib.Dec.{leb, ltb, eqb}
 use borrow.Author.Tests.{leb-true}
 use Rattle.field.specs.declared.Kind.{Kind}
 use Rattle.field.specs.declared.Call.{Call}
-use Rattle.field.specs.declared.TagLayout.{TagLayout}
-use Rattle.field.specs.declared.TagLayout.TheVariants.{Known, Unknown}
-use Rattle.field.specs.declared.Reading.TheVariants.{Field, End, Refused}
+use Rattle.field.specs.declared.Layout.{Layout}
+use Rattle.std.specs.Prelude.{Option, Some, None}
 use Rattle.field.specs.LittleEndian.{number_at}
-use Rattle.field.specs.Answer.{cut_short, wrong_length}
+use Rattle.field.specs.declared.Refusal.{Refusal}
+use Rattle.field.specs.declared.Refusal.TheVariants.{CutShort, WrongLength}
 use Rattle.field.specs.Table.{layout_of}
-use Rattle.field.specs.Field.{call_at, reading_of, reading_at}
+use Rattle.field.specs.Field.{field, end, refused, call_at, reading_of, reading_at}
 use Rattle.field.specs.RoundTrip.{Bytes, Reads, ends, goes, writes}
+use Rattle.field.proofs.Readings.{same_field}
 use Rattle.field.proofs.RoundTrip.{found, written_again}
 
 -- Two readings from one place are the same.
 pub one_reading : {file : List ℕ} {place : ℕ} {cs ds : List Call} → Reads file place cs → Reads file place ds → cs ≡ ds
 one_reading (ends e) (ends f) = refl
-one_reading (ends e) (goes f r) = absurd (let z : ◌≡◌ {A = ℕ} 0 1 = cc in omega arith)
-one_reading (goes e r) (ends f) = absurd (let z : ◌≡◌ {A = ℕ} 0 1 = cc in omega arith)
+one_reading (ends e) (goes f r) = absurd cc
+one_reading (goes e r) (ends f) = absurd cc
 one_reading {file} {place} (goes {n = n} {c = c} {cs = cs} e r) (goes {n = m} {c = d} {cs = ds} f q) =
-    let long : n ≡ m = cc in
-    let here : c ≡ d = cc in
-    let rest : cs ≡ ds = one_reading r (subst (λ (i : ℕ). Reads file (place + i) ds) (sym long) q) in
+    let same = same_field (sym e ∙ f) in
+    let rest : cs ≡ ds = one_reading r (subst (λ (i : ℕ). Reads file (place + i) ds) (sym same.2) q) in
+    let here : c ≡ d = same.1 in
     cc
 
 -- The reader says the end only where no byte is left.
-refused_or_field : (b d : Bool) (k : Kind) (c : Call) (n p x y : ℕ) → cond b (Refused x p) (cond d (Refused y p) (Field k c n)) ≡ End → ⊥
-refused_or_field true d k c n p x y e = let z : ◌≡◌ {A = ℕ} 0 1 = cc in omega arith
-refused_or_field false true k c n p x y e = let z : ◌≡◌ {A = ℕ} 0 1 = cc in omega arith
-refused_or_field false false k c n p x y e = let z : ◌≡◌ {A = ℕ} 0 1 = cc in omega arith
+refused_or_field : (b d : Bool) (k : Kind) (c : Call) (n p : ℕ) (x y : Refusal) → cond b (refused x p) (cond d (refused y p) (field k c n)) ≡ end → ⊥
+refused_or_field true d k c n p x y e = cc
+refused_or_field false true k c n p x y e = cc
+refused_or_field false false k c n p x y e = cc
 
-no_end : (t : TagLayout) (bytes : List ℕ) (place : ℕ) → reading_of t bytes place ≡ End → ⊥
+no_end : (t : Option Layout) (bytes : List ℕ) (place : ℕ) → reading_of t bytes place ≡ end → ⊥
 unfolding reading_of
-no_end Unknown bytes place e = let z : ◌≡◌ {A = ℕ} 0 1 = cc in omega arith
-no_end (Known l) bytes place e =
+no_end None bytes place e = cc
+no_end (Some l) bytes place e =
     refused_or_field
     (not (eqb (number_at bytes (place + 1) 2) l.length))
     (ltb (length bytes - place) (3 + l.length))
@@ -49,16 +50,16 @@ no_end (Known l) bytes place e =
     (call_at bytes (place + 3) (get_or bytes place 0) l)
     (3 + l.length)
     place
-    wrong_length
-    cut_short
+    WrongLength
+    CutShort
     e
 
-end_test : (b d : Bool) (t : TagLayout) (bytes : List ℕ) (place : ℕ) → cond b End (cond d (Refused cut_short place) (reading_of t bytes place)) ≡ End → b ≡ true
+end_test : (b d : Bool) (t : Option Layout) (bytes : List ℕ) (place : ℕ) → cond b end (cond d (refused CutShort place) (reading_of t bytes place)) ≡ end → b ≡ true
 end_test true d t bytes place e = refl
-end_test false true t bytes place e = absurd (let z : ◌≡◌ {A = ℕ} 0 1 = cc in omega arith)
+end_test false true t bytes place e = absurd cc
 end_test false false t bytes place e = absurd (no_end t bytes place e)
 
-pub ended : (bytes : List ℕ) (place : ℕ) → reading_at bytes place ≡ End → length bytes ≤ place
+pub ended : (bytes : List ℕ) (place : ℕ) → reading_at bytes place ≡ end → length bytes ≤ place
 unfolding reading_at
 ended bytes place e =
     leb-true (length bytes) place (end_test (leb (length bytes) place) (ltb (length bytes - place) 3) (layout_of (get_or bytes place 0)) bytes place e)

@@ -12,9 +12,8 @@ use mir.ValLaws.{and_both}
 use Rattle.field.specs.declared.Kind.{Kind}
 use Rattle.field.specs.declared.Kind.TheVariants.{Write, StartingCell}
 use Rattle.field.specs.declared.Call.{Call}
-use Rattle.field.specs.declared.Reading.TheVariants.{Field, End}
 use Rattle.field.specs.Table.{layout, table, find, layout_of}
-use Rattle.field.specs.Field.{call, reading_at, writing_of, writing}
+use Rattle.field.specs.Field.{call, field, end, reading_at, writing_of, writing}
 use Rattle.field.specs.RoundTrip.{Bytes, Fitting, carried, Reads, ends, goes, writes}
 use Rattle.field.proofs.RoundTrip.{reads_back}
 use Rattle.field.proofs.Files.{file_back}
@@ -32,11 +31,11 @@ pub largest_fits : (t : ℕ) → Fitting (largest t)
 largest_fits t = fits (largest t) (omega arith) (omega arith) (omega arith) (omega arith)
 
 -- Written and read back: as a write, without its class; as a starting cell, without session and cell.
-pub largest_write : reading_at (writing (replicate 12 0xee) (largest 3)).target 0 ≡ Field Write (call 3 255 0 65535 4294967295) 10
+pub largest_write : reading_at (writing (replicate 12 0xee) (largest 3)).target 0 ≡ field Write (call 3 255 0 65535 4294967295) 10
 unfolding layout_of find table carried writing writing_of
 largest_write = reads_back (replicate 12 0xee) (largest 3) (layout Write 7 1 0 2 4) (largest_fits 3) refl refl
 
-pub largest_cell : reading_at (writing (replicate 12 0xee) (largest 8)).target 0 ≡ Field StartingCell (call 8 0 255 0 4294967295) 8
+pub largest_cell : reading_at (writing (replicate 12 0xee) (largest 8)).target 0 ≡ field StartingCell (call 8 0 255 0 4294967295) 8
 unfolding layout_of find table carried writing writing_of
 largest_cell = reads_back (replicate 12 0xee) (largest 8) (layout StartingCell 5 0 1 0 4) (largest_fits 8) refl refl
 
@@ -51,10 +50,10 @@ are_bytes (b ∷ bs) h zero = ltb→lt b 256 (and_both (ltb b 256) (all_bytes bs
 are_bytes (b ∷ bs) h (suc i) = are_bytes bs (and_both (ltb b 256) (all_bytes bs) h).1 i
 
 -- Nothing more is asked of a reading than what the reader says at each place.
-pub reads_end : (bytes : List ℕ) (place : ℕ) → reading_at bytes place ≡ End → Reads bytes place []
+pub reads_end : (bytes : List ℕ) (place : ℕ) → reading_at bytes place ≡ end → Reads bytes place []
 reads_end bytes place e = ends e
 
-pub reads_on : (bytes : List ℕ) (place n : ℕ) (k : Kind) (c : Call) (cs : List Call) → reading_at bytes place ≡ Field k c n → Reads bytes (place + n) cs
+pub reads_on : (bytes : List ℕ) (place n : ℕ) (k : Kind) (c : Call) (cs : List Call) → reading_at bytes place ≡ field k c n → Reads bytes (place + n) cs
     → Reads bytes place (c ∷ cs)
 reads_on bytes place n k c cs e r = goes e r
 

@@ -1,6 +1,5 @@
--- Laws of bodies, of the table, of the reader and of the writer (up to `Writings`), and the theorems on fields (`RoundTrip`, `Files`, `Worked`, `Instances`, and in
+-- Laws of the table, of the reader and of the writer (up to `Writings`), and the theorems on fields (`RoundTrip`, `Files`, `Worked`, `Instances`, and in
 -- `Readings` that on a refusal's place).
-pub mod Bodies
 pub mod Rows
 pub mod Readings
 pub mod Writings

@@ -12,18 +12,18 @@ use lib.Dec.{leb, ltb, eqb}
 use borrow.Author.Tests.{ltb-true, ltb-false, eqb-true, ne_eqb}
 use Rattle.field.specs.declared.Kind.{Kind}
 use Rattle.field.specs.declared.Layout.{Layout}
-use Rattle.field.specs.declared.TagLayout.{TagLayout}
-use Rattle.field.specs.declared.TagLayout.TheVariants.{Known, Unknown}
+use Rattle.std.specs.Prelude.{Option, Some, None}
 use Rattle.field.specs.declared.Call.{Call}
-use Rattle.field.specs.declared.Reading.TheVariants.{Field, End, Refused}
 use Rattle.field.specs.LittleEndian.{number, number_at, bytes_of}
 use Rattle.little_endian.specs.LittleEndian.{Whole}
 use Rattle.field.specs.Table.{Proper, layout_of}
-use Rattle.field.specs.Answer.{done, cut_short, unknown_tag, wrong_length, short_target}
-use Rattle.field.specs.Field.{call_at, reading_of, reading_at, body_of, field_of, WriteReply, write_reply, writing}
+use Rattle.field.specs.declared.Refusal.{Refusal}
+use Rattle.field.specs.declared.Refusal.TheVariants.{CutShort, UnknownTag, WrongLength}
+use Rattle.field.specs.Answer.{done, short_target}
+use Rattle.field.specs.Field.{field, end, refused, call_at, reading_of, reading_at, body_of, field_of, WriteReply, write_reply, writing}
 use Rattle.field.specs.RoundTrip.{Bytes, Fitting, kept, carried}
 use Rattle.field.proofs.Rows.{proper}
-use Rattle.field.proofs.Readings.{accepted}
+use Rattle.field.proofs.Readings.{accepted, same_field}
 use Rattle.field.proofs.Writings.{length-bytes_of, small, length-field, short, written}
 use Rattle.little_endian.proofs.Numbers.{all_of}
 use Rattle.field.proofs.Inverse.{limit, back, there, runs}
@@ -51,8 +51,8 @@ shape c l after =
     ap (λ (r : List ℕ). c.tag ∷ r) (append_assoc (bytes_of 2 l.length) (body_of l c) after ∙ ap (λ (r : List ℕ). bytes_of 2 l.length ++ r) (simp append_assoc))
 
 -- A field that stands anywhere among bytes is read there, with the numbers that the tag does not carry as 0.
-pub read_anywhere : (c : Call) (l : Layout) (before after : List ℕ) → Fitting c → layout_of c.tag ≡ Known l
-    → reading_at (before ++ (field_of l c ++ after)) (length before) ≡ Field l.kind (carried l c) (3 + l.length)
+pub read_anywhere : (c : Call) (l : Layout) (before after : List ℕ) → Fitting c → layout_of c.tag ≡ Some l
+    → reading_at (before ++ (field_of l c ++ after)) (length before) ≡ field l.kind (carried l c) (3 + l.length)
 unfolding call_at carried
 read_anywhere c l before after fits known =
     let p : Proper l = proper c.tag l known in
@@ -100,8 +100,8 @@ test false f g = g refl
 
 -- What the writer put into a target is read from it as the same call, with the numbers that the tag does not carry as 0 and the length that
 -- the writer answered, whatever stands after it.
-pub reads_back : (target : List ℕ) (c : Call) (l : Layout) → Fitting c → layout_of c.tag ≡ Known l → (writing target c).number ≡ done
-    → reading_at (writing target c).target 0 ≡ Field l.kind (carried l c) (writing target c).length
+pub reads_back : (target : List ℕ) (c : Call) (l : Layout) → Fitting c → layout_of c.tag ≡ Some l → (writing target c).number ≡ done
+    → reading_at (writing target c).target 0 ≡ field l.kind (carried l c) (writing target c).length
 reads_back target c l fits known h =
     test (ltb (length target) (3 + l.length))
     (λ over. absurd (let e : short_target ≡ done = ap (λ (w : WriteReply). w.number) (short target c l known (ltb-true _ _ over)) ∙ h in omega arith))
@@ -112,7 +112,7 @@ reads_back target c l fits known h =
 -- What the reader found where it gave a field.
 pub record Found (bytes : List ℕ) (place : ℕ) (k : Kind) (c : Call) (n : ℕ) : Type 0 where
   pub layout : Layout
-  pub known : layout_of (get_or bytes place 0) ≡ Known layout
+  pub known : layout_of (get_or bytes place 0) ≡ Some layout
   pub own : number_at bytes (place + 1) 2 ≡ layout.length
   pub inside : place + (3 + layout.length) ≤ length bytes
   pub kind : k ≡ layout.kind
@@ -120,39 +120,40 @@ pub record Found (bytes : List ℕ) (place : ℕ) (k : Kind) (c : Call) (n : ℕ
   pub long : n ≡ 3 + layout.length
 
 module _ (bytes : List ℕ) (place : ℕ) (k : Kind) (c : Call) (n : ℕ) where
-  end_is_none : End ≡ Field k c n → Found bytes place k c n
-  end_is_none e = absurd (let z : ◌≡◌ {A = ℕ} 0 1 = cc in omega arith)
+  end_is_none : end ≡ field k c n → Found bytes place k c n
+  end_is_none e = absurd cc
 
-  refused_is_none : (number : ℕ) → Refused number place ≡ Field k c n → Found bytes place k c n
-  refused_is_none number e = absurd (let z : ◌≡◌ {A = ℕ} 0 1 = cc in omega arith)
+  refused_is_none : (r : Refusal) → refused r place ≡ field k c n → Found bytes place k c n
+  refused_is_none r e = absurd cc
 
-  in_body : (l : Layout) (b d : Bool) → layout_of (get_or bytes place 0) ≡ Known l → eqb (number_at bytes (place + 1) 2) l.length ≡ b → ltb (length bytes - place) (3 + l.length) ≡ d
-      → cond (not b) (Refused wrong_length place) (cond d (Refused cut_short place) (Field l.kind (call_at bytes (place + 3) (get_or bytes place 0) l) (3 + l.length))) ≡ Field k c n
+  in_body : (l : Layout) (b d : Bool) → layout_of (get_or bytes place 0) ≡ Some l → eqb (number_at bytes (place + 1) 2) l.length ≡ b → ltb (length bytes - place) (3 + l.length) ≡ d
+      → cond (not b) (refused WrongLength place) (cond d (refused CutShort place) (field l.kind (call_at bytes (place + 3) (get_or bytes place 0) l) (3 + l.length))) ≡ field k c n
       → Found bytes place k c n
   in_body l true false known e f h =
+      let same = same_field h in
       record {
         layout = l;
         known = known;
         own = eqb-true _ _ e;
         inside = omega (arith, ltb-false (length bytes - place) (3 + l.length) f);
-        kind = cc;
-        read = cc;
-        long = cc;
+        kind = sym same.0;
+        read = sym same.1;
+        long = sym same.2;
       }
-  in_body l true true known e f h = refused_is_none cut_short h
-  in_body l false d known e f h = refused_is_none wrong_length h
+  in_body l true true known e f h = refused_is_none CutShort h
+  in_body l false d known e f h = refused_is_none WrongLength h
 
-  in_field : (t : TagLayout) → layout_of (get_or bytes place 0) ≡ t → reading_of t bytes place ≡ Field k c n → Found bytes place k c n
+  in_field : (t : Option Layout) → layout_of (get_or bytes place 0) ≡ t → reading_of t bytes place ≡ field k c n → Found bytes place k c n
   unfolding reading_of
-  in_field Unknown known h = refused_is_none unknown_tag h
-  in_field (Known l) known h = in_body l _ _ known refl refl h
+  in_field None known h = refused_is_none UnknownTag h
+  in_field (Some l) known h = in_body l _ _ known refl refl h
 
-  in_head : (b d : Bool) → cond b End (cond d (Refused cut_short place) (reading_of (layout_of (get_or bytes place 0)) bytes place)) ≡ Field k c n → Found bytes place k c n
+  in_head : (b d : Bool) → cond b end (cond d (refused CutShort place) (reading_of (layout_of (get_or bytes place 0)) bytes place)) ≡ field k c n → Found bytes place k c n
   in_head true d h = end_is_none h
-  in_head false true h = refused_is_none cut_short h
+  in_head false true h = refused_is_none CutShort h
   in_head false false h = in_field _ refl h
 
-  pub found : reading_at bytes place ≡ Field k c n → Found bytes place k c n
+  pub found : reading_at bytes place ≡ field k c n → Found bytes place k c n
   unfolding reading_at
   found h = in_head (leb (length bytes) place) (ltb (length bytes - place) 3) h
 
@@ -197,7 +198,7 @@ same_bytes bytes place l ok p own inside =
 
 -- Every field that is read is byte for byte what the writer gives for the call that was read: in any target that is long enough it writes
 -- the bytes from the place on, as many as the reader said.
-pub written_again : (bytes : List ℕ) (place : ℕ) (k : Kind) (c : Call) (n : ℕ) → Bytes bytes → reading_at bytes place ≡ Field k c n
+pub written_again : (bytes : List ℕ) (place : ℕ) (k : Kind) (c : Call) (n : ℕ) → Bytes bytes → reading_at bytes place ≡ field k c n
     → (target : List ℕ) → n ≤ length target → writing target c ≡ write_reply done n (take n (drop place bytes) ++ drop n target)
 unfolding call_at
 written_again bytes place k c n ok h target room =

@@ -10,7 +10,7 @@ use lib.ListN.{length, drop, set, length-append}
 use lib.Seq.{sets, sets-eq}
 use borrow.Author.Tests.{lt-ltb, le-ltb}
 use Rattle.field.specs.declared.Layout.{Layout}
-use Rattle.field.specs.declared.TagLayout.TheVariants.{Known, Unknown}
+use Rattle.std.specs.Prelude.{Some, None}
 use Rattle.field.specs.declared.Call.{Call}
 use Rattle.little_endian.specs.LittleEndian.{bytes_of, Whole}
 use Rattle.field.specs.Table.{Proper, layout_of}
@@ -75,11 +75,11 @@ body_stores l c t t₁ t₂ t₃ t₄ e₁ e₂ e₃ e₄ =
 -- ---- the writer's answers
 
 module _ (target : List ℕ) (c : Call) where
-  pub unknown : layout_of c.tag ≡ Unknown → write_reply unknown_tag 0 target ≡ writing target c
+  pub unknown : layout_of c.tag ≡ None → write_reply unknown_tag 0 target ≡ writing target c
   unfolding writing writing_of
   unknown e = rw e
 
-  module _ (l : Layout) (known : layout_of c.tag ≡ Known l) where
+  module _ (l : Layout) (known : layout_of c.tag ≡ Some l) where
     pub short : length target < 3 + l.length → write_reply short_target 0 target ≡ writing target c
     unfolding writing writing_of
     short h = simp (known, lt-ltb _ _ h)

@@ -1,6 +1,8 @@
 -- The numbers with which a field is answered (document 01, "The steps" and "When a call is turned down").
 -- Assumes nothing.
 use Rattle.std.specs.Prelude.{ℕ}
+use Rattle.field.specs.declared.Refusal.{Refusal}
+use Rattle.field.specs.declared.Refusal.TheVariants.{CutShort, UnknownTag, WrongLength, ShortTarget}
 
 -- A field was read or written.
 abbrev pub done : ℕ
@@ -25,3 +27,10 @@ wrong_length = 12
 -- A target with fewer bytes than the field.
 abbrev pub short_target : ℕ
 short_target = 13
+
+-- The number of each refusal.
+abbrev pub number_of : Refusal → ℕ
+number_of CutShort = cut_short
+number_of UnknownTag = unknown_tag
+number_of WrongLength = wrong_length
+number_of ShortTarget = short_target

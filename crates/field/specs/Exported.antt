@@ -1,9 +1,8 @@
 -- What the exported reader answers to C, and what it leaves in the numbers that it was lent.
 -- Assumes nothing.
-use Rattle.std.specs.Prelude.{ℕ}
-use Rattle.field.specs.declared.Reading.{Reading}
-use Rattle.field.specs.declared.Reading.TheVariants.{Field, End, Refused}
-use Rattle.field.specs.Answer.{done, end_of_fields}
+use Rattle.std.specs.Prelude.{ℕ, Some, None, Ok, Err}
+use Rattle.field.specs.Answer.{done, end_of_fields, number_of}
+use Rattle.field.specs.Field.{Reading}
 
 -- The lent numbers.
 pub record Lent : Type 0 where
@@ -26,6 +25,6 @@ read_reply n o = record { number = n; left = o }
 
 -- A field puts its numbers and its length into the lent numbers. The end and a refusal leave them as before.
 unfoldable pub handing : Reading → Lent → ReadReply
-handing (Field k c n) o = read_reply done (lent c.tag c.session c.class c.cell c.value n)
-handing End o = read_reply end_of_fields o
-handing (Refused number place) o = read_reply number o
+handing (Ok (Some f)) o = read_reply done (lent f.call.tag f.call.session f.call.class f.call.cell f.call.value f.length)
+handing (Ok None) o = read_reply end_of_fields o
+handing (Err r) o = read_reply (number_of r.refusal) o

@@ -5,8 +5,7 @@ use Rattle.std.specs.Prelude.{ℕ, ◌+◌, ◌<◌, ◌≡◌, List, [], ◌∷
 use Rattle.field.specs.declared.Kind.{Kind}
 use Rattle.field.specs.declared.Layout.{Layout}
 use Rattle.field.specs.declared.Call.{Call}
-use Rattle.field.specs.declared.Reading.TheVariants.{Field, End}
-use Rattle.field.specs.Field.{call, reading_at, writing}
+use Rattle.field.specs.Field.{call, field, end, reading_at, writing}
 
 -- Every element is a byte.
 abbrev pub Bytes : List ℕ → Type 0
@@ -29,8 +28,8 @@ carried l c = call c.tag (kept l.session c.session) (kept l.class c.class) (kept
 
 -- Read field by field from a place on, the file gives these calls, each from where the one before it ended, and then its end.
 pub data Reads : List ℕ → ℕ → List Call → Type 0 where
-  ends : {file : List ℕ} {place : ℕ} → reading_at file place ≡ End → Reads file place []
-  goes : {file : List ℕ} {place n : ℕ} {k : Kind} {c : Call} {cs : List Call} → reading_at file place ≡ Field k c n → Reads file (place + n) cs → Reads file place (c ∷ cs)
+  ends : {file : List ℕ} {place : ℕ} → reading_at file place ≡ end → Reads file place []
+  goes : {file : List ℕ} {place n : ℕ} {k : Kind} {c : Call} {cs : List Call} → reading_at file place ≡ field k c n → Reads file (place + n) cs → Reads file place (c ∷ cs)
 
 -- Calls written one after the other, each by the writer into what is left of the target.
 unfoldable pub writes : List Call → List ℕ → List ℕ

@@ -1,12 +1,10 @@
 -- The table of tags (document 01, "Call fields"; hold's: document 02, Paper 4).
 -- Assumes nothing.
-use Rattle.std.specs.Prelude.{ℕ, ◌+◌, ◌≡◌, List, [], ◌∷◌, cond, eqb}
+use Rattle.std.specs.Prelude.{ℕ, ◌+◌, ◌≡◌, List, [], ◌∷◌, cond, eqb, Option, Some, None}
 use Rattle.little_endian.specs.LittleEndian.{Whole}
 use Rattle.field.specs.declared.Kind.{Kind}
 use Rattle.field.specs.declared.Kind.TheVariants.{Begin, Read, Write, Seal, Advance, Abandon, StartingCell, Hold}
 use Rattle.field.specs.declared.Layout.{Layout}
-use Rattle.field.specs.declared.TagLayout.{TagLayout}
-use Rattle.field.specs.declared.TagLayout.TheVariants.{Known, Unknown}
 
 -- A layout, from a kind, a body's length and the bytes that a session, a class, a cell and a value take in the body, in this order.
 abbrev pub layout : Kind → ℕ → ℕ → ℕ → ℕ → ℕ → Layout
@@ -35,12 +33,12 @@ table =
     ∷ []
 
 -- The layout in the first of some rows that has the tag.
-unfoldable pub find : ℕ → List Row → TagLayout
-find t [] = Unknown
-find t (r ∷ rows) = cond (eqb t r.tag) (Known r.layout) (find t rows)
+unfoldable pub find : ℕ → List Row → Option Layout
+find t [] = None
+find t (r ∷ rows) = cond (eqb t r.tag) (Some r.layout) (find t rows)
 
 -- A tag's layout; a tag that the table lacks is unknown.
-unfoldable pub layout_of : ℕ → TagLayout
+unfoldable pub layout_of : ℕ → Option Layout
 layout_of t = find t table
 
 -- What the code relies on in a layout. It is no rule of its own: every row of the table has it (`proofs/Rows.antt`).

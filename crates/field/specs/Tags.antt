@@ -1,12 +1,10 @@
 -- The 256 tags: which are known, and what a field of each known one is (document 01, "Call fields"; 09: document 02, Paper 4). A new tag adds its
 -- row here; proofs/Worked.antt finds by computation that these are all.
 -- Assumes nothing.
-use Rattle.std.specs.Prelude.{ℕ, zero, suc, List, [], ◌∷◌}
+use Rattle.std.specs.Prelude.{ℕ, zero, suc, List, [], ◌∷◌, Option, Some, None}
 use Rattle.field.specs.declared.Kind.{Kind}
 use Rattle.field.specs.declared.Kind.TheVariants.{Begin, Read, Write, Seal, Advance, Abandon, StartingCell, Hold}
 use Rattle.field.specs.declared.Layout.{Layout}
-use Rattle.field.specs.declared.TagLayout.{TagLayout}
-use Rattle.field.specs.declared.TagLayout.TheVariants.{Known, Unknown}
 use Rattle.field.specs.Table.{layout, layout_of}
 
 -- A known tag with its layout.
@@ -18,9 +16,9 @@ abbrev pub tag_row : ℕ → Kind → ℕ → ℕ → ℕ → ℕ → ℕ → Kn
 tag_row t k n s c e v = known_tag t (layout k n s c e v)
 
 -- The known ones among so many tags from one on, in order, each with the layout that the definitions give.
-unfoldable pub if_known : ℕ → TagLayout → List KnownTag → List KnownTag
-if_known t Unknown rest = rest
-if_known t (Known l) rest = known_tag t l ∷ rest
+unfoldable pub if_known : ℕ → Option Layout → List KnownTag → List KnownTag
+if_known t None rest = rest
+if_known t (Some l) rest = known_tag t l ∷ rest
 
 unfoldable pub known_among : ℕ → ℕ → List KnownTag
 known_among zero t = []

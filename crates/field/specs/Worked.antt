@@ -5,9 +5,9 @@ use Rattle.std.specs.Prelude.{ℕ, ◌-◌, List, [], ◌∷◌, ◌++◌, repli
 use Rattle.field.specs.declared.Kind.{Kind}
 use Rattle.field.specs.declared.Kind.TheVariants.{Begin, Read, Write, Seal, Advance, Abandon, StartingCell, Hold}
 use Rattle.field.specs.declared.Call.{Call}
-use Rattle.field.specs.declared.Reading.{Reading}
-use Rattle.field.specs.declared.Reading.TheVariants.{Field, End, Refused}
-use Rattle.field.specs.Field.{call, reading_at, WriteReply, write_reply, writing}
+use Rattle.field.specs.declared.Refusal.{Refusal}
+use Rattle.field.specs.declared.Refusal.TheVariants.{CutShort, UnknownTag, WrongLength}
+use Rattle.field.specs.Field.{call, Reading, field, end, refused, reading_at, WriteReply, write_reply, writing}
 use Rattle.field.specs.Exported.{Lent, lent, ReadReply, read_reply, handing}
 
 -- The numbers that are lent to the exported reader, as they are before the call.
@@ -31,7 +31,7 @@ field_row k b c n =
     record {
       bytes = b;
       given = call c.tag 0xb2 0xa1 0x4321 0x89abcdef;
-      reading = Field k c n;
+      reading = field k c n;
       read_reply = read_reply 100 (lent c.tag c.session c.class c.cell c.value n);
       write_reply = write_reply 100 n (b ++ replicate (12 - n) 0xee);
     }
@@ -66,9 +66,9 @@ fields =
 pub data ReadRow : Type 0 where
   read_row : List ℕ → ℕ → Reading → ReadReply → ReadRow
 
--- A refusal's row, from bytes, place and number: the place is the field's first byte, and all is as before.
-abbrev pub refused_row : List ℕ → ℕ → ℕ → ReadRow
-refused_row b p n = read_row b p (Refused n p) (read_reply n before)
+-- A refusal's row, from bytes, place, refusal and number: the place is the field's first byte, and all is as before.
+abbrev pub refused_row : List ℕ → ℕ → Refusal → ℕ → ReadRow
+refused_row b p r n = read_row b p (refused r p) (read_reply n before)
 
 -- The row with what the definitions give.
 unfoldable pub read_there : ReadRow → ReadRow
@@ -77,36 +77,36 @@ read_there (read_row b p r h) = read_row b p (reading_at b p) (handing (reading_
 unfoldable pub readings : List ReadRow
 readings =
     -- no bytes left is 106: none at all, at the end, past it
-    read_row [] 0 End (read_reply 106 before)
-    ∷ read_row (0x01 ∷ 0x01 ∷ 0x00 ∷ 0x02 ∷ []) 4 End (read_reply 106 before)
-    ∷ read_row (0x01 ∷ 0x01 ∷ 0x00 ∷ 0x02 ∷ []) 5 End (read_reply 106 before)
+    read_row [] 0 end (read_reply 106 before)
+    ∷ read_row (0x01 ∷ 0x01 ∷ 0x00 ∷ 0x02 ∷ []) 4 end (read_reply 106 before)
+    ∷ read_row (0x01 ∷ 0x01 ∷ 0x00 ∷ 0x02 ∷ []) 5 end (read_reply 106 before)
     -- fewer than three bytes left is 10, also where the tag is unknown
-    ∷ refused_row (0x01 ∷ []) 0 10
-    ∷ refused_row (0x01 ∷ 0x07 ∷ 0x00 ∷ []) 1 10
+    ∷ refused_row (0x01 ∷ []) 0 CutShort 10
+    ∷ refused_row (0x01 ∷ 0x07 ∷ 0x00 ∷ []) 1 CutShort 10
     -- then 11: the tags beside those that are known, and the last
-    ∷ refused_row (0x00 ∷ 0x01 ∷ 0x00 ∷ 0x02 ∷ []) 0 11
-    ∷ refused_row (0x07 ∷ 0x01 ∷ 0x00 ∷ 0x02 ∷ []) 0 11
-    ∷ refused_row (0x0a ∷ 0x01 ∷ 0x00 ∷ 0x02 ∷ []) 0 11
-    ∷ refused_row (0xff ∷ 0x01 ∷ 0x00 ∷ 0x02 ∷ []) 0 11
+    ∷ refused_row (0x00 ∷ 0x01 ∷ 0x00 ∷ 0x02 ∷ []) 0 UnknownTag 11
+    ∷ refused_row (0x07 ∷ 0x01 ∷ 0x00 ∷ 0x02 ∷ []) 0 UnknownTag 11
+    ∷ refused_row (0x0a ∷ 0x01 ∷ 0x00 ∷ 0x02 ∷ []) 0 UnknownTag 11
+    ∷ refused_row (0xff ∷ 0x01 ∷ 0x00 ∷ 0x02 ∷ []) 0 UnknownTag 11
     -- 11 whatever the length, and with no body
-    ∷ refused_row (0x01 ∷ 0x01 ∷ 0x00 ∷ 0x02 ∷ 0x07 ∷ 0xff ∷ 0xff ∷ []) 4 11
+    ∷ refused_row (0x01 ∷ 0x01 ∷ 0x00 ∷ 0x02 ∷ 0x07 ∷ 0xff ∷ 0xff ∷ []) 4 UnknownTag 11
     -- then 12: one less and one more than the tag's own, and more by the second byte
-    ∷ refused_row (0x02 ∷ 0x02 ∷ 0x00 ∷ 0x02 ∷ 0x05 ∷ 0x00 ∷ 0x00 ∷ []) 0 12
-    ∷ refused_row (0x02 ∷ 0x04 ∷ 0x00 ∷ 0x02 ∷ 0x05 ∷ 0x00 ∷ 0x00 ∷ []) 0 12
-    ∷ refused_row (0x02 ∷ 0x03 ∷ 0x01 ∷ 0x02 ∷ 0x05 ∷ 0x00 ∷ 0x00 ∷ []) 0 12
-    ∷ refused_row (0x09 ∷ 0x02 ∷ 0x00 ∷ 0x02 ∷ 0x05 ∷ 0x00 ∷ 0x00 ∷ []) 0 12
-    ∷ refused_row (0x09 ∷ 0x04 ∷ 0x00 ∷ 0x02 ∷ 0x05 ∷ 0x00 ∷ 0x00 ∷ []) 0 12
-    ∷ refused_row (0x09 ∷ 0x03 ∷ 0x01 ∷ 0x02 ∷ 0x05 ∷ 0x00 ∷ 0x00 ∷ []) 0 12
+    ∷ refused_row (0x02 ∷ 0x02 ∷ 0x00 ∷ 0x02 ∷ 0x05 ∷ 0x00 ∷ 0x00 ∷ []) 0 WrongLength 12
+    ∷ refused_row (0x02 ∷ 0x04 ∷ 0x00 ∷ 0x02 ∷ 0x05 ∷ 0x00 ∷ 0x00 ∷ []) 0 WrongLength 12
+    ∷ refused_row (0x02 ∷ 0x03 ∷ 0x01 ∷ 0x02 ∷ 0x05 ∷ 0x00 ∷ 0x00 ∷ []) 0 WrongLength 12
+    ∷ refused_row (0x09 ∷ 0x02 ∷ 0x00 ∷ 0x02 ∷ 0x05 ∷ 0x00 ∷ 0x00 ∷ []) 0 WrongLength 12
+    ∷ refused_row (0x09 ∷ 0x04 ∷ 0x00 ∷ 0x02 ∷ 0x05 ∷ 0x00 ∷ 0x00 ∷ []) 0 WrongLength 12
+    ∷ refused_row (0x09 ∷ 0x03 ∷ 0x01 ∷ 0x02 ∷ 0x05 ∷ 0x00 ∷ 0x00 ∷ []) 0 WrongLength 12
     -- 12 also with no body
-    ∷ refused_row (0xff ∷ 0x03 ∷ 0x08 ∷ 0x00 ∷ []) 1 12
+    ∷ refused_row (0xff ∷ 0x03 ∷ 0x08 ∷ 0x00 ∷ []) 1 WrongLength 12
     -- then a short body 10: its last byte is missing, or all of it
-    ∷ refused_row (0x03 ∷ 0x07 ∷ 0x00 ∷ 0x02 ∷ 0x05 ∷ 0x00 ∷ 0x2a ∷ 0x00 ∷ 0x00 ∷ []) 0 10
-    ∷ refused_row (0x09 ∷ 0x03 ∷ 0x00 ∷ 0x02 ∷ 0x05 ∷ []) 0 10
-    ∷ refused_row (0xff ∷ 0xff ∷ 0x01 ∷ 0x01 ∷ 0x00 ∷ []) 2 10
+    ∷ refused_row (0x03 ∷ 0x07 ∷ 0x00 ∷ 0x02 ∷ 0x05 ∷ 0x00 ∷ 0x2a ∷ 0x00 ∷ 0x00 ∷ []) 0 CutShort 10
+    ∷ refused_row (0x09 ∷ 0x03 ∷ 0x00 ∷ 0x02 ∷ 0x05 ∷ []) 0 CutShort 10
+    ∷ refused_row (0xff ∷ 0xff ∷ 0x01 ∷ 0x01 ∷ 0x00 ∷ []) 2 CutShort 10
     -- else 100, with bytes before and after the field
-    ∷ read_row (0xff ∷ 0x03 ∷ 0x07 ∷ 0x00 ∷ 0x02 ∷ 0x05 ∷ 0x00 ∷ 0x2a ∷ 0x00 ∷ 0x00 ∷ 0x00 ∷ 0xff ∷ []) 1 (Field Write (call 3 2 0 5 42) 10)
+    ∷ read_row (0xff ∷ 0x03 ∷ 0x07 ∷ 0x00 ∷ 0x02 ∷ 0x05 ∷ 0x00 ∷ 0x2a ∷ 0x00 ∷ 0x00 ∷ 0x00 ∷ 0xff ∷ []) 1 (field Write (call 3 2 0 5 42) 10)
     (read_reply 100 (lent 3 2 0 5 42 10))
-    ∷ read_row (0xff ∷ 0x09 ∷ 0x03 ∷ 0x00 ∷ 0x02 ∷ 0x05 ∷ 0x00 ∷ 0xff ∷ []) 1 (Field Hold (call 9 2 0 5 0) 6) (read_reply 100 (lent 9 2 0 5 0 6))
+    ∷ read_row (0xff ∷ 0x09 ∷ 0x03 ∷ 0x00 ∷ 0x02 ∷ 0x05 ∷ 0x00 ∷ 0xff ∷ []) 1 (field Hold (call 9 2 0 5 0) 6) (read_reply 100 (lent 9 2 0 5 0 6))
     ∷ []
 
 -- ---- the writer's answers, in order (the same section)

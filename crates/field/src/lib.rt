@@ -7,7 +7,8 @@ mod tags;
 ghost use Rattle.std.specs.Prelude.{◌≡◌, ◌+◌, ◌≤◌, length};
 ghost use Rattle.std.proofs.lemmas.List.Edits.{sets};
 ghost use Rattle.field.specs.Table.{Proper};
-ghost use Rattle.field.specs.Field.{call_at, reading_at, body_of, write_reply, writing};
+ghost use Rattle.field.specs.Answer.{number_of};
+ghost use Rattle.field.specs.Field.{refused, call_at, reading_at, body_of, reply_of, writing};
 
 // What a field is.
 #[derive(Clone, Copy)]
@@ -34,13 +35,6 @@ pub struct Layout {
     pub value: usize,
 }
 
-// A tag's layout, where the tag has one.
-#[derive(Clone, Copy)]
-pub enum TagLayout {
-    Known(Layout),
-    Unknown,
-}
-
 // A call, or a starting cell, as numbers. `value` is document 01's figure.
 #[derive(Clone, Copy)]
 pub struct Call {
@@ -51,40 +45,57 @@ pub struct Call {
     pub value: u32,
 }
 
-// What stands at a place: a field with its numbers and its length in bytes; the end, where no byte is left; or a refusal's number and the
-// place of the field's first byte.
+// A field: what it is, its numbers, and its length in bytes.
 #[derive(Clone, Copy)]
-pub enum Reading {
-    Field {
-        kind: Kind,
-        call: Call,
-        length: usize,
-    },
-    End,
-    Refused(u8, usize),
-}
-
-// The writer's answer: the number, and the field's length or, with a refusal, 0.
-#[derive(Clone, Copy)]
-pub struct Written {
-    pub number: u8,
+pub struct Field {
+    pub kind: Kind,
+    pub call: Call,
     pub length: usize,
 }
 
-// The answers.
+// Why a field is not read, or a call not written.
+#[derive(Clone, Copy, PartialEq, Eq)]
+pub enum Refusal {
+    CutShort = 10,
+    UnknownTag = 11,
+    WrongLength = 12,
+    ShortTarget = 13,
+}
+
+impl Refusal {
+    // Document 01's number.
+    pub fn number(self) -> u8
+        ensures { result ≡ number_of self }
+    {
+        self as u8
+    }
+
+    // The refusal of the field whose first byte is at `place`.
+    fn at(self, place: usize) -> Refused
+        ensures { Err result ≡ refused self place }
+    {
+        Refused {
+            refusal: self,
+            place,
+        }
+    }
+}
+
+// A refusal, and the place of the refused field's first byte.
+#[derive(Clone, Copy, PartialEq, Eq)]
+pub struct Refused {
+    pub refusal: Refusal,
+    pub place: usize,
+}
+
+// The number of a field that was read or written.
 pub const DONE: u8 = 100;
 
+// The number where no byte is left.
 pub const END_OF_FIELDS: u8 = 106;
 
-pub const CUT_SHORT: u8 = 10;
-
-pub const UNKNOWN_TAG: u8 = 11;
-
-pub const WRONG_LENGTH: u8 = 12;
-
-pub const SHORT_TARGET: u8 = 13;
-
 // The numbers of the body that starts at `at`.
+#[tactic(auto, unfolding(crate::specs::Field::call_at))]
 fn read_body(bytes: &[u8], at: usize, tag: u8, own: Layout) -> Call
     requires proper { Proper own }
     requires room { at + own.length ≤ length bytes.now }
@@ -95,45 +106,43 @@ fn read_body(bytes: &[u8], at: usize, tag: u8, own: Layout) -> Call
     let value_at = cell_at + own.cell;
     Call {
         tag,
-        session: little_endian::byte_at(bytes, at, own.session),
-        class: little_endian::byte_at(bytes, class_at, own.class),
-        cell: little_endian::word_at(bytes, cell_at, own.cell),
-        value: little_endian::long_at(bytes, value_at, own.value),
+        session: little_endian::read(bytes, at, own.session),
+        class: little_endian::read(bytes, class_at, own.class),
+        cell: little_endian::read(bytes, cell_at, own.cell),
+        value: little_endian::read(bytes, value_at, own.value),
     }
 }
 
-// The field that starts at `place`. Any place is taken: at the end of `bytes` and past it no byte is left.
-pub fn read_field(bytes: &[u8], place: usize) -> Reading
+// The field that starts at `place`, or none where no byte is left: any place is taken, also the end of `bytes` and past it.
+#[tactic(auto, using(crate::proofs::Readings::at_end, crate::proofs::Readings::short_head, crate::proofs::Readings::other_length, crate::proofs::Readings::short_body))]
+pub fn read_field(bytes: &[u8], place: usize) -> Result<Option<Field>, Refused>
     ensures { result ≡ reading_at bytes.now place }
 {
     if bytes.len() <= place {
-        return Reading::End;
+        return Ok(None);
     }
     let left = bytes.len() - place;
     if left < 3 {
-        return Reading::Refused(CUT_SHORT, place);
+        return Err(Refusal::CutShort.at(place));
     }
     let tag = bytes[place];
-    let TagLayout::Known(own) = tags::layout_of(tag) else {
-        return Reading::Refused(UNKNOWN_TAG, place);
-    };
+    let own = tags::layout_of(tag).ok_or(Refusal::UnknownTag.at(place))?;
     let length = own.length;
-    if little_endian::wide(little_endian::word_at(bytes, place + 1, 2)) != length {
-        return Reading::Refused(WRONG_LENGTH, place);
+    if usize::from(little_endian::read::<u16>(bytes, place + 1, 2)) != length {
+        return Err(Refusal::WrongLength.at(place));
     }
     if left < 3 + length {
-        return Reading::Refused(CUT_SHORT, place);
+        return Err(Refusal::CutShort.at(place));
     }
-    let kind = own.kind;
-    let call = read_body(bytes, place + 3, tag, own);
-    Reading::Field {
-        kind,
-        call,
+    Ok(Some(Field {
+        kind: own.kind,
+        call: read_body(bytes, place + 3, tag, own),
         length: 3 + length,
-    }
+    }))
 }
 
 // Puts the numbers of `call` into the body, which starts at index 3.
+#[tactic(auto, using(crate::proofs::Writings::body_stores))]
 fn write_body(target: &mut [u8], own: Layout, call: Call)
     requires proper { Proper own }
     requires room { 3 + own.length ≤ length target.old }
@@ -142,36 +151,26 @@ fn write_body(target: &mut [u8], own: Layout, call: Call)
     let class_at = 3 + own.session;
     let cell_at = class_at + own.class;
     let value_at = cell_at + own.cell;
-    little_endian::put_byte(target, 3, own.session, call.session);
-    little_endian::put_byte(target, class_at, own.class, call.class);
-    little_endian::put_word(target, cell_at, own.cell, call.cell);
-    little_endian::put_long(target, value_at, own.value, call.value);
+    little_endian::write(target, 3, own.session, call.session);
+    little_endian::write(target, class_at, own.class, call.class);
+    little_endian::write(target, cell_at, own.cell, call.cell);
+    little_endian::write(target, value_at, own.value, call.value);
 }
 
-// Puts the field of `call` at the front of `target`.
-pub fn write_field(target: &mut [u8], call: Call) -> Written
-    ensures { write_reply result.number result.length target.new ≡ writing target.old call }
+// Puts the field of `call` at the front of `target`, and answers its length. A refusal leaves the target.
+#[tactic(auto, using(crate::proofs::Writings::short))]
+pub fn write_field(target: &mut [u8], call: Call) -> Result<usize, Refusal>
+    ensures { reply_of result target.new ≡ writing target.old call }
 {
     let tag = call.tag;
-    let TagLayout::Known(own) = tags::layout_of(tag) else {
-        return Written {
-            number: UNKNOWN_TAG,
-            length: 0,
-        };
-    };
+    let own = tags::layout_of(tag).ok_or(Refusal::UnknownTag)?;
     let length = own.length;
     let whole = 3 + length;
     if target.len() < whole {
-        return Written {
-            number: SHORT_TARGET,
-            length: 0,
-        };
+        return Err(Refusal::ShortTarget);
     }
     target[0] = tag;
-    little_endian::put_word(target, 1, 2, length as u16);
+    little_endian::write(target, 1, 2, length as u16);
     write_body(target, own, call);
-    Written {
-        number: DONE,
-        length: whole,
-    }
+    Ok(whole)
 }

@@ -1,9 +1,8 @@
 // The tags: what each says of its field.
-ghost use Rattle.std.specs.Prelude.{◌≡◌};
+ghost use Rattle.std.specs.Prelude.{◌≡◌, Some};
 ghost use Rattle.field.specs.Table.{layout, layout_of};
-ghost use Rattle.field.specs.declared.TagLayout.TheVariants.{Known};
 
-use crate::{Kind, Layout, TagLayout};
+use crate::{Kind, Layout};
 
 // A line of the table: the kind, the body's length, and the bytes that session, class, cell and value take in it.
 fn known(
@@ -13,10 +12,10 @@ fn known(
     class: usize,
     cell: usize,
     value: usize,
-) -> TagLayout
-    ensures { result ≡ Known (layout kind length session class cell value) }
+) -> Option<Layout>
+    ensures { result ≡ Some (layout kind length session class cell value) }
 {
-    TagLayout::Known(Layout {
+    Some(Layout {
         kind,
         length,
         session,
@@ -28,7 +27,7 @@ fn known(
 
 // The layout of a tag, by the tag byte.
 #[tactic(auto, unfolding(crate::specs::Table::layout_of, crate::specs::Table::find, crate::specs::Table::table))]
-pub(crate) fn layout_of(tag: u8) -> TagLayout
+pub(crate) fn layout_of(tag: u8) -> Option<Layout>
     ensures { result ≡ layout_of tag }
 {
     match tag {
@@ -40,6 +39,6 @@ pub(crate) fn layout_of(tag: u8) -> TagLayout
         0x06 => known(Kind::Abandon, 1, 1, 0, 0, 0),
         0x08 => known(Kind::StartingCell, 5, 0, 1, 0, 4),
         0x09 => known(Kind::Hold, 3, 1, 0, 2, 0),
-        0x00 | 0x07 | 0x0a..=0xff => TagLayout::Unknown,
+        0x00 | 0x07 | 0x0a..=0xff => None,
     }
 }

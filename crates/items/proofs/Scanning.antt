@@ -14,18 +14,15 @@ use Rattle.field.specs.declared.Kind.{Kind}
 use Rattle.field.specs.declared.Kind.TheVariants as kind
 use Rattle.field.specs.declared.Call.{Call as Numbers}
 use Rattle.field.specs.declared.Layout.{Layout}
-use Rattle.field.specs.declared.TagLayout.{TagLayout}
-use Rattle.field.specs.declared.TagLayout.TheVariants.{Known}
-use Rattle.field.specs.declared.Reading.{Reading}
-use Rattle.field.specs.declared.Reading.TheVariants as reading
-use Rattle.field.specs.Field.{reading_at}
+use Rattle.std.specs.Prelude.{Option, Some, None, Ok, Err}
+use Rattle.field.specs.Field.{Reading, reading_at}
 use Rattle.field.specs.Table.{Row, table, find, layout_of}
 use Rattle.field.proofs.Readings.{at_end}
 use Rattle.field.proofs.RoundTrip.{found}
-use Rattle.items.specs.declared.Next.{Next}
 use Rattle.items.specs.declared.Next.TheVariants as next
-use Rattle.items.specs.Items.{next_of_field, next_of, Item, cell, asked, following, items_within, items_at, values, classes, later}
-use Rattle.items.specs.Leading.{Leading}
+use Rattle.items.specs.Items.{Standing, next_of_field, next_of, Item, cell, asked, following, items_within, items_at, values, classes, later}
+use Rattle.items.specs.declared.Cell.{Cell}
+use Rattle.items.specs.Leading.{cell_of, Leading}
 
 -- ---- every field has a body
 
@@ -33,20 +30,20 @@ abbrev all_long : List Row → Bool
 all_long [] = true
 all_long (r ∷ rows) = leb 1 r.layout.length && all_long rows
 
-long_or : (b d : Bool) (l m : Layout) (rest : TagLayout) → T (leb 1 m.length && d) → cond b (Known m) rest ≡ Known l → (T d → rest ≡ Known l → 1 ≤ l.length) → 1 ≤ l.length
+long_or : (b d : Bool) (l m : Layout) (rest : Option Layout) → T (leb 1 m.length && d) → cond b (Some m) rest ≡ Some l → (T d → rest ≡ Some l → 1 ≤ l.length) → 1 ≤ l.length
 long_or b d l m rest h e f = split (leb 1 m.length) refl h b e
   where
-    split : (a : Bool) → leb 1 m.length ≡ a → T (a && d) → (b : Bool) → cond b (Known m) rest ≡ Known l → 1 ≤ l.length
+    split : (a : Bool) → leb 1 m.length ≡ a → T (a && d) → (b : Bool) → cond b (Some m) rest ≡ Some l → 1 ≤ l.length
     split true y h true e = let same : m ≡ l = cc in subst (λ (x : Layout). 1 ≤ x.length) same (leb-true 1 m.length y)
     split true y h false e = f h e
     split false y h b e = absurd h
 
-long_in : (t : ℕ) (rows : List Row) (l : Layout) → T (all_long rows) → find t rows ≡ Known l → 1 ≤ l.length
+long_in : (t : ℕ) (rows : List Row) (l : Layout) → T (all_long rows) → find t rows ≡ Some l → 1 ≤ l.length
 unfolding find
-long_in t [] l h e = absurd (let z : ◌≡◌ {A = ℕ} 0 1 = cc in omega arith)
+long_in t [] l h e = absurd cc
 long_in t (r ∷ rows) l h e = long_or (eqb t r.tag) (all_long rows) l r.layout (find t rows) h e (long_in t rows l)
 
-long : (t : ℕ) (l : Layout) → layout_of t ≡ Known l → 1 ≤ l.length
+long : (t : ℕ) (l : Layout) → layout_of t ≡ Some l → 1 ≤ l.length
 unfolding layout_of table
 long t l e = long_in t table l tt e
 
@@ -57,14 +54,14 @@ pub record Inside (bytes : List ℕ) (place n : ℕ) : Type 0 where
   pub inside : place + n ≤ length bytes
   pub four : 4 ≤ n
 
-abbrev pub Advances : List ℕ → ℕ → Next → Type 0
-Advances bytes place (next.Cell class value n) = Inside bytes place n
-Advances bytes place (next.Call k n) = Inside bytes place n
-Advances bytes place next.End = Unit
-Advances bytes place (next.Refused number) = Unit
+abbrev pub Advances : List ℕ → ℕ → Standing → Type 0
+Advances bytes place (Ok (Some (next.Cell c))) = Inside bytes place c.length
+Advances bytes place (Ok (Some (next.Call k n))) = Inside bytes place n
+Advances bytes place (Ok None) = Unit
+Advances bytes place (Err r) = Unit
 
 module _ (bytes : List ℕ) (place : ℕ) where
-  by_kind : (k : Kind) (x : Numbers) (n : ℕ) → Inside bytes place n → Advances bytes place (next_of_field k x n)
+  by_kind : (k : Kind) (x : Numbers) (n : ℕ) → Inside bytes place n → Advances bytes place (Ok (Some (next_of_field k x n)))
   unfolding next_of_field
   by_kind kind.Begin x n h = h
   by_kind kind.Read x n h = h
@@ -77,11 +74,11 @@ module _ (bytes : List ℕ) (place : ℕ) where
 
   by_reading : (r : Reading) → reading_at bytes place ≡ r → Advances bytes place (next_of r)
   unfolding next_of
-  by_reading (reading.Field k x n) e =
-      let f = found bytes place k x n e in
-      by_kind k x n (record { inside = omega (arith, f.inside, f.long); four = omega (arith, f.long, long _ _ f.known) })
-  by_reading reading.End e = tt
-  by_reading (reading.Refused number at) e = tt
+  by_reading (Ok (Some r)) e =
+      let f = found bytes place r.kind r.call r.length e in
+      by_kind r.kind r.call r.length (record { inside = omega (arith, f.inside, f.long); four = omega (arith, f.long, long _ _ f.known) })
+  by_reading (Ok None) e = tt
+  by_reading (Err r) e = tt
 
   pub advances : Advances bytes place (next_of (reading_at bytes place))
   advances = by_reading (reading_at bytes place) refl
@@ -89,12 +86,12 @@ module _ (bytes : List ℕ) (place : ℕ) where
 -- ---- the count of items is never used up
 
 module _ (bytes : List ℕ) where
-  following_same : (place : ℕ) (x : Next) (f g : ℕ → List Item) → Advances bytes place x → ((n : ℕ) → 4 ≤ n → f (place + n) ≡ g (place + n)) → following place x f ≡ following place x g
+  following_same : (place : ℕ) (x : Standing) (f g : ℕ → List Item) → Advances bytes place x → ((n : ℕ) → 4 ≤ n → f (place + n) ≡ g (place + n)) → following place x f ≡ following place x g
   unfolding following
-  following_same place (next.Cell class value n) f g a h = ap (λ (r : List Item). cell place class value ∷ r) (h n a.four)
-  following_same place (next.Call k n) f g a h = ap (λ (r : List Item). asked k ∷ r) (h n a.four)
-  following_same place next.End f g a h = refl
-  following_same place (next.Refused number) f g a h = refl
+  following_same place (Ok (Some (next.Cell c))) f g a h = ap (λ (r : List Item). cell place c.class c.value ∷ r) (h c.length a.four)
+  following_same place (Ok (Some (next.Call k n))) f g a h = ap (λ (r : List Item). asked k ∷ r) (h n a.four)
+  following_same place (Ok None) f g a h = refl
+  following_same place (Err r) f g a h = refl
 
   none_past : (k place : ℕ) → length bytes ≤ place → items_within k bytes place ≡ []
   unfolding items_within next_of following
@@ -120,8 +117,8 @@ module _ (bytes : List ℕ) where
   items_step place = step_within (length bytes) place (omega arith)
 
   -- the same, by what stands at the place
-  pub items_by : (place : ℕ) (x : Next) → x ≡ next_of (reading_at bytes place) → items_at bytes place ≡ following place x (items_at bytes)
-  items_by place x e = items_step place ∙ ap (λ (y : Next). following place y (items_at bytes)) (sym e)
+  pub items_by : (place : ℕ) (x : Standing) → x ≡ next_of (reading_at bytes place) → items_at bytes place ≡ following place x (items_at bytes)
+  items_by place x e = items_step place ∙ ap (λ (y : Standing). following place y (items_at bytes)) (sym e)
 
 -- ---- the leading cells
 
@@ -131,12 +128,20 @@ pub record Closed (items : List Item) : Type 0 where
   pub classes : classes items ≡ []
   pub later : later items ≡ items
 
-pub closed : (place : ℕ) (x : Next) (f : ℕ → List Item) → ((class value n : ℕ) → x ≡ next.Cell class value n → ⊥) → Closed (following place x f)
-unfolding following values classes later
-closed place (next.Cell class value n) f h = absurd (h class value n refl)
-closed place (next.Call k n) f h = record { values = refl; classes = refl; later = refl }
-closed place next.End f h = record { values = refl; classes = refl; later = refl }
-closed place (next.Refused number) f h = record { values = refl; classes = refl; later = refl }
+pub closed : (place : ℕ) (x : Standing) (f : ℕ → List Item) → None ≡ cell_of x → Closed (following place x f)
+unfolding cell_of following values classes later
+closed place (Ok (Some (next.Cell c))) f h = absurd cc
+closed place (Ok (Some (next.Call k n))) f h = record { values = refl; classes = refl; later = refl }
+closed place (Ok None) f h = record { values = refl; classes = refl; later = refl }
+closed place (Err r) f h = record { values = refl; classes = refl; later = refl }
+
+-- a starting cell stands there
+pub standing : (x : Standing) (c : Cell) → Some c ≡ cell_of x → Ok (Some (next.Cell c)) ≡ x
+unfolding cell_of
+standing (Ok (Some (next.Cell d))) c h = cc
+standing (Ok (Some (next.Call k n))) c h = absurd cc
+standing (Ok None) c h = absurd cc
+standing (Err r) c h = absurd cc
 
 -- the first n of vs and ks are the cells of the items before the place
 pub record Leads (input vs ks : List ℕ) (n place : ℕ) : Type 0 where

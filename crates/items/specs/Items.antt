@@ -1,11 +1,11 @@
 -- The input as items, one for each field (document 01, "Call fields"): starting cells, calls, and a refused field, which is the last.
-use Rattle.std.specs.Prelude.{ℕ, zero, suc, ◌+◌, List, [], ◌∷◌, length}
+use Rattle.std.specs.Prelude.{ℕ, zero, suc, ◌+◌, List, [], ◌∷◌, length, Option, Some, None, Result, Ok, Err}
 use Rattle.field.specs.declared.Kind.{Kind}
 use Rattle.field.specs.declared.Kind.TheVariants as kind
 use Rattle.field.specs.declared.Call.{Call as Numbers}
-use Rattle.field.specs.declared.Reading.{Reading}
-use Rattle.field.specs.declared.Reading.TheVariants as reading
-use Rattle.field.specs.Field.{reading_at}
+use Rattle.field.specs.declared.Refused.{Refused}
+use Rattle.field.specs.Answer.{number_of}
+use Rattle.field.specs.Field.{Reading, reading_at}
 use Rattle.records.specs.declared.Call.{Call}
 use Rattle.records.specs.declared.Call.TheVariants as call
 use Rattle.model.specs.History.{Action, one_call}
@@ -20,13 +20,17 @@ next_of_field kind.Write x n = next.Call (call.Write x.session x.cell x.value) n
 next_of_field kind.Seal x n = next.Call (call.Seal x.session) n
 next_of_field kind.Advance x n = next.Call (call.Advance x.session) n
 next_of_field kind.Abandon x n = next.Call (call.Abandon x.session) n
-next_of_field kind.StartingCell x n = next.Cell x.class x.value n
+next_of_field kind.StartingCell x n = next.Cell (record { class = x.class; value = x.value; length = n })
 next_of_field kind.Hold x n = next.Call (call.Hold x.session x.cell) n
 
-unfoldable pub next_of : Reading → Next
-next_of (reading.Field k x n) = next_of_field k x n
-next_of reading.End = next.End
-next_of (reading.Refused number place) = next.Refused number
+-- what stands at a place, where a reading stands there
+abbrev pub Standing : Type 0
+Standing = Result (Option Next) Refused
+
+unfoldable pub next_of : Reading → Standing
+next_of (Ok (Some f)) = Ok (Some (next_of_field f.kind f.call f.length))
+next_of (Ok None) = Ok None
+next_of (Err r) = Err r
 
 -- an item: a starting cell with its place, class and value; a call; a refused field with its place and number
 pub data Item : Type 0 where
@@ -35,11 +39,11 @@ pub data Item : Type 0 where
   refused : ℕ → ℕ → Item
 
 -- the items from a place on, each from where the one before it ends
-unfoldable pub following : ℕ → Next → (ℕ → List Item) → List Item
-following place (next.Cell class value n) from = cell place class value ∷ from (place + n)
-following place (next.Call k n) from = asked k ∷ from (place + n)
-following place next.End from = []
-following place (next.Refused number) from = refused place number ∷ []
+unfoldable pub following : ℕ → Standing → (ℕ → List Item) → List Item
+following place (Ok (Some (next.Cell c))) from = cell place c.class c.value ∷ from (place + c.length)
+following place (Ok (Some (next.Call k n))) from = asked k ∷ from (place + n)
+following place (Ok None) from = []
+following place (Err r) from = refused place (number_of r.refusal) ∷ []
 
 unfoldable pub items_within : ℕ → List ℕ → ℕ → List Item
 items_within zero bytes place = []

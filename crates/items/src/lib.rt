@@ -4,116 +4,100 @@
 ghost use Rattle.std.specs.Prelude.{◌≡◌, ◌+◌, ◌≤◌, length};
 ghost use Rattle.field.specs.Field.{reading_at};
 ghost use Rattle.items.specs.Items.{next_of_field, next_of};
-ghost use Rattle.items.specs.Leading.{ReadCells};
+ghost use Rattle.items.specs.Leading.{cell_of, ReadCells};
 
-use field::{Kind, Reading};
+use field::{Field, Kind, Refused};
 use records::Call;
 
-// What stands at a place of the input: a starting cell or a call, with the field's length; the end; or the number with which a field is refused.
+// A starting cell, with its field's length.
+#[derive(Clone, Copy)]
+pub struct Cell {
+    pub class: u8,
+    pub value: u32,
+    pub length: usize,
+}
+
+// What a field is to the replay: a starting cell, or a call with the field's length.
 #[derive(Clone, Copy)]
 pub enum Next {
-    Cell {
-        class: u8,
-        value: u32,
-        length: usize,
-    },
-    Call {
-        call: Call,
-        length: usize,
-    },
-    End,
-    Refused {
-        number: u8,
-    },
+    Cell(Cell),
+    Call { call: Call, length: usize },
 }
 
-// How many starting cells lead the input, and the place of the field that closes them; or that there are more than 1,024.
+// How many starting cells lead the input, and the place of the field that closes them.
 #[derive(Clone, Copy)]
-pub enum Cells {
-    Found { count: usize, place: usize },
-    TooMany,
+pub struct Cells {
+    pub count: usize,
+    pub place: usize,
 }
 
-// What a field is to the replay.
-#[tactic(auto, unfolding(crate::specs::Items::next_of_field))]
-fn next_of(kind: Kind, numbers: field::Call, length: usize) -> Next
-    ensures { result ≡ next_of_field kind numbers length }
-{
-    let session = numbers.session;
-    let cell = numbers.cell as u32;
-    match kind {
-        Kind::Begin => Next::Call {
-            call: Call::Begin(session),
-            length,
-        },
-        Kind::Read => Next::Call {
-            call: Call::Read(session, cell),
-            length,
-        },
-        Kind::Write => Next::Call {
-            call: Call::Write(session, cell, numbers.value),
-            length,
-        },
-        Kind::Seal => Next::Call {
-            call: Call::Seal(session),
-            length,
-        },
-        Kind::Advance => Next::Call {
-            call: Call::Advance(session),
-            length,
-        },
-        Kind::Abandon => Next::Call {
-            call: Call::Abandon(session),
-            length,
-        },
-        Kind::StartingCell => Next::Cell {
-            class: numbers.class,
-            value: numbers.value,
-            length,
-        },
-        Kind::Hold => Next::Call {
-            call: Call::Hold(session, cell),
-            length,
-        },
+impl From<Field> for Next {
+    ghost from_gives = { λ field next. next ≡ next_of_field field.kind field.call field.length };
+
+    #[tactic(auto, unfolding(crate::specs::Items::next_of_field))]
+    fn from(field: Field) -> Next {
+        let length = field.length;
+        let numbers = field.call;
+        let session = numbers.session;
+        let cell = u32::from(numbers.cell);
+        let call = match field.kind {
+            Kind::Begin => Call::Begin(session),
+            Kind::Read => Call::Read(session, cell),
+            Kind::Write => Call::Write(session, cell, numbers.value),
+            Kind::Seal => Call::Seal(session),
+            Kind::Advance => Call::Advance(session),
+            Kind::Abandon => Call::Abandon(session),
+            Kind::Hold => Call::Hold(session, cell),
+            Kind::StartingCell => {
+                return Next::Cell(Cell {
+                    class: numbers.class,
+                    value: numbers.value,
+                    length,
+                });
+            }
+        };
+        Next::Call { call, length }
     }
 }
 
-// What stands at a place of the input.
+// What stands at a place of the input: none where it ends.
 #[tactic(auto, unfolding(crate::specs::Items::next_of))]
-pub fn next_at(input: &[u8], place: usize) -> Next
+pub fn next_at(input: &[u8], place: usize) -> Result<Option<Next>, Refused>
     ensures { result ≡ next_of (reading_at input.now place) }
 {
-    match field::read_field(input, place) {
-        Reading::Field { kind, call, length } => next_of(kind, call, length),
-        Reading::End => Next::End,
-        Reading::Refused(number, _) => Next::Refused { number },
+    Ok(field::read_field(input, place)?.map(Next::from))
+}
+
+// The starting cell at a place of the input; none where something else stands, or nothing.
+#[tactic(auto, unfolding(crate::specs::Leading::cell_of))]
+fn cell_at(input: &[u8], place: usize) -> Option<Cell>
+    ensures { result ≡ cell_of (next_of (reading_at input.now place)) }
+{
+    match next_at(input, place) {
+        Ok(Some(Next::Cell(cell))) => Some(cell),
+        Ok(Some(Next::Call { .. })) => None,
+        Ok(None) => None,
+        Err(_) => None,
     }
 }
 
-// Reads the leading cells into values and classes.
-pub fn read_cells(input: &[u8], values: &mut [u32], classes: &mut [u8]) -> Cells
+// Reads the leading cells into values and classes; none where there are more than 1,024.
+pub fn read_cells(input: &[u8], values: &mut [u32], classes: &mut [u8]) -> Option<Cells>
     requires { (1024 ≤ length values.old) × (1024 ≤ length classes.old) }
     ensures { ReadCells input.now values.new classes.new result }
 {
     let mut place = 0;
+    // A `for` over the counts would look for a cell at two places, in the loop and past the 1,024th.
     let mut count = 0;
-    loop {
-        let next = next_at(input, place);
-        let Next::Cell {
-            class,
-            value,
-            length,
-        } = next
-        else {
-            return Cells::Found { count, place };
-        };
+    while let Some(cell) = cell_at(input, place) {
         let full = count == 1024;
         if full {
-            return Cells::TooMany;
+            return None;
         }
-        values[count] = value;
-        classes[count] = class;
+        values[count] = cell.value;
+        classes[count] = cell.class;
         count += 1;
-        place += length;
+        place += cell.length;
     }
+    Some(Cells { count, place })
 }

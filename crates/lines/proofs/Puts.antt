@@ -1,24 +1,35 @@
 -- Texts put one after the other are one text.
-use Prim.Native.Nat.{ℕ, suc, ◌+◌}
+use Prim.Native.Nat.{ℕ, suc, ◌+◌, ◌≤◌}
 use native.Mathlib.Omega.{arith}
 use mathlib.Core.Path.{◌≡◌, sym, ◌∙◌, ap}
-use mathlib.Core.List.{List, [], ◌∷◌, ◌++◌}
-use lib.ListN.{length, set, length-append}
-use lib.Seq.{sets}
+use mathlib.Core.List.{List, [], ◌∷◌, ◌++◌, append_assoc}
+use lib.ListN.{length, set, take, drop, length-append}
+use lib.Seq.{sets, sets-eq, drop-drop, length-sets}
+use borrow.Rule.Slice.PartMut.{put_mid}
 use Rattle.lines.specs.Output.{Out, out, put}
 
 sets_append : (o : List ℕ) (at : ℕ) (s t : List ℕ) → sets (sets o at s) (at + length s) t ≡ sets o at (s ++ t)
 sets_append o at [] t = ap (λ (i : ℕ). sets o i t) (omega arith)
 sets_append o at (b ∷ s) t = ap (λ (i : ℕ). sets (sets (set o at b) (suc at) s) i t) (omega arith) ∙ sets_append (set o at b) (suc at) s t
 
--- one byte more
-pub sets_more : (o : List ℕ) (at i : ℕ) (t : List ℕ) (b : ℕ) → length t ≡ i → set (sets o at t) (at + i) b ≡ sets o at (t ++ b ∷ [])
-sets_more o at i t b e = ap (λ (n : ℕ). set (sets o at t) (at + n) b) (sym e) ∙ sets_append o at t (b ∷ [])
+-- a part that is a text now
+pub part_put : (o : List ℕ) (at n : ℕ) (part text : List ℕ) → part ≡ text → n ≡ length text → at + length text ≤ length o → out (at + length text) (put_mid at n o part) ≡ put o at text
+unfolding put
+part_put o at n part text e f h =
+    rw (e, f, sets-eq text o at h, drop-drop (length text) at o) (ap (out (at + length text)) (sym (append_assoc (take at o) text (drop (at + length text) o))))
 
 -- where a text ends
 pub ends_at : (o : List ℕ) (at : ℕ) (s : List ℕ) {a : ℕ} {p : List ℕ} → out a p ≡ put o at s → a ≡ at + length s
 unfolding put
 ends_at o at s e = ap (λ (x : Out). x.at) e
+
+-- the output stays as long, and this is left of it behind a text
+pub kept : (o : List ℕ) (at : ℕ) (s : List ℕ) {a : ℕ} {p : List ℕ} → out a p ≡ put o at s → length p ≡ length o
+unfolding put
+kept o at s e = ap (λ (x : Out). length x.output) e ∙ length-sets o at s
+
+pub left : (o : List ℕ) (at : ℕ) (s : List ℕ) {a : ℕ} {p : List ℕ} → out a p ≡ put o at s → (n : ℕ) → at + length s + n ≤ length o → a + n ≤ length p
+left o at s e n h = omega (arith, ends_at o at s e, kept o at s e)
 
 pub put_nothing : (o : List ℕ) (at : ℕ) → put o at [] ≡ out at o
 unfolding put

@@ -1,5 +1,5 @@
 // A cell looked up among the entries of one session's log, and the entries' cells tested. A search answers the place of the first entry that has the cell
-// (session_log/proofs/FirstEntry.antt says so entry by entry).
+// (session_log/proofs/FirstEntry.antt says so entry by entry). The count is the session record's (document 01), and so comes beside the log.
 #![tactic(auto)]
 
 ghost use Rattle.std.specs.Prelude.{◌≡◌, ℕ, ◌*◌, ◌<◌, ◌≤◌, length};

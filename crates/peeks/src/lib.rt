@@ -22,10 +22,7 @@ pub fn peek_plan(
     ensures { PeekPlans session cell values classes readers claimants exclusives logs x result }
 {
     let lengths = Lengths::of(values, classes, readers, claimants, exclusives, logs);
-    if let Err(refusal) = lengths.admit(session) {
-        return Plan::from(refusal);
-    }
-    plans::peek_plan(session_log::of_session(logs, session), values.len(), x, cell)
+    plans::peek_plan_in(lengths, logs, x, session, cell)
 }
 
 // Peek: running only. One word, the store's own or the log's own; no word where the peek is refused.
@@ -42,20 +39,8 @@ pub fn peek<'a>(
 ) -> &'a [u32]
     ensures { HandsBack session cell values classes readers claimants exclusives logs x result }
 {
-    let p = peek_plan(
-        x, values, classes, readers, claimants, exclusives, logs, session, cell,
-    );
-    if let Plan::ShowStore(_) = p {
-        let c = cell as usize;
-        let d = c + 1;
-        return &values[c..d];
-    }
-    if let Plan::ShowLog(k) = p {
-        let from = 128 * (session as usize) + (4 * (k as usize) + 2);
-        let to = from + 1;
-        return &logs[from..to];
-    }
-    &values[0..0]
+    let lengths = Lengths::of(values, classes, readers, claimants, exclusives, logs);
+    plans::peek_part(lengths, values, logs, x, session, cell)
 }
 
 // Peek's twin: 100 or a refusal.
@@ -75,14 +60,9 @@ pub fn peek_number(
     let p = peek_plan(
         x, values, classes, readers, claimants, exclusives, logs, session, cell,
     );
-    if let Plan::Refuse(number) = p {
-        return SessionReply {
-            answer: Answer::Refused(number),
-            session: x,
-        };
-    }
-    SessionReply {
-        answer: Answer::Done,
-        session: x,
-    }
+    let answer = match p {
+        Plan::Refuse(number) => Answer::Refused(number),
+        _ => Answer::Done,
+    };
+    SessionReply { answer, session: x }
 }

@@ -5,14 +5,14 @@ use mathlib.Core.Option.{Option, none, some}
 use mathlib.Core.List.{List, []}
 use Prim.Native.Nat.{ℕ, ◌+◌, ◌*◌, ◌-◌, ◌%◌, ◌<◌, ◌≤◌}
 use native.Mathlib.Omega.{arith}
-use borrow.Author.Tests.{ltb-true, eqb-true}
+use borrow.Author.Tests.{lt-ltb, ltb-true, eqb-true}
 use borrow.Rule.Slice.PartAt.{sl_partˢ}
 use borrow.Rule.Slice.Shared.{by_size}
 use denote.Ref.{Bor}
 use lib.Dec.{T, ltb, eqb}
-use lib.ListN.{length, take, drop, replicate, get_or-replicate, length-take, length-drop}
-use Rattle.model.specs.Buffers.{Buffers, Limits, ours, Store, size, idle, session_at, entry_at, slot_in, lengths_fit}
-use Rattle.model.specs.Plans.{record_fits, guard, known, peek_slot, plan}
+use lib.ListN.{length, take, drop, replicate, get_or-replicate, length-replicate, length-take, length-drop}
+use Rattle.model.specs.Buffers.{Buffers, Limits, ours, Store, size, idle, session_at, log_in, entry_at, slot_in, lengths_fit}
+use Rattle.model.specs.Plans.{record_fits, guard, known, peek_slot, peek_plan, plan}
 use Rattle.model.specs.Effects.{record_of, shown, answer, after, log_of}
 use Rattle.model.specs.Slices.{PartOf, IsPart}
 use Rattle.model.specs.Step.{outcome, effect, answer_of, step, plan_of, peek_shows, TakesRecord}
@@ -25,8 +25,13 @@ use Rattle.records.specs.declared.Plan.TheVariants.{Refuse, ShowStore, ShowLog}
 use Rattle.model.proofs.Tools.{split}
 use Rattle.model.proofs.Laws.{find_some}
 use Rattle.model.proofs.Carried.{same_record}
-use Rattle.records.proofs.Tags.{tag, Passed, passed, clashes}
-use Rattle.refusals.proofs.Admission.{lengths_of, refuses}
+use Rattle.records.proofs.Tags.{tag, clashes}
+use Rattle.records.specs.declared.Refusal.{Refusal}
+use Rattle.records.specs.Records.{refusal_number}
+use Rattle.refusals.specs.declared.Lengths.{Lengths}
+use Rattle.refusals.specs.Pieces.{lengths_in, match_of, admission}
+use Rattle.refusals.proofs.Admission.{lengths_of, refuses, admits, admitted, plan_refused}
+use Rattle.plans.specs.Peeks.{PlansPeek, ShowsPeek}
 use Rattle.model.proofs.Passing.{record_entries}
 
 -- ---- what a plan p of a peek can be
@@ -81,14 +86,14 @@ module _ {σ : Store} {s c : ℕ} {p : Plan} where
   of_log (plain i f) k e = absurd (clashes p (ShowStore c) (ShowLog k) tt f e)
   of_log (written j l i h w f) k e = let q : j ≡ k = cc in omega arith
 
-  of_neither : Peeked σ s c p → Passed 14 p → Passed 15 p → (r : ℕ) × (p ≡ Refuse r)
+  of_neither : Peeked σ s c p → ((k : ℕ) → p ≡ ShowStore k → ⊥) → ((k : ℕ) → p ≡ ShowLog k → ⊥) → (r : ℕ) × (p ≡ Refuse r)
   of_neither (turned r f) a b = (r, f)
-  of_neither (plain i f) a b = absurd (passed 14 p (ShowStore c) tt f a)
-  of_neither (written j l i h w f) a b = absurd (passed 15 p (ShowLog j) tt f b)
+  of_neither (plain i f) a b = absurd (a c f)
+  of_neither (written j l i h w f) a b = absurd (b j f)
 
-  of_either : Peeked σ s c p → Passed 0 p → outcome Done σ ≡ outcome (answer s p σ) (after s p σ)
+  of_either : Peeked σ s c p → ((r : ℕ) → p ≡ Refuse r → ⊥) → outcome Done σ ≡ outcome (answer s p σ) (after s p σ)
   unfolding answer after
-  of_either (turned r f) a = absurd (passed 0 p (Refuse r) tt f a)
+  of_either (turned r f) a = absurd (a r f)
   of_either (plain i f) a = rw f
   of_either (written j l i h w f) a = rw f
 
@@ -120,12 +125,12 @@ module _ (σ : Store) (s c : ℕ) (p : Plan) (e : p ≡ plan_of (Peek s c) σ) w
   pub peek_refused : (r : ℕ) → p ≡ Refuse r → outcome (Refused r) σ ≡ effect (Peek s c) σ
   peek_refused r f = refuses (Peek s c) σ r (sym f ∙ e)
 
-  pub peek_done : Passed 0 p → outcome Done σ ≡ effect (Peek s c) σ
+  pub peek_done : ((r : ℕ) → p ≡ Refuse r → ⊥) → outcome Done σ ≡ effect (Peek s c) σ
   unfolding effect answer_of step
   peek_done a = of_either way a ∙ rw e
 
   -- past both words there is a refusal
-  pub peek_neither : Passed 14 p → Passed 15 p → (r : ℕ) × (p ≡ Refuse r)
+  pub peek_neither : ((k : ℕ) → p ≡ ShowStore k → ⊥) → ((k : ℕ) → p ≡ ShowLog k → ⊥) → (r : ℕ) × (p ≡ Refuse r)
   peek_neither = of_neither way
 
   module _ (v logs : Bor (List ℕ)) where
@@ -138,27 +143,67 @@ module _ (σ : Store) (s c : ℕ) (p : Plan) (e : p ≡ plan_of (Peek s c) σ) w
     unfolding shown
     hands_log i k f = rw (← e, f) (one logs (128 * s + (4 * k + 2)) (rw i at (peek_logged k f)))
 
-    pub hands_nothing : Passed 14 p → Passed 15 p → (r : Bor (List ℕ)) → r.now ≡ [] → IsPart v logs (peek_shows s c σ) r
+    pub hands_nothing : ((k : ℕ) → p ≡ ShowStore k → ⊥) → ((k : ℕ) → p ≡ ShowLog k → ⊥) → (r : Bor (List ℕ)) → r.now ≡ [] → IsPart v logs (peek_shows s c σ) r
     unfolding shown
     hands_nothing a b r n = rw (← e, (peek_neither a b).1) n
 
--- ---- of the lent buffers B and the record x
+-- ---- of the lengths l, the logs W and the record x
+
+module _ (l : Lengths) (W : List ℕ) (x : Session) (s c : ℕ) where
+  pub peek_turned : (r : Refusal) → refusal_number r ≡ admission (match_of l) s → PlansPeek s c l W x (Refuse (refusal_number r))
+  peek_turned r e G B ss i j o = plan_refused B s r (rw i at e) (Peek s c) refl (record { lent = B; limits = G; sessions = ss }) refl refl
+
+  pub peek_admitted : 0 ≡ admission (match_of l) s → (log : List ℕ) → log ≡ log_in W s → (p : Plan) → p ≡ peek_plan l.values log x c → PlansPeek s c l W x p
+  unfolding plan_of plan size
+  peek_admitted e log w p f G B ss i j o =
+      let z = admits l s e in let m : s % 16 ≡ s = let h = z.1 in omega arith in
+      rw ((admitted B s (rw i at e)).fit, lt-ltb s 16 z.1, rw m at o, ← j, ← w) (f ∙ ap (λ (k : Lengths). peek_plan k.values log x c) i)
 
 -- sixteen records of which x is the session's
-pub each : (x : Session) (s : ℕ) → session_at (record { records = replicate 16 x }) (s % 16) ≡ x
+each : (x : Session) (s : ℕ) → session_at (record { records = replicate 16 x }) (s % 16) ≡ x
 unfolding session_at
 each x s = get_or-replicate 16 (s % 16) x idle (omega arith)
 
+-- of the values v and the logs w, p is what was decided
+module _ (l : Lengths) (v w : Bor (List ℕ)) (long : (l.values ≡ length v.now) × (l.logs ≡ length w.now)) (x : Session) (s c : ℕ) (p : Plan) (e : PlansPeek s c l w.now x p) where
+  -- buffers so long
+  abbrev lent : Buffers
+  lent =
+      record {
+        values = v.now;
+        classes = replicate l.classes 0;
+        locks = record { readers = replicate l.readers 0; claimants = replicate l.claimants 0; exclusives = replicate l.exclusives 0 };
+        logs = w.now;
+      }
+
+  so_long : l ≡ lengths_in lent
+  so_long = rw (length-replicate {A = ℕ} l.classes 0, length-replicate {A = ℕ} l.readers 0, length-replicate {A = ℕ} l.claimants 0, length-replicate {A = ℕ} l.exclusives 0, ← long.0, ← long.1)
+
+  at_one : p ≡ plan_of (Peek s c) (record { lent = lent; limits = ours; sessions = record { records = replicate 16 x } })
+  at_one = e ours lent (record { records = replicate 16 x }) so_long refl (each x s)
+
+  pub store_inside : {k : ℕ} → p ≡ ShowStore k → c + 1 ≤ length v.now
+  store_inside {k} f = peek_inside _ s c p at_one (ShowStore k) tt f
+
+  pub log_inside : {k : ℕ} → p ≡ ShowLog k → 128 * s + (4 * k + 2) + 1 ≤ length w.now
+  log_inside {k} f = peek_logged _ s c p at_one k f
+
+  pub shows_store : {k : ℕ} → p ≡ ShowStore k → ShowsPeek s c l v w x (sl_partˢ v (by_size 4 c v.ref_ptr.1) c (c + 1))
+  shows_store {k} f G B ss i j m o = hands_store _ s c p (e G B ss i m o) v w (sym j) k f
+
+  pub shows_log : {k : ℕ} → p ≡ ShowLog k
+      → ShowsPeek s c l v w x (sl_partˢ w (by_size 4 (128 * s + (4 * k + 2)) w.ref_ptr.1) (128 * s + (4 * k + 2)) (128 * s + (4 * k + 2) + 1))
+  shows_log {k} f G B ss i j m o = hands_log _ s c p (e G B ss i m o) v w (sym m) k f
+
+  pub shows_nothing : ((k : ℕ) → p ≡ ShowStore k → ⊥) → ((k : ℕ) → p ≡ ShowLog k → ⊥) → (r : Bor (List ℕ)) → r.now ≡ [] → ShowsPeek s c l v w x r
+  shows_nothing a b r n G B ss i j m o = hands_nothing _ s c p (e G B ss i m o) v w a b r n
+
+-- ---- of the lent buffers B and the record x
+
 -- p is the plan, whatever the other records are
 module _ (B : Buffers) (x : Session) (s c : ℕ) (p : Plan) (e : (G : Limits) (ss : Sessions) → session_at ss (s % 16) ≡ x → p ≡ plan_of (Peek s c) (record { lent = B; limits = G; sessions = ss })) where
-  abbrev pub alone : Store
-  alone = record { lent = B; limits = ours; sessions = record { records = replicate 16 x } }
-
-  pub plan_alone : p ≡ plan_of (Peek s c) alone
-  plan_alone = e ours (record { records = replicate 16 x }) (each x s)
-
   pub twin_refused : (r : ℕ) → p ≡ Refuse r → TakesRecord (Peek s c) B x (Refused r) B x
   twin_refused r f G _ ss o = rw (← o, same_record ss (s % 16)) (peek_refused (record { lent = B; limits = G; sessions = ss }) s c p (e G ss o) r f)
 
-  pub twin_done : Passed 0 p → TakesRecord (Peek s c) B x Done B x
+  pub twin_done : ((r : ℕ) → p ≡ Refuse r → ⊥) → TakesRecord (Peek s c) B x Done B x
   twin_done a G _ ss o = rw (← o, same_record ss (s % 16)) (peek_done (record { lent = B; limits = G; sessions = ss }) s c p (e G ss o) a)

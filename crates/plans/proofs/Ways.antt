@@ -5,15 +5,15 @@ use mathlib.Core.Option.{Option, none, some}
 use mathlib.Core.List.{List}
 use Prim.Native.Nat.{ℕ, ◌<◌, ◌≤◌}
 use native.Mathlib.Omega.{arith}
-use borrow.Author.Tests.{lt-ltb, le-ltb, lt-leb, le-leb}
+use borrow.Author.Tests.{lt-ltb, le-ltb}
 use lib.Dec.{eqb}
 use lib.ListN.{get_or}
 use Rattle.model.specs.Buffers.{entry_at, slot_in, cap}
-use Rattle.model.specs.Plans.{new_cell, known, record_fits, guard, read_slot, read_plan, hold_slot, hold_plan, write_slot, write_capped, write_plan, peek_slot, peek_plan}
+use Rattle.model.specs.Plans.{new_cell, known, record_fits, guard, read_slot, read_plan, hold_slot, hold_plan, write_capped, write_plan, peek_slot, peek_plan}
 use Rattle.records.specs.declared.Session.{Session}
 use Rattle.records.specs.declared.Lock.{Lock}
 use Rattle.records.specs.declared.Plan.{Plan}
-use Rattle.records.specs.declared.Plan.TheVariants.{Refuse, Tell, Enter, Update, EnterUpdate, Mark, EnterMark, ShowStore, ShowLog}
+use Rattle.records.specs.declared.Plan.TheVariants.{Refuse, Tell, Enter, Mark, EnterMark, ShowStore, ShowLog}
 use Rattle.refusals.specs.Pieces.{tested}
 use Rattle.refusals.proofs.Ways.{whole, in_phase_1}
 

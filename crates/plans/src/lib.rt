@@ -5,8 +5,10 @@
 ghost use Rattle.std.specs.Prelude.{◌≡◌, ◌≤◌, length};
 ghost use Rattle.model.specs.Buffers.{free, our_caps};
 ghost use Rattle.model.specs.Plans.{new_cell, read_plan, hold_plan, write_capped, write_plan, peek_plan};
+ghost use Rattle.plans.specs.Peeks.{PlansPeek, ShowsPeek};
 
 use records::{Plan, Refusal, Session};
+use refusals::Lengths;
 
 // A new cell with 32 entries in the log is 5.
 #[tactic(auto, unfolding(model::specs::Plans::new_cell, model::specs::Plans::claimed))]
@@ -69,6 +71,7 @@ fn write_capped(log: &[u32], x: Session, cell: u32, value: u32, most: u32) -> Pl
 }
 
 // Write by a table, which need not pass: the cap is that of the cell's class.
+#[inline(always)]
 pub fn write_plan_by(
     caps: &[u32],
     log: &[u32],
@@ -121,5 +124,44 @@ pub fn peek_plan(log: &[u32], n: usize, x: Session, cell: u32) -> Plan
         Plan::ShowLog(k as u32)
     } else {
         Plan::ShowStore(cell)
+    }
+}
+
+// ---- a peek in every form of the locks: of these and the classes it is told the lengths
+
+// What a peek decides: refusals 7 and 1, then by its session's log and record.
+pub fn peek_plan_in(lengths: Lengths, logs: &[u32], x: Session, session: u8, cell: u32) -> Plan
+    requires { lengths.logs ≡ length logs.now }
+    ensures { PlansPeek session cell lengths logs.now x result }
+{
+    if let Err(refusal) = lengths.admit(session) {
+        return Plan::from(refusal);
+    }
+    let log = session_log::of_session(logs, session);
+    peek_plan(log, lengths.values, x, cell)
+}
+
+// A peek's part: one word, the store's own or the log's own; no word where the peek is refused.
+pub fn peek_part<'a>(
+    lengths: Lengths,
+    values: &'a [u32],
+    logs: &'a [u32],
+    x: Session,
+    session: u8,
+    cell: u32,
+) -> &'a [u32]
+    requires { (lengths.values ≡ length values.now) × (lengths.logs ≡ length logs.now) }
+    ensures { ShowsPeek session cell lengths values.entry logs.entry x result }
+{
+    match peek_plan_in(lengths, logs, x, session, cell) {
+        Plan::ShowStore(_) => {
+            let c = cell as usize;
+            &values[c..c + 1]
+        }
+        Plan::ShowLog(k) => {
+            let from = 128 * (session as usize) + (4 * (k as usize) + 2);
+            &logs[from..from + 1]
+        }
+        _ => &[],
     }
 }

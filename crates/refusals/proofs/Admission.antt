@@ -3,7 +3,7 @@ use mathlib.Core.Path.{◌≡◌, refl, sym, ◌∙◌}
 use mathlib.Core.Bool.{Bool, true, false}
 use Prim.Native.Nat.{ℕ, ◌%◌, ◌<◌, ◌≤◌}
 use native.Mathlib.Omega.{arith}
-use borrow.Author.Tests.{ltb-true, eqb-true, eqb-false, leb-true}
+use borrow.Author.Tests.{ltb-true, eqb-true, leb-true}
 use lib.ListN.{length}
 use lib.Dec.{leb, ltb, eqb}
 use Rattle.model.specs.Buffers.{Buffers, Limits, Store, size, lengths_fit, lengths_match}
@@ -22,52 +22,58 @@ use Rattle.model.proofs.Carried.{same_record}
 use Rattle.model.proofs.Tables.{goes_fits}
 use Rattle.refusals.specs.declared.Lengths as the
 use Rattle.refusals.specs.Pieces.{match_of, admission}
+pub use Rattle.refusals.specs.Pieces.{lengths_in}
 
 -- what fitting lengths say, one by one
-pub record Lengths (B : Buffers) : Type 0 where
-  pub some : 1 ≤ length B.values
-  pub few : length B.values ≤ 1024
-  pub classes : length B.classes ≡ length B.values
-  pub readers : length B.locks.readers ≡ length B.values
-  pub claimants : length B.locks.claimants ≡ length B.values
-  pub exclusives : length B.locks.exclusives ≡ length B.values
-  pub logs : length B.logs ≡ 2048
+pub record Fitting (l : the.Lengths) : Type 0 where
+  pub some : 1 ≤ l.values
+  pub few : l.values ≤ 1024
+  pub classes : l.classes ≡ l.values
+  pub readers : l.readers ≡ l.values
+  pub claimants : l.claimants ≡ l.values
+  pub exclusives : l.exclusives ≡ l.values
+  pub logs : l.logs ≡ 2048
 
 -- the test b is one of those that an answer t, which is true, is made of
 must : (t : Bool) → t ≡ true → (b : Bool) → (b ≡ false → t ≡ false) → b ≡ true
 must t h b f = test b (λ p. p) (λ p. absurd (clash t h (f p)))
 
-pub lengths_of : (B : Buffers) → lengths_fit B ≡ true → Lengths B
-unfolding lengths_fit size
-lengths_of B h =
-    let n = length B.values in
-    record {
-      some = leb-true 1 n (must (lengths_fit B) h (leb 1 n) (λ p. rw p));
-      few = leb-true n 1024 (must (lengths_fit B) h (leb n 1024) (λ p. rw (p, and-false)));
-      classes = eqb-true _ n (must (lengths_fit B) h (eqb (length B.classes) n) (λ p. rw (p, and-false)));
-      readers = eqb-true _ n (must (lengths_fit B) h (eqb (length B.locks.readers) n) (λ p. rw (p, and-false)));
-      claimants = eqb-true _ n (must (lengths_fit B) h (eqb (length B.locks.claimants) n) (λ p. rw (p, and-false)));
-      exclusives = eqb-true _ n (must (lengths_fit B) h (eqb (length B.locks.exclusives) n) (λ p. rw (p, and-false)));
-      logs = eqb-true _ 2048 (must (lengths_fit B) h (eqb (length B.logs) 2048) (λ p. rw (p, and-false)));
-    }
+module _ (l : the.Lengths) where
+  pub fitting : match_of l ≡ true → Fitting l
+  unfolding lengths_match
+  fitting h =
+      record {
+        some = leb-true 1 l.values (must (match_of l) h (leb 1 l.values) (λ p. rw p));
+        few = leb-true l.values 1024 (must (match_of l) h (leb l.values 1024) (λ p. rw (p, and-false)));
+        classes = eqb-true _ l.values (must (match_of l) h (eqb l.classes l.values) (λ p. rw (p, and-false)));
+        readers = eqb-true _ l.values (must (match_of l) h (eqb l.readers l.values) (λ p. rw (p, and-false)));
+        claimants = eqb-true _ l.values (must (match_of l) h (eqb l.claimants l.values) (λ p. rw (p, and-false)));
+        exclusives = eqb-true _ l.values (must (match_of l) h (eqb l.exclusives l.values) (λ p. rw (p, and-false)));
+        logs = eqb-true _ 2048 (must (match_of l) h (eqb l.logs 2048) (λ p. rw (p, and-false)));
+      }
 
--- the lengths of buffers
-abbrev pub lengths_in : Buffers → the.Lengths
-lengths_in B =
-    record {
-      values = length B.values;
-      classes = length B.classes;
-      readers = length B.locks.readers;
-      claimants = length B.locks.claimants;
-      exclusives = length B.locks.exclusives;
-      logs = length B.logs;
-    }
+  -- past the test of the lengths and the session
+  passed_both : (s : ℕ) (fit low : Bool) → match_of l ≡ fit → ltb s 16 ≡ low → 0 ≡ admission (match_of l) s → (fit ≡ true) × (low ≡ true)
+  unfolding admission
+  passed_both s true true f i e = (refl, refl)
+  passed_both s true false f i e = absurd (let w : 0 ≡ 1 = rw (f, i) at e in omega arith)
+  passed_both s false low f i e = absurd (let w : 0 ≡ 7 = rw f at e in omega arith)
+
+  pub admits : (s : ℕ) → 0 ≡ admission (match_of l) s → (match_of l ≡ true) × (s < 16)
+  admits s e = let w = passed_both s (match_of l) (ltb s 16) refl refl e in (w.0, ltb-true s 16 w.1)
 
 -- what the code tests is the model's test
 pub match_is : (B : Buffers)
     → lengths_match (length B.values) (length B.classes) (length B.locks.readers) (length B.locks.claimants) (length B.locks.exclusives) (length B.logs) ≡ lengths_fit B
 unfolding lengths_match lengths_fit size
 match_is B = refl
+
+-- the same of buffers
+abbrev pub Lengths : Buffers → Type 0
+Lengths B = Fitting (lengths_in B)
+
+pub lengths_of : (B : Buffers) → lengths_fit B ≡ true → Lengths B
+lengths_of B h = fitting (lengths_in B) (match_is B ∙ h)
 
 -- admitted: the lengths fit, and the session is one of sixteen
 pub record Admitted (B : Buffers) (s : ℕ) : Type 0 where
@@ -87,16 +93,10 @@ table_refused G k B x t ss o =
 
 -- past the test of the lengths and the session
 module _ (B : Buffers) (s : ℕ) where
-  passed_both : (fit low : Bool) → lengths_fit B ≡ fit → ltb s 16 ≡ low → 0 ≡ admission (match_of (lengths_in B)) s → (fit ≡ true) × (low ≡ true)
-  unfolding admission
-  passed_both true true f l e = (refl, refl)
-  passed_both true false f l e = absurd (let w : 0 ≡ 1 = rw (match_is B, f, l) at e in omega arith)
-  passed_both false low f l e = absurd (let w : 0 ≡ 7 = rw (match_is B, f) at e in omega arith)
-
   pub admitted : 0 ≡ admission (match_of (lengths_in B)) s → Admitted B s
   admitted e =
-      let w = passed_both (lengths_fit B) (ltb s 16) refl refl e in
-      record { fit = w.0; lengths = lengths_of B w.0; low = ltb-true s 16 w.1 }
+      let w = admits (lengths_in B) s e in let f = sym (match_is B) ∙ w.0 in
+      record { fit = f; lengths = lengths_of B f; low = w.1 }
 
   -- its refusal is the plan's, where the table fits
   module _ (r : Refusal) (e : refusal_number r ≡ admission (match_of (lengths_in B)) s) (k : Call) (i : s ≡ session_of k) where

@@ -1,11 +1,10 @@
 -- Laws of the tests, and one law for each way through them.
 use mathlib.Core.Path.{◌≡◌, refl, sym, ap, ◌∙◌}
 use mathlib.Core.Bool.{Bool, true, false, cond}
-use mathlib.Core.Option.{Option, none, some}
 use mathlib.Core.List.{List}
 use Prim.Native.Nat.{ℕ, ◌+◌, ◌*◌, ◌<◌, ◌≤◌}
 use native.Mathlib.Omega.{arith}
-use borrow.Author.Tests.{lt-ltb, le-ltb, lt-leb, le-leb, eq-eqb, ne_eqb, eqb-true, eqb-false}
+use borrow.Author.Tests.{le-ltb, lt-leb, le-leb, eq-eqb, ne_eqb, eqb-true}
 use lib.Dec.{eqb}
 use lib.ListN.{length}
 use Rattle.model.specs.Search.{some?, below}
@@ -18,7 +17,7 @@ use Rattle.records.proofs.Refusals.{nonzero}
 use Rattle.records.specs.declared.Plan.{Plan}
 use Rattle.records.specs.declared.Plan.TheVariants.{Refuse, Start}
 use Rattle.model.proofs.Passing.{Entries, entries_of, record_entries}
-use Rattle.model.proofs.Tools.{test, clash, and-false}
+use Rattle.model.proofs.Tools.{test, and-false}
 use Rattle.refusals.specs.Pieces.{tested}
 
 -- ---- the tests

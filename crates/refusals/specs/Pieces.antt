@@ -1,8 +1,20 @@
 -- The tests as numbers.
-use Rattle.std.specs.Prelude.{ℕ, Bool, ltb}
-use Rattle.model.specs.Buffers.{lengths_match}
+use Rattle.std.specs.Prelude.{ℕ, Bool, ltb, length}
+use Rattle.model.specs.Buffers.{Buffers, lengths_match}
 use Rattle.model.specs.Plans.{require}
 use Rattle.refusals.specs.declared.Lengths.{Lengths}
+
+-- the lengths of buffers
+abbrev pub lengths_in : Buffers → Lengths
+lengths_in B =
+    record {
+      values = length B.values;
+      classes = length B.classes;
+      readers = length B.locks.readers;
+      claimants = length B.locks.claimants;
+      exclusives = length B.locks.exclusives;
+      logs = length B.logs;
+    }
 
 -- whether the lengths fit
 abbrev pub match_of : Lengths → Bool

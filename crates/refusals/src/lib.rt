@@ -21,6 +21,7 @@ pub struct Lengths {
 
 impl Lengths {
     // Of number slices.
+    #[inline(always)]
     pub fn of(
         values: &[u32],
         classes: &[u8],
@@ -42,6 +43,7 @@ impl Lengths {
     }
 
     // n from 1 to 1,024, classes and locks n long, 2,048 words of logs.
+    #[inline(always)]
     #[tactic(auto, unfolding(model::specs::Buffers::lengths_match))]
     pub fn fit(self) -> bool
         ensures { result ≡ match_of self }
@@ -69,6 +71,7 @@ impl Lengths {
     }
 
     // 7 where the lengths do not fit, 1 where the session is above 15.
+    #[inline(always)]
     #[tactic(auto, unfolding(crate::specs::Pieces::admission))]
     pub fn admit(self, session: u8) -> Result<(), Refusal>
         ensures { refusal_of result ≡ admission (match_of self) session }
@@ -119,7 +122,9 @@ fn record_fits(log: &[u32], n: usize, x: Session) -> bool
     targets::any_publishes(log, count, next)
 }
 
-// 9, or 2: of a call that does not fit the phase.
+// 9, or 2: of a call that does not fit the phase. It stands apart from the tests that pass, which are short enough to be inlined.
+#[cold]
+#[inline(never)]
 #[tactic(auto, unfolding(crate::specs::Pieces::tested))]
 pub fn unfit(log: &[u32], n: usize, x: Session) -> Refusal
     requires { (length log.now ≡ 128) × (n ≤ 1024) }
@@ -148,6 +153,7 @@ pub fn tests(log: &[u32], n: usize, x: Session, fit: bool) -> Result<(), Refusal
 }
 
 // The same for a call of a running session. The tests of other phases stand apart, so that a running session is tested by what it needs alone.
+#[inline(always)]
 pub fn runs(log: &[u32], n: usize, x: Session) -> Result<(), Refusal>
     requires { (length log.now ≡ 128) × (n ≤ 1024) }
     ensures { refusal_of result ≡ tested (record_fits n log.now x) (eqb x.phase 1) }

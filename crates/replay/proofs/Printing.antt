@@ -5,25 +5,23 @@ use Rattle.std.proofs.Math.Seq.{take-append_seam}
 use Rattle.std.specs.Prelude.{IfSome}
 use Rattle.std.specs.Io.KnownBytes.{Appends, Consumes, IsAtEnd}
 use borrow.Author.Tests.{le-leb, ltb-true, ltb-false}
-use Rattle.transcript.specs.declared.Printed.{Printed}
-use Rattle.transcript.specs.declared.Printed.TheVariants.{Bytes}
 use Rattle.transcript.specs.Replay.{Replayed, replayed, replaying}
 use Rattle.replay_text.specs.Transcript.{transcript}
 use Rattle.replay_text.proofs.Inputs.{size_text}
 
 -- ---- the replay's answer, in an output that is long enough
 
-module _ (input o p : List ℕ) (r : Printed) (h : 409600 ≤ length o) (e : replayed r p ≡ replaying input o) where
-  all : replayed r p ≡ replayed (Bytes (length (transcript input))) (transcript input ++ drop (length (transcript input)) o)
+module _ (input o p : List ℕ) (r : Option ℕ) (h : 409600 ≤ length o) (e : replayed r p ≡ replaying input o) where
+  all : replayed r p ≡ replayed (Some (length (transcript input))) (transcript input ++ drop (length (transcript input)) o)
   unfolding replaying
   all = e ∙ rw (le-leb 409600 (length o) h)
 
-  pub answered : r ≡ Bytes (length (transcript input))
+  pub answered : r ≡ Some (length (transcript input))
   answered = ap (λ (x : Replayed). x.answer) all
 
-  pub front : (n : ℕ) → r ≡ Bytes n → (n ≤ length p) × (take n p ≡ transcript input)
+  pub front : (n : ℕ) → r ≡ Some n → (n ≤ length p) × (take n p ≡ transcript input)
   front n b =
-      let many : n ≡ length (transcript input) = let both : Bytes n ≡ Bytes (length (transcript input)) = sym b ∙ answered in cc in
+      let many : n ≡ length (transcript input) = let both : Some n ≡ Some (length (transcript input)) = sym b ∙ answered in cc in
       let text : p ≡ transcript input ++ drop (length (transcript input)) o = ap (λ (x : Replayed). x.output) all in
       (omega (arith, many, simp length-append at (ap length text)), rw (many, text) (take-append_seam (transcript input) (drop (length (transcript input)) o)))
 

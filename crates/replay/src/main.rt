@@ -9,7 +9,6 @@ ghost use Rattle.replay_text.specs.Transcript.{transcript};
 
 use std::io;
 use std::io::{Read, Write};
-use transcript::Printed;
 
 // Reads until `bytes` is full or the input ends, and answers how many bytes it put at the front.
 fn read_full<R: Read>(from: &mut R, bytes: &mut [u8]) -> io::Result<usize>
@@ -35,8 +34,7 @@ fn run<R: Read, W: Write>(from: &mut R, to: &mut W) -> io::Result<()>
     let mut input = [0u8; 65537];
     let mut output = [0u8; 409600];
     let n = read_full(from, &mut input)?;
-    let printed = transcript::replay(&input[..n], &mut output);
-    let Printed::Bytes(end) = printed else {
+    let Some(end) = transcript::replay(&input[..n], &mut output) else {
         return Ok(());
     };
     to.write_all(&output[..end])

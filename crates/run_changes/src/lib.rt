@@ -50,13 +50,16 @@ fn entry_cell(logs: &[u32], session: u8, i: usize) -> usize
 
 // The same, or 1,024 where the cell publishes: of m entries the cell's first counts. (No Option: `cell_of` in specs/Run.antt has 1,024 for no cell, and
 // sweeps a run of any length by it.)
+#[tactic(auto, using(crate::proofs::Cells::published, crate::proofs::Cells::unpublished, crate::proofs::Cells::without_entry))]
 fn unpublished_cell(logs: &[u32], session: u8, m: u8, i: usize) -> usize
     requires { (session < 16) × (m ≤ 32) × (i < m) × (length logs.now ≡ 2048) }
     ensures { result ≡ cell_of logs.now (Turn DropReads session m) i }
 {
     let log = session_log::of_session(logs, session);
     let cell = session_log::cell_at(log, i);
-    let k = look_ups::find(log, m as usize, cell);
+    let Some(k) = look_ups::find(log, m as usize, cell) else {
+        return cell as usize;
+    };
     if session_log::publishes(log, k) {
         return 1024;
     }

@@ -15,9 +15,13 @@ use Rattle.records.specs.declared.Call.{Call}
 use Rattle.records.specs.declared.Call.TheVariants.{Write, Peek}
 use Rattle.refusals.specs.Pieces.{admission}
 use Rattle.any_call.specs.AnyCall.{cell_for}
-use Rattle.run_changes.specs.declared.Change.TheVariants.{Keep}
+use Rattle.refusals.specs.declared.Lengths.{Lengths}
 use Rattle.run_turns.specs.declared.Turn.{Turn}
-use Rattle.run_changes.specs.Run.{store_on, lock_in, swept_by, ChangeFits}
+use Rattle.run_changes.specs.Run.{store_on, lock_in, swept_by, kept, ChangeFits}
+
+-- the lengths of what is lent: n values, k classes, m locks, w words of logs
+abbrev pub lengths_on : ℕ → ℕ → ℕ → ℕ → Lengths
+lengths_on n k m w = record { values = n; classes = k; readers = m; claimants = m; exclusives = m; logs = w }
 
 -- ---- the cell whose lock a call may need
 
@@ -31,7 +35,7 @@ look_of call ss n k m logs =
 
 -- an answer with the records and the run as they were
 abbrev pub only_answer : Sessions → Answer → Turn
-only_answer ss a = record { reply = record { answer = a; sessions = ss }; change = Keep }
+only_answer ss a = record { reply = record { answer = a; sessions = ss }; change = kept }
 
 -- r is the reply of the call under the limits G, and a change that makes of every run of m locks, with lock l at cell c, what the model leaves
 abbrev pub IsTurnUnder : Limits → Call → ℕ → List ℕ → List ℕ → ℕ → Lock → List ℕ → Sessions → List ℕ → List ℕ → Turn → Type 0

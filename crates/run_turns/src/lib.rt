@@ -2,12 +2,16 @@
 // be carried out on the run.
 #![tactic(auto)]
 
-ghost use Rattle.std.specs.Prelude.{◌≡◌};
+ghost use Rattle.std.specs.Prelude.{◌≡◌, ◌%◌};
+ghost use Rattle.model.specs.Buffers.{with_session};
 ghost use Rattle.model.specs.Slices.{as_lent};
+ghost use Rattle.records.specs.declared.Answer.TheVariants.{Refused};
+ghost use Rattle.records.specs.Records.{refusal_number};
 ghost use Rattle.run_changes.specs.Run.{on_run};
-ghost use Rattle.run_turns.specs.Turns.{only_answer, look_of, IsPeekPlan, IsPeekPart, TakesOnRun, WritesOnRun, SetsUpTurn, SetsUpTurnBy, LoadsOnRun};
+ghost use Rattle.run_turns.specs.Turns.{lengths_on, only_answer, look_of, IsPeekPlan, IsPeekPart, TakesOnRun, WritesOnRun, SetsUpTurn, SetsUpTurnBy, LoadsOnRun};
 
-use records::{Answer, Call, Lock, Plan, Reply, Sessions};
+use records::{Answer, Call, Lock, Plan, Refusal, Reply, Sessions};
+use refusals::Lengths;
 use run_changes::Change;
 
 // What a call has answered and changed besides the run, and what it does to the run.
@@ -17,49 +21,57 @@ pub struct Turn {
     pub change: Change,
 }
 
-// An answer with the records and the run as they were.
-fn only_answer(sessions: Sessions, answer: Answer) -> Turn
-    ensures { result ≡ only_answer sessions answer }
+impl Turn {
+    // A refusal, with the records and the run as they were.
+    fn refused(refusal: Refusal, sessions: Sessions) -> Turn
+        ensures { result ≡ only_answer sessions (Refused (refusal_number refusal)) }
+    {
+        Turn {
+            reply: Reply {
+                answer: Answer::from(refusal),
+                sessions,
+            },
+            change: Change::Turn {
+                change: records::Change::Keep,
+                session: 0,
+                entries: 0,
+            },
+        }
+    }
+
+    // A call's turn, with the record put back and its change as one of the run; the session had so many entries.
+    #[tactic(auto, unfolding(run_changes::specs::Run::on_run))]
+    fn taken(t: records::Turn, sessions: Sessions, session: u8, entries: u8) -> Turn
+        ensures { result ≡ record { reply = record { answer = t.answer; sessions = with_session sessions (session % 16) t.session }; change = on_run t.change session entries } }
+    {
+        Turn {
+            reply: turns::put_back(t, sessions, session),
+            change: Change::Turn {
+                change: t.change,
+                session,
+                entries,
+            },
+        }
+    }
+}
+
+// The lengths of what is lent: each list of the locks is as long as the run.
+fn lengths_on(values: usize, classes: usize, locks: usize, logs: usize) -> Lengths
+    ensures { result ≡ lengths_on values classes locks logs }
 {
-    let reply = Reply { answer, sessions };
-    Turn {
-        reply,
-        change: Change::Keep,
+    Lengths {
+        values,
+        classes,
+        readers: locks,
+        claimants: locks,
+        exclusives: locks,
+        logs,
     }
 }
 
 // ---- set-up, but for the run
 
-// Set-up but for the locks.
-pub fn set_up_turn(
-    sessions: Sessions,
-    values: &[u32],
-    classes: &[u8],
-    locks: usize,
-    logs: &mut [u32],
-) -> Turn
-    ensures { SetsUpTurn values classes locks (as_lent logs) sessions result }
-{
-    let n = values.len();
-    if !refusals::lengths_fit(n, classes.len(), locks, locks, locks, logs.len()) {
-        return only_answer(sessions, Answer::Refused(7));
-    }
-    if !caps::all_fit(values, classes) {
-        return only_answer(sessions, Answer::Refused(8));
-    }
-    session_log::clear_words(logs);
-    let idle = records::all_idle();
-    let reply = Reply {
-        answer: Answer::Done,
-        sessions: idle,
-    };
-    Turn {
-        reply,
-        change: Change::Clear(n as u32),
-    }
-}
-
-// The same by a table.
+// Set-up by a table, but for the locks.
 pub fn set_up_turn_by(
     sessions: Sessions,
     values: &[u32],
@@ -70,34 +82,38 @@ pub fn set_up_turn_by(
 ) -> Turn
     ensures { SetsUpTurnBy caps values classes locks (as_lent logs) sessions result }
 {
-    if caps.len() != 16 {
-        return only_answer(sessions, Answer::Refused(7));
-    }
     let n = values.len();
-    if !refusals::lengths_fit(n, classes.len(), locks, locks, locks, logs.len()) {
-        return only_answer(sessions, Answer::Refused(7));
+    let lengths = lengths_on(n, classes.len(), locks, logs.len());
+    if let Err(refusal) = loads::judge_set_up(lengths, values, classes, caps) {
+        return Turn::refused(refusal, sessions);
     }
-    if !caps::caps_pass(caps) {
-        return only_answer(sessions, Answer::Refused(16));
-    }
-    if !caps::all_fit_by(caps, values, classes) {
-        return only_answer(sessions, Answer::Refused(8));
-    }
-    session_log::clear_words(logs);
-    let idle = records::all_idle();
-    let reply = Reply {
-        answer: Answer::Done,
-        sessions: idle,
-    };
+    logs.fill(0);
     Turn {
-        reply,
+        reply: Reply {
+            answer: Answer::Done,
+            sessions: records::all_idle(),
+        },
         change: Change::Clear(n as u32),
     }
 }
 
+// The same by our table.
+pub fn set_up_turn(
+    sessions: Sessions,
+    values: &[u32],
+    classes: &[u8],
+    locks: usize,
+    logs: &mut [u32],
+) -> Turn
+    ensures { SetsUpTurn values classes locks (as_lent logs) sessions result }
+{
+    set_up_turn_by(sessions, values, classes, locks, logs, caps::ours())
+}
+
 // ---- a call, but for the run
 
-// The cell whose lock a call may need; 0 where it needs none, and where it is refused by 7 or 1.
+// The cell whose lock a call may need; 0 where it needs none, and where it is refused by 7 or 1. (No Option: `look_of`, by which `take_turn` is told its
+// lock, has cell 0 there.)
 pub fn look_up(
     call: Call,
     sessions: Sessions,
@@ -109,33 +125,18 @@ pub fn look_up(
     ensures { result ≡ look_of call sessions n classes locks logs.now }
 {
     let session = call.session();
-    if refusals::admit(n, classes, locks, locks, locks, logs.len(), session) != 0 {
+    let lengths = lengths_on(n, classes, locks, logs.len());
+    if let Err(_) = lengths.admit(session) {
         return 0;
     }
-    let x = sessions.records[session as usize];
+    let x = turns::record_of(sessions, session);
     any_call::cell_for(call, session_log::of_session(logs, session), n, x) as usize
-}
-
-// A turn's change as one of the run.
-#[tactic(auto, unfolding(run_changes::specs::Run::on_run))]
-fn on_run(change: records::Change, session: u8, count: u8) -> Change
-    ensures { result ≡ on_run change session count }
-{
-    match change {
-        records::Change::Keep => Change::Keep,
-        records::Change::Join(c) => Change::Join(session, c),
-        records::Change::Claim(c) => Change::Claim(session, c),
-        records::Change::Acquire(c) => Change::Acquire(session, c),
-        records::Change::Vacate(c) => Change::Vacate(session, c),
-        records::Change::Withdraw => Change::Withdraw(session, count),
-        records::Change::DropReads => Change::Leave(session, count),
-    }
 }
 
 // Any call: refusals 7 and 1, then its turn, with the record put back.
 pub fn take_turn(
     call: Call,
-    mut sessions: Sessions,
+    sessions: Sessions,
     values: &mut [u32],
     classes: &[u8],
     locks: usize,
@@ -145,35 +146,18 @@ pub fn take_turn(
     ensures { TakesOnRun call (as_lent values) classes locks l (as_lent logs) sessions result }
 {
     let session = call.session();
-    let refusal = refusals::admit(
-        values.len(),
-        classes.len(),
-        locks,
-        locks,
-        locks,
-        logs.len(),
-        session,
-    );
-    if refusal != 0 {
-        return only_answer(sessions, Answer::Refused(refusal));
+    let lengths = lengths_on(values.len(), classes.len(), locks, logs.len());
+    if let Err(refusal) = lengths.admit(session) {
+        return Turn::refused(refusal, sessions);
     }
-    let i = session as usize;
-    let x = sessions.records[i];
+    let x = turns::record_of(sessions, session);
     let t = any_call::any(call, values, classes, logs, x, l, session);
-    let y = t.session;
-    let answer = t.answer;
-    let change = t.change;
-    sessions.records[i] = y;
-    let reply = Reply { answer, sessions };
-    Turn {
-        reply,
-        change: on_run(change, session, x.count),
-    }
+    Turn::taken(t, sessions, session, x.count)
 }
 
 // A write by a table: refusals 7, also of the table, and 1, then its turn with the lock of its cell, with the record put back.
 pub fn write_turn(
-    mut sessions: Sessions,
+    sessions: Sessions,
     values: &[u32],
     classes: &[u8],
     locks: usize,
@@ -187,40 +171,17 @@ pub fn write_turn(
     ensures { WritesOnRun caps session cell value values classes locks l (as_lent logs) sessions result }
 {
     if caps.len() != 16 {
-        return only_answer(sessions, Answer::Refused(7));
+        return Turn::refused(Refusal::WrongLengths, sessions);
     }
-    let refusal = refusals::admit(
-        values.len(),
-        classes.len(),
-        locks,
-        locks,
-        locks,
-        logs.len(),
-        session,
-    );
-    if refusal != 0 {
-        return only_answer(sessions, Answer::Refused(refusal));
+    let lengths = lengths_on(values.len(), classes.len(), locks, logs.len());
+    if let Err(refusal) = lengths.admit(session) {
+        return Turn::refused(refusal, sessions);
     }
-    let i = session as usize;
-    let x = sessions.records[i];
-    let p = plans::write_plan_by(
-        caps,
-        session_log::of_session(logs, session),
-        classes,
-        x,
-        cell,
-        value,
-    );
+    let x = turns::record_of(sessions, session);
+    let log = session_log::of_session(logs, session);
+    let p = plans::write_plan_by(caps, log, classes, x, cell, value);
     let t = turns::write(values, logs, x, l, session, cell, value, p);
-    let y = t.session;
-    let answer = t.answer;
-    let change = t.change;
-    sessions.records[i] = y;
-    let reply = Reply { answer, sessions };
-    Turn {
-        reply,
-        change: on_run(change, session, x.count),
-    }
+    Turn::taken(t, sessions, session, x.count)
 }
 
 // ---- a table loaded: of run and logs it is told the counts
@@ -237,10 +198,12 @@ pub fn load_turn(
 ) -> Reply
     ensures { LoadsOnRun (as_lent caps) table values classes locks logs sessions result }
 {
-    let answer = loads::load_caps(
-        sessions, values, classes, locks, locks, locks, logs, caps, table,
-    );
-    Reply { answer, sessions }
+    let lengths = lengths_on(values.len(), classes.len(), locks, logs);
+    let loaded = loads::load_caps(sessions, lengths, values, classes, caps, table);
+    Reply {
+        answer: Answer::from(loaded),
+        sessions,
+    }
 }
 
 // ---- a peek, which leaves all that is lent as it is: of the run it is told the count
@@ -257,11 +220,11 @@ fn peek_plan(
 ) -> Plan
     ensures { IsPeekPlan n classes locks logs.now sessions session cell result }
 {
-    let refusal = refusals::admit(n, classes, locks, locks, locks, logs.len(), session);
-    if refusal != 0 {
-        return Plan::Refuse(refusal);
+    let lengths = lengths_on(n, classes, locks, logs.len());
+    if let Err(refusal) = lengths.admit(session) {
+        return Plan::from(refusal);
     }
-    let x = sessions.records[session as usize];
+    let x = turns::record_of(sessions, session);
     plans::peek_plan(session_log::of_session(logs, session), n, x, cell)
 }
 

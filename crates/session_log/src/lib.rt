@@ -1,5 +1,6 @@
 // One session's log: 128 words, 32 entries of four words (document 01, "What the caller lends", Logs).
-// Entries are looked at where they lie; contracts are the model's definitions.
+// Entries are looked at where they lie; contracts are the model's definitions. By document 01 a log is a part of the slice that the caller lends: so an entry is named by
+// that part and its place, and no struct stands for either.
 #![tactic(auto)]
 
 ghost use Rattle.std.specs.Prelude.{◌≡◌, ◌+◌, ◌*◌, ◌<◌, length, replicate};

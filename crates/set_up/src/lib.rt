@@ -19,6 +19,7 @@ fn empty(readers: &mut [u16], claimants: &mut [u8], exclusives: &mut [u8], logs:
 }
 
 // Set-up by a table: all sessions idle, all locks empty, all log words 0. 100, 7, 16 or 8.
+#[inline(always)]
 pub fn set_up_with_caps(
     sessions: Sessions,
     values: &[u32],

@@ -78,7 +78,12 @@ pub fn read(
     if let Err(refusal) = lengths.admit(session) {
         return SessionReply::refused(refusal, x);
     }
-    let p = plans::read_plan(session_log::of_session(logs, session), values.len(), x, cell);
+    let p = plans::read_plan(
+        session_log::of_session(logs, session),
+        values.len(),
+        x,
+        cell,
+    );
     let l = locks::lock_for(readers, claimants, exclusives, p);
     let t = turns::read(values, logs, x, l, session, cell, p);
     let log = session_log::of_session(logs, session);
@@ -109,7 +114,12 @@ pub fn hold(
     if let Err(refusal) = lengths.admit(session) {
         return SessionReply::refused(refusal, x);
     }
-    let p = plans::hold_plan(session_log::of_session(logs, session), values.len(), x, cell);
+    let p = plans::hold_plan(
+        session_log::of_session(logs, session),
+        values.len(),
+        x,
+        cell,
+    );
     let l = locks::lock_for(readers, claimants, exclusives, p);
     let t = turns::hold(values, logs, x, l, session, cell, p);
     let log = session_log::of_session(logs, session);

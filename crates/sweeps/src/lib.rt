@@ -88,7 +88,7 @@ impl CellSet {
         ensures { self.new ≡ mark self.old cell }
     {
         let w = (cell / 64) as usize;
-        self.words[w] = self.words[w] | (1u64 << (cell % 64));
+        self.words[w] |= 1u64 << (cell % 64);
     }
 }
 

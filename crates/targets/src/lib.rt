@@ -15,14 +15,15 @@ fn lower(log: &[u32], i: usize, from: u32, best: u32) -> u32
     ensures { result ≡ better log.now from i best }
 {
     let cell = session_log::cell_at(log, i);
-    if from <= cell && cell < best && session_log::publishes(log, i) {
-        cell
-    } else {
+    if cell < from || best <= cell || !session_log::publishes(log, i) {
         best
+    } else {
+        cell
     }
 }
 
 // The lowest cell not below from and below n of the first count entries that publish, each judged by itself; n where there is none.
+#[tactic(auto, unfolding(session_log::specs::Slots::lowest_publishing), using(session_log::proofs::Targets::publishing_more))]
 fn lowest_publishing(log: &[u32], count: usize, n: u32, from: u32) -> u32
     requires { 4 * count ≤ length log.now }
     ensures { result ≡ lowest_publishing log.now n from count }
@@ -68,7 +69,6 @@ struct Two {
 }
 
 // The lowest two of the best cells so far and entry i's, where that is not below from and publishes.
-#[tactic(auto, using(session_log::proofs::Twos::two_unpublished, session_log::proofs::Twos::two_before, session_log::proofs::Twos::two_above, session_log::proofs::Twos::two_lower, session_log::proofs::Twos::two_between, session_log::proofs::Twos::two_again))]
 fn lower_two(log: &[u32], i: usize, from: u32, best: Two) -> Two
     requires { 4 * i + 3 < length log.now }
     ensures { (n : ℕ) → LowestTwo log.now n from i best.low best.high → LowestTwo log.now n from (i + 1) result.low result.high }
@@ -91,6 +91,7 @@ fn lower_two(log: &[u32], i: usize, from: u32, best: Two) -> Two
 }
 
 // The lowest two cells not below from and below n of the first count entries that publish, each judged by itself.
+#[tactic(auto, unfolding(session_log::specs::Slots::lowest_publishing))]
 fn lowest_two(log: &[u32], count: usize, n: u32, from: u32) -> Two
     requires { 4 * count ≤ length log.now }
     ensures { LowestTwo log.now n from count result.low result.high }
@@ -150,6 +151,7 @@ pub fn next_two(log: &[u32], count: usize, n: u32, from: u32) -> Option<Next>
 }
 
 // Whether any cell not below from publishes: its first entry does.
+#[tactic(auto, using(session_log::proofs::Targets::any_here, session_log::proofs::Targets::any_nowhere))]
 pub fn any_publishes(log: &[u32], count: usize, from: u32) -> bool
     requires { 4 * count ≤ length log.now }
     ensures { result ≡ some? (target_in log.now count from) }
@@ -162,12 +164,12 @@ pub fn any_publishes(log: &[u32], count: usize, from: u32) -> bool
     false
 }
 
-// Whether entry i's cell is not below from, and the entry publishes and is the first of its cell.
+// Whether entry i publishes, its cell is not below from, and it is the first of its cell. What most entries fail is told first.
 #[tactic(auto, unfolding(session_log::specs::Slots::first_publishes))]
 fn first_publishes(log: &[u32], i: usize, from: u32) -> bool
     requires { 4 * i + 3 < length log.now }
     ensures { result ≡ first_publishes log.now i from }
 {
     let cell = session_log::cell_at(log, i);
-    from <= cell && session_log::publishes(log, i) && look_ups::find(log, i, cell).is_none()
+    session_log::publishes(log, i) && from <= cell && look_ups::find(log, i, cell).is_none()
 }

@@ -3,8 +3,7 @@ use Prim.Native.Nat.{ℕ, ◌+◌, ◌≤◌, ◌<◌}
 use native.Mathlib.Omega.{arith}
 use mathlib.Core.Path.{◌≡◌, refl, sym, ◌∙◌, ap}
 use mathlib.Core.List.{List, ◌++◌}
-use lib.Dec.{leb}
-use lib.ListN.{length, take, drop, length-replicate, length-append}
+use lib.ListN.{length, take, drop, length-replicate}
 use lib.Seq.{sets, sets-eq, length-take-le}
 use borrow.Author.Tests.{le-leb, lt-leb, eq-eqb, ne_eqb}
 use Rattle.records.specs.declared.Answer.{Answer}
@@ -13,14 +12,13 @@ use Rattle.model.specs.Buffers.{Store, ours, size, lengths_fit, fresh}
 use Rattle.model.specs.Effects.{number}
 use Rattle.model.specs.Step.{Outcome, outcome, set_up_refusal, set_up_answer, set_up, set_up_effect}
 use Rattle.model.proofs.Demand3.{set_up_fresh}
-use Rattle.model.proofs.Tools.{test}
 use Rattle.contracts.specs.Lent.{store_of}
-use Rattle.transcript.specs.declared.Printed.{Printed}
-use Rattle.transcript.specs.declared.Printed.TheVariants.{Bytes, Short}
+use Rattle.std.specs.Prelude.{Some, None}
 use Rattle.items.specs.Items.{Item}
 use Rattle.replay_text.specs.Lines.{set_up_line}
-use Rattle.transcript.specs.Replay.{Replayed, replayed, replaying}
-use Rattle.lines.specs.Output.{Out, out, put}
+use Rattle.transcript.specs.Replay.{replayed, replaying}
+use Rattle.lines.specs.declared.Page.{Page}
+use Rattle.lines.specs.Output.{Out, out, put, held}
 use Rattle.transcript.specs.Output.{Fitted}
 use Rattle.replay_text.specs.Transcript.{given, calls_text, after_set_up, set_up_text, transcript}
 use Rattle.lines.proofs.Puts.{ends_at}
@@ -92,33 +90,26 @@ fitted vs ks readers claimants exclusives logs few classed r c e l =
 
 -- ---- the whole answer
 
--- the text at the front of an output that is long enough
-pub printed_text : (input o : List ℕ) {a : ℕ} {p : List ℕ} → 409600 ≤ length o → a ≤ 409600 → out a p ≡ put o 0 (transcript input) → replayed (Bytes a) p ≡ replaying input o
-unfolding put replaying
-printed_text input o {a} {p} h b e =
-    let none : 0 + length (transcript input) ≡ length (transcript input) = omega arith in
-    let place : a ≡ length (transcript input) = ends_at o 0 (transcript input) e ∙ none in
-    let text : p ≡ sets o 0 (transcript input) = ap (λ (x : Out). x.output) e in
-    ap (λ (n : ℕ). replayed (Bytes n) p) place
-    ∙ ap (replayed (Bytes (length (transcript input)))) (text ∙ sets-eq (transcript input) o 0 (omega arith) ∙ ap (λ (n : ℕ). transcript input ++ drop n o) none)
-    ∙ rw (le-leb _ _ h)
+-- a page that was new, and has the text now
+module _ (input o : List ℕ) (p q : Page) (new : held p ≡ out 0 o) (text : held q ≡ put p.output.now p.at (transcript input)) (few : q.at ≤ p.at + 409600) where
+  begun : held q ≡ put o 0 (transcript input)
+  begun = text ∙ ap (λ (x : Out). put x.output x.at (transcript input)) new
+
+  pub text_bound : length (transcript input) ≤ 409600
+  text_bound = omega (arith, ends_at _ _ _ begun, ap (λ (x : Out). x.at) new)
+
+  -- its text stands at the front of an output that is long enough
+  pub printed_text : {left : List ℕ} → 409600 ≤ length o → left ≡ q.output.now → replayed (Some q.at) left ≡ replaying input o
+  unfolding put replaying
+  printed_text {left} h same =
+      let none : 0 + length (transcript input) ≡ length (transcript input) = omega arith in
+      let place : q.at ≡ length (transcript input) = ends_at o 0 (transcript input) begun ∙ none in
+      let all : left ≡ sets o 0 (transcript input) = same ∙ ap (λ (x : Out). x.output) begun in
+      ap (λ (n : ℕ). replayed (Some n) left) place
+      ∙ ap (replayed (Some (length (transcript input)))) (all ∙ sets-eq (transcript input) o 0 (omega (arith, text_bound)) ∙ ap (λ (n : ℕ). transcript input ++ drop n o) none)
+      ∙ rw (le-leb _ _ h)
 
 -- a shorter one
-pub short : (input o : List ℕ) → length o < 409600 → replayed Short o ≡ replaying input o
+pub short : (input o : List ℕ) → length o < 409600 → replayed None o ≡ replaying input o
 unfolding replaying
 short input o h = rw (lt-leb _ _ h)
-
--- what was printed lies inside the output
-pub within : (input o p : List ℕ) (r : Printed) (n : ℕ) → replayed r p ≡ replaying input o → r ≡ Bytes n → n ≤ length p
-unfolding replaying
-within input o p r n e h =
-    test (leb 409600 (length o))
-    (λ t.
-    let full : replayed r p ≡ replayed (Bytes (length (transcript input))) (transcript input ++ drop (length (transcript input)) o) = e ∙ simp t in
-    let said : r ≡ Bytes (length (transcript input)) = ap (λ (x : Replayed). x.answer) full in
-    let many : n ≡ length (transcript input) = cc in
-    omega (arith, simp length-append at (ap (λ (x : Replayed). length x.output) full)))
-    (λ t.
-    let none : replayed r p ≡ replayed Short o = e ∙ simp t in
-    let said : r ≡ Short = ap (λ (x : Replayed). x.answer) none in
-    absurd (let z : ◌≡◌ {A = ℕ} 0 1 = cc in omega arith))

@@ -1,16 +1,18 @@
 -- One call: after the store's step and the answer's line the rest of the text is that of the items behind it.
 use Prim.Native.Nat.{ℕ, ◌+◌}
 use native.Mathlib.Numerals.{add-one}
-use mathlib.Core.Path.{◌≡◌, refl, sym, ◌∙◌, ap}
+use mathlib.Core.Path.{◌≡◌, sym, ◌∙◌, ap}
 use mathlib.Core.List.{List, [], ◌∷◌, ◌++◌}
 use Rattle.records.specs.declared.Answer.{Answer}
 use Rattle.records.specs.declared.Call.{Call}
 use Rattle.model.specs.Buffers.{Store, ours}
 use Rattle.model.specs.Step.{Outcome, outcome, effect, step, answer_of, GoesBy}
 use Rattle.model.proofs.Tables.{goes_by_ours}
-use Rattle.items.specs.declared.Next.{Next}
+use Rattle.std.specs.Prelude.{Some, None, Ok, Err}
+use Rattle.field.specs.Answer.{number_of}
 use Rattle.items.specs.declared.Next.TheVariants as next
-use Rattle.items.specs.Items.{Item, asked, following}
+use Rattle.items.specs.Items.{Standing, Item, asked, following}
+use Rattle.transcript.specs.Output.{call_of}
 use Rattle.replay_text.specs.Lines.{answer_line, cell_lines}
 use Rattle.lines.specs.Output.{out, put, stop_line}
 use Rattle.replay_text.specs.Transcript.{calls_text}
@@ -29,9 +31,17 @@ module _ (k : Call) (i : ℕ) (o : List ℕ) (at : ℕ) (σ : Store) where
       rw (add-one, left) (after o at _ _ line ∙ ap (put o at) (sym (text_asked σ k i items)))
 
 -- what is no call ends them
-pub stops : (place : ℕ) (x : Next) (f : ℕ → List Item) (i : ℕ) (σ : Store) → ((k : Call) (n : ℕ) → x ≡ next.Call k n → ⊥) → calls_text i σ (following place x f) ≡ stop_line place x ++ cell_lines 0 σ.lent.values
-unfolding following stop_line
-stops place (next.Cell class value n) f i σ h = text_late_cell i σ place class value (f (place + n))
-stops place (next.Call k n) f i σ h = absurd (h k n refl)
-stops place next.End f i σ h = text_end i σ
-stops place (next.Refused number) f i σ h = text_refused i σ place number []
+pub stops : (place : ℕ) (x : Standing) (f : ℕ → List Item) (i : ℕ) (σ : Store) → None ≡ call_of x → calls_text i σ (following place x f) ≡ stop_line place x ++ cell_lines 0 σ.lent.values
+unfolding call_of following stop_line
+stops place (Ok (Some (next.Cell c))) f i σ h = text_late_cell i σ place c.class c.value (f (place + c.length))
+stops place (Ok (Some (next.Call k n))) f i σ h = absurd cc
+stops place (Ok None) f i σ h = text_end i σ
+stops place (Err r) f i σ h = text_refused i σ place (number_of r.refusal) []
+
+-- a call stands there
+pub standing : (x : Standing) (k : Call) (n : ℕ) → Some (k, n) ≡ call_of x → Ok (Some (next.Call k n)) ≡ x
+unfolding call_of
+standing (Ok (Some (next.Cell c))) k n h = absurd cc
+standing (Ok (Some (next.Call j m))) k n h = let same : ◌≡◌ {A = Call × ℕ} (k, n) (j, m) = cc in ap (λ (p : Call × ℕ). Ok (Some (next.Call p.0 p.1))) same
+standing (Ok None) k n h = absurd cc
+standing (Err r) k n h = absurd cc

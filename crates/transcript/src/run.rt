@@ -4,17 +4,33 @@ ghost use Rattle.model.specs.Buffers.{ours};
 ghost use Rattle.model.specs.Slices.{as_lent};
 ghost use Rattle.contracts.specs.Lent.{before};
 ghost use Rattle.lines.specs.Output.{Puts};
-ghost use Rattle.transcript.specs.Output.{PutsCalls, PutsSetUp, Fitted};
+ghost use Rattle.transcript.specs.Output.{call_of, PutsCalls, PutsSetUp, Fitted};
 ghost use Rattle.replay_text.specs.Transcript.{transcript};
 
-use items::{Cells, Next, next_at, read_cells};
-use records::Sessions;
+use field::Refused;
+use items::{Next, next_at, read_cells};
+use lines::Page;
+use records::{Call, Sessions};
 
-// The calls from a place on, each with its line, then the line of what ends them and the cells.
+// The call that stands at a place, with its field's length; none where something else stands, or nothing.
+#[tactic(auto, unfolding(crate::specs::Output::call_of))]
+fn call_of(next: Result<Option<Next>, Refused>) -> Option<(Call, usize)>
+    ensures { result ≡ call_of next }
+{
+    match next {
+        Ok(Some(Next::Call { call, length })) => Some((call, length)),
+        Ok(Some(Next::Cell(_))) => None,
+        Ok(None) => None,
+        Err(_) => None,
+    }
+}
+
+// The calls from a place on, each with its line, then the line of what ends them and the cells. The six slices of the store stand apart: so `lists::step` and
+// `set_up::set_up` take them.
 fn run_calls(
     input: &[u8],
     mut place: usize,
-    output: &mut [u8],
+    page: &mut Page,
     mut sessions: Sessions,
     values: &mut [u32],
     classes: &[u8],
@@ -22,23 +38,24 @@ fn run_calls(
     claimants: &mut [u8],
     exclusives: &mut [u8],
     logs: &mut [u32],
-) -> usize
-    requires { (place ≤ length input.now) × (length input.now ≤ 65536) × (409600 ≤ length output.old) × (length values.old ≤ 1024) }
-    ensures { PutsCalls input place (as_lent output) (before ours (as_lent values) classes (as_lent readers) (as_lent claimants) (as_lent exclusives) (as_lent logs) sessions) result }
+)
+    requires { (place ≤ length input.now) × (length input.now ≤ 65536) × (page.old.at ≡ 0) × (409600 ≤ length page.old.output.now) × (length values.old ≤ 1024) }
+    ensures same { page.new.output.ghost_name ≡ page.old.output.ghost_name }
+    ensures text { PutsCalls input place page.old page.new (before ours (as_lent values) classes (as_lent readers) (as_lent claimants) (as_lent exclusives) (as_lent logs) sessions) }
 {
+    // The ordinal is printed, and indexes nothing.
     let mut ordinal: u32 = 1;
-    let mut at = 0;
     loop {
         let next = next_at(input, place);
-        let Next::Call { call, length } = next else {
-            return lines::put_end(output, at, place, next, &values[..]);
+        let Some((call, length)) = call_of(next) else {
+            page.end(place, next, &values[..]);
+            return;
         };
         let reply = lists::step(
             call, sessions, values, classes, readers, claimants, exclusives, logs,
         );
-        let answer = reply.answer;
         sessions = reply.sessions;
-        at = lines::put_answer(output, at, ordinal, answer);
+        page.answer(ordinal, reply.answer);
         ordinal += 1;
         place += length;
     }
@@ -48,17 +65,18 @@ fn run_calls(
 fn set_up_and_run(
     input: &[u8],
     from: usize,
-    output: &mut [u8],
+    page: &mut Page,
     values: &mut [u32],
     classes: &[u8],
     readers: &mut [u16],
     claimants: &mut [u8],
     exclusives: &mut [u8],
     logs: &mut [u32],
-) -> usize
-    requires bounds { (from ≤ length input.now) × (length input.now ≤ 65536) × (409600 ≤ length output.old) }
+)
+    requires bounds { (from ≤ length input.now) × (length input.now ≤ 65536) × (page.old.at ≡ 0) × (409600 ≤ length page.old.output.now) }
     requires fitted { Fitted values.old classes.now readers.old claimants.old exclusives.old logs.old }
-    ensures { PutsSetUp input from (as_lent output) (as_lent values) classes result }
+    ensures same { page.new.output.ghost_name ≡ page.old.output.ghost_name }
+    ensures text { PutsSetUp input from page.old page.new (as_lent values) classes }
 {
     let reply = set_up::set_up(
         records::all_idle(),
@@ -69,27 +87,30 @@ fn set_up_and_run(
         exclusives,
         logs,
     );
-    let answer = reply.answer;
-    let sessions = reply.sessions;
-    let n = answer.number();
+    let n = reply.answer.number();
     if n != 100 {
-        return lines::put_set_up(output, 0, n);
+        page.set_up(n);
+        return;
     }
     run_calls(
-        input, from, output, sessions, values, classes, readers, claimants, exclusives, logs,
-    )
+        input,
+        from,
+        page,
+        reply.sessions,
+        values,
+        classes,
+        readers,
+        claimants,
+        exclusives,
+        logs,
+    );
 }
 
 // The same on locks and logs of its own.
-fn run_cells(
-    input: &[u8],
-    from: usize,
-    output: &mut [u8],
-    values: &mut [u32],
-    classes: &[u8],
-) -> usize
-    requires { (from ≤ length input.now) × (length input.now ≤ 65536) × (409600 ≤ length output.old) × (length values.old ≤ 1024) × (length classes.now ≡ length values.old) }
-    ensures { PutsSetUp input from (as_lent output) (as_lent values) classes result }
+fn run_cells(input: &[u8], from: usize, page: &mut Page, values: &mut [u32], classes: &[u8])
+    requires { (from ≤ length input.now) × (length input.now ≤ 65536) × (page.old.at ≡ 0) × (409600 ≤ length page.old.output.now) × (length values.old ≤ 1024) × (length classes.now ≡ length values.old) }
+    ensures same { page.new.output.ghost_name ≡ page.old.output.ghost_name }
+    ensures text { PutsSetUp input from page.old page.new (as_lent values) classes }
 {
     let mut readers = [0u16; 1024];
     let mut claimants = [0u8; 1024];
@@ -99,35 +120,37 @@ fn run_cells(
     set_up_and_run(
         input,
         from,
-        output,
+        page,
         values,
         classes,
         &mut readers[..count],
         &mut claimants[..count],
         &mut exclusives[..count],
         &mut logs,
-    )
+    );
 }
 
 // The whole text.
-pub(crate) fn print(input: &[u8], output: &mut [u8]) -> usize
-    requires { 409600 ≤ length output.old }
-    ensures { Puts (as_lent output) 0 (transcript input.now) 409600 result }
+pub(crate) fn print(input: &[u8], page: &mut Page)
+    requires { (page.old.at ≡ 0) × (409600 ≤ length page.old.output.now) }
+    ensures same { page.new.output.ghost_name ≡ page.old.output.ghost_name }
+    ensures text { Puts page.old page.new (transcript input.now) 409600 }
 {
     if 65536 < input.len() {
-        return lines::put_size(output, 0);
+        page.size();
+        return;
     }
     let mut values = [0u32; 1024];
     let mut classes = [0u8; 1024];
-    let found = read_cells(input, &mut values, &mut classes);
-    let Cells::Found { count, place } = found else {
-        return lines::put_set_up(output, 0, 7);
+    let Some(cells) = read_cells(input, &mut values, &mut classes) else {
+        page.set_up(7);
+        return;
     };
     run_cells(
         input,
-        place,
-        output,
-        &mut values[..count],
-        &classes[..count],
-    )
+        cells.place,
+        page,
+        &mut values[..cells.count],
+        &classes[..cells.count],
+    );
 }

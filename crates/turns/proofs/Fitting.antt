@@ -22,8 +22,9 @@ use Rattle.model.proofs.Tools.{split, test}
 use Rattle.sweeps.specs.Sweeps.{Swept}
 use Rattle.locks.specs.Changes.{ChangeFits}
 use Rattle.advance.specs.Pieces.{due_on, due_cell, advance_on, due_plan}
-use Rattle.advance.specs.declared.Due.{Due}
-use Rattle.advance.specs.declared.Due.TheVariants.{Refused, Slot}
+use Rattle.targets.specs.declared.Next.{Next}
+use Rattle.records.specs.declared.Refusal.{Refusal}
+use Rattle.std.specs.Prelude.{Result, Ok, Err}
 use Rattle.model.proofs.Passing.{Entries, record_entries}
 use Rattle.turns.proofs.Guards.{guarded}
 use Rattle.advance.proofs.Agree.{Advancing, due_known, advance_agree}
@@ -70,9 +71,9 @@ module _ (n : ℕ) (log : List ℕ) (x : Session) where
       (λ u. split (PlanFits n log x) (eqb (other_readers s l.readers) 0) (λ v. a.cell) (λ v. a.cell)))
       (λ t. split (PlanFits n log x) (eqb x.phase 3) (λ u. tt) (λ u. a.cell))
 
-  due_plan_fits : (l : Lock) (s : ℕ) (d : Due) → d ≡ due_on n log x → PlanFits n log x (due_plan s log x l d)
-  due_plan_fits l s (Refused r) e = unfold PlanFits due_plan in tt
-  due_plan_fits l s (Slot k more) e = unfold due_plan in entry_fits l s k (due_known n log x k more (sym e))
+  due_plan_fits : (l : Lock) (s : ℕ) (r : Result Next Refusal) → r ≡ due_on n log x → PlanFits n log x (due_plan s log x l r)
+  due_plan_fits l s (Err q) e = unfold PlanFits due_plan in tt
+  due_plan_fits l s (Ok d) e = unfold due_plan in entry_fits l s d.slot (due_known n log x d (sym e))
 
   -- ---- every call
 

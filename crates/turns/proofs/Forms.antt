@@ -30,8 +30,8 @@ use Rattle.refusals.specs.Pieces.{match_of, admission}
 use Rattle.records.specs.declared.Refusal.{Refusal}
 use Rattle.records.specs.Records.{refusal_number}
 use Rattle.advance.specs.Pieces.{due_on, due_cell, advance_on, due_plan}
-use Rattle.advance.specs.declared.Due.{Due}
-use Rattle.advance.specs.declared.Due.TheVariants.{Refused, Slot}
+use Rattle.targets.specs.declared.Next.{Next}
+use Rattle.std.specs.Prelude.{Result}
 use Rattle.advance.proofs.Agree.{advance_agree}
 use Rattle.calls.proofs.Choices.{Choice, refuses, knows, enters, read_choice, hold_choice, write_choice, when_told}
 use Rattle.turns.specs.InLogs.{in_logs}
@@ -98,7 +98,7 @@ module _ (n : ℕ) (log : List ℕ) (x : Session) (c : ℕ) (L : Locks) (l : Loc
       (λ h. ap (λ (k : Lock). write_plan T ks n log x k c v) h)
 
 -- and so is what an advance decides at the entry that is due
-pub advance_planned : (n s : ℕ) (ks log : List ℕ) (x : Session) (L : Locks) (l : Lock) (d : Due) (c : ℕ) → d ≡ due_on n log x → c ≡ due_cell log d → l ≡ lock_at L c
+pub advance_planned : (n s : ℕ) (ks log : List ℕ) (x : Session) (L : Locks) (l : Lock) (d : Result Next Refusal) (c : ℕ) → d ≡ due_on n log x → c ≡ due_cell log d → l ≡ lock_at L c
     → due_plan s log x l d ≡ plan (Advance s) n ks ours log x (lock_at L)
 advance_planned n s ks log x L l d c e f g = rw (g, f, e) (advance_agree n s ks ours log x (lock_at L))
 

@@ -7,18 +7,18 @@ use Rattle.advance.proofs.due_slot.Goals as goal
 pub returns-then-not-entries_fit : goal.returns-then-not-entries_fit
 returns-then-not-entries_fit c = due_odd _ _ _ _ c.entries_fit.ensures c.if-not-entries_fit.true
 
-pub returns-then-phase-lt2 : goal.returns-then-phase-lt2
-returns-then-phase-lt2 c = due_early _ _ _ _ c.entries_fit.ensures c.if-not-entries_fit.false c.if-phase-lt2.true
+pub returns-then-x-lt2 : goal.returns-then-x-lt2
+returns-then-x-lt2 c = due_early _ _ _ _ c.entries_fit.ensures c.if-not-entries_fit.false c.if-x-lt2.true
 
-pub next_two-two-requires : goal.next_two-two-requires
-next_two-two-requires c =
-    let w = listed _ _ _ _ c.entries_fit.ensures c.if-not-entries_fit.false c.if-phase-lt2.false in
+pub next_two-requires : goal.next_two-requires
+next_two-requires c =
+    let w = listed _ _ _ _ c.entries_fit.ensures c.if-not-entries_fit.false c.if-x-lt2.false in
     (omega (arith, w.count), search rules, w.cells)
 
-pub returns-then-count-k : goal.returns-then-count-k
-returns-then-count-k c =
-    due_none _ _ _ _ c.entries_fit.ensures c.if-not-entries_fit.false c.if-phase-lt2.false _ c.next_two-two.ensures.slot_is c.if-count-k.true
+pub returns-in_default : goal.returns-in_default
+returns-in_default c =
+    due_none _ _ _ _ c.entries_fit.ensures c.if-not-entries_fit.false c.if-x-lt2.false _ c.next_two.ensures c.in_default.is
 
 pub returns : goal.returns
 returns c =
-    due_some _ _ _ _ c.entries_fit.ensures c.if-not-entries_fit.false c.if-phase-lt2.false _ c.next_two-two.ensures.slot_is c.if-count-k.false _ c.next_two-two.ensures.more_is
+    due_some _ _ _ _ c.entries_fit.ensures c.if-not-entries_fit.false c.if-x-lt2.false _ c.next_two.ensures _ c.in-Some.is

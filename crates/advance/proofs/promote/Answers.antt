@@ -16,14 +16,14 @@ pub returns-then-waits : goal.returns-then-waits
 returns-then-waits c = (
   λ vs log m.
       turn_waiting _ _ _ _ _ _
-      (sym (promote_waits _ _ _ _ c.loses.ensures c.if-loses.false _ c.alone-waits.ensures c.if-waits.true _ c.others-others.ensures)),
-  tells_others c.args.l _ c.requires.2 _ c.alone-waits.ensures c.if-waits.true _ c.others-others.ensures,
+      (sym (promote_waits _ _ _ _ c.loses.ensures c.if-loses.false _ c.alone-waits.ensures c.if-waits.true _ c.others.ensures)),
+  tells_others c.args.l _ c.requires.2 _ c.alone-waits.ensures c.if-waits.true _ c.others.ensures,
 )
 
 pub returns : goal.returns
 returns c = (
   λ vs log m.
-      turn_acquired _ _ _ _ _ _ m _ c.handle-h.ensures
+      turn_acquired _ _ _ _ _ _ m _ c.handle.ensures
       (sym (promote_acquires _ _ _ _ c.loses.ensures c.if-loses.false _ c.alone-waits.ensures c.if-waits.false)),
   tells_acquired c.args.l c.args.session,
 )

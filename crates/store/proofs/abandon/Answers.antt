@@ -1,5 +1,5 @@
 -- 7 and 1 are the model's; past them the turn is, and the session is rolled back.
-use Rattle.std.proofs.Common.{refl}
+use Rattle.std.proofs.Common.{refl, rules}
 use Rattle.contracts.specs.Lent.{buffers_of}
 use Rattle.model.specs.Plans.{plan}
 use Rattle.records.specs.declared.Call.TheVariants.{Abandon}
@@ -31,7 +31,8 @@ invariant_of-locks c =
     let a = c.args in
     let B = buffers_of a.values.now a.classes.now a.readers.now a.claimants.now a.exclusives.now a.logs.now in
     let z = admitted_by B _ _ c.of-lengths.ensures c.in_default.ensures in
-    even _ _ z
+    let e = even _ _ z in
+    record { claimant_each = e.0; exclusive_each = e.1 }
 
 pub apply-requires : goal.apply-requires
 unfolding plan
@@ -47,4 +48,5 @@ returns c =
     let a = c.args in
     let B = buffers_of a.values.now a.classes.now a.readers.now a.claimants.now a.exclusives.now a.logs.now in
     let z = admitted_by B _ _ c.of-lengths.ensures c.in_default.ensures in
-    kept_replies (Abandon _) B _ _ refl z _ c.of_session-log.ensures _ refl _ _ (c.take_abandon-t.ensures a.values.now) _ c.apply.ensures.carried _ c.from.ensures
+    let h = kept_replies (Abandon _) B _ _ refl z _ c.of_session-log.ensures _ refl _ _ (c.take_abandon-t.ensures a.values.now) _ c.apply.ensures.carried _ c.from.ensures in
+    search (rules, h)

@@ -1,5 +1,5 @@
 -- 7 and 1 are the model's; past them the turn at the entry that is due is, with the lock of its cell, and the change of the locks.
-use Rattle.std.proofs.Common.{refl}
+use Rattle.std.proofs.Common.{refl, rules}
 use Rattle.contracts.specs.Lent.{buffers_of}
 use Rattle.records.specs.declared.Call.TheVariants.{Advance}
 use Rattle.advance.proofs.Agree.{due_fits}
@@ -46,7 +46,8 @@ invariant_of-locks c =
     let a = c.args in
     let B = buffers_of a.values.now a.classes.now a.readers.now a.claimants.now a.exclusives.now a.logs.now in
     let z = admitted_by B _ _ c.of-lengths.ensures c.in_default.ensures in
-    even _ _ z
+    let e = even _ _ z in
+    record { claimant_each = e.0; exclusive_each = e.1 }
 
 pub apply-requires : goal.apply-requires
 apply-requires c =
@@ -62,4 +63,5 @@ returns c =
     let B = buffers_of a.values.now a.classes.now a.readers.now a.claimants.now a.exclusives.now a.logs.now in
     let z = admitted_by B _ _ c.of-lengths.ensures c.in_default.ensures in
     let e = advance_planned _ _ _ _ _ B.locks _ _ _ c.due_slot-due.ensures c.due_cell-cell.ensures c.at-l.ensures in
-    kept_replies (Advance _) B _ _ refl z _ c.of_session-log.ensures _ e _ _ c.take_advance-t.ensures _ c.apply.ensures.carried _ c.from.ensures
+    let h = kept_replies (Advance _) B _ _ refl z _ c.of_session-log.ensures _ e _ _ c.take_advance-t.ensures _ c.apply.ensures.carried _ c.from.ensures in
+    search (rules, h)

@@ -1,5 +1,5 @@
 -- 7 and 1 are the model's; past them the turn is, with the lock looked up for it, and the change of the locks.
-use Rattle.std.proofs.Common.{refl, ◌∙◌}
+use Rattle.std.proofs.Common.{refl, ◌∙◌, rules}
 use Rattle.contracts.specs.Lent.{buffers_of}
 use Rattle.model.specs.Plans.{plan}
 use Rattle.records.specs.declared.Call.TheVariants.{Read}
@@ -45,7 +45,8 @@ invariant_of-locks c =
     let a = c.args in
     let B = buffers_of a.values.now a.classes.now a.readers.now a.claimants.now a.exclusives.now a.logs.now in
     let z = admitted_by B _ _ c.of-lengths.ensures c.in_default.ensures in
-    even _ _ z
+    let e = even _ _ z in
+    record { claimant_each = e.0; exclusive_each = e.1 }
 
 pub apply-requires : goal.apply-requires
 unfolding plan
@@ -63,4 +64,5 @@ returns c =
     let B = buffers_of a.values.now a.classes.now a.readers.now a.claimants.now a.exclusives.now a.logs.now in
     let z = admitted_by B _ _ c.of-lengths.ensures c.in_default.ensures in
     let d = read_planned _ _ _ _ B.locks _ _ (rw c.of_session.ensures at c.read_plan-p.ensures) c.lock_for-l.ensures in
-    replies (Read _ _) B _ _ refl z _ d _ _ _ c.read-t.ensures _ c.of_session-log.ensures _ c.apply.ensures.carried _ c.from.ensures
+    let h = replies (Read _ _) B _ _ refl z _ d _ _ _ c.read-t.ensures _ c.of_session-log.ensures _ c.apply.ensures.carried _ c.from.ensures in
+    search (rules, h)

@@ -1,5 +1,6 @@
 -- 7 and 1 are the model's; past them the turn is, and the session leaves the readers of what it did not write.
-use Rattle.std.proofs.Common.{refl}
+use Rattle.std.proofs.Common.{◌≡◌, refl}
+use Rattle.locks.specs.Changes.{drop_of}
 use Rattle.contracts.specs.Lent.{buffers_of}
 use Rattle.model.specs.Plans.{plan}
 use Rattle.records.specs.declared.Call.TheVariants.{Seal}
@@ -41,6 +42,6 @@ returns c =
     let B = buffers_of a.values.now a.classes.now a.readers.now a.claimants.now a.exclusives.now a.logs.now in
     let z = admitted_by B _ _ c.of-lengths.ensures c.in_default.ensures in
     let k = kept_change (Seal _) B _ _ refl z _ c.of_session-log.ensures _ refl _ _ (c.take_seal-t.ensures a.values.now) in
+    let d : drop_of c.take_seal-t.result.change ≡ c.take_seal-t.result.change = rw k (seal_drops _ _ _ _) in
     kept_replies (Seal _) B _ _ refl z _ c.of_session-log.ensures _ refl _ _ (c.take_seal-t.ensures a.values.now) _
-    (rw (rw k (seal_drops _ _ _ _)) at (c.change_drop.ensures _ _ (even _ _ z).0 (even _ _ z).1))
-    _ c.from.ensures
+    (rw d at (c.change_drop.ensures _ _ (even _ _ z).0 (even _ _ z).1)) _ c.from.ensures

@@ -1,5 +1,5 @@
 -- As `store::write`, under the limits that the table is; a table not of 16 caps is 7.
-use Rattle.std.proofs.Common.{refl, ◌∙◌}
+use Rattle.std.proofs.Common.{refl, ◌∙◌, rules}
 use Rattle.contracts.specs.Lent.{buffers_of}
 use Rattle.model.specs.Plans.{plan}
 use Rattle.records.specs.declared.Call.TheVariants.{Write}
@@ -54,7 +54,8 @@ invariant_of-locks c =
     let a = c.args in
     let B = buffers_of a.values.now a.classes.now a.readers.now a.claimants.now a.exclusives.now a.logs.now in
     let z = admitted_by B _ _ c.of-lengths.ensures c.in_default.ensures in
-    even _ _ z
+    let e = even _ _ z in
+    record { claimant_each = e.0; exclusive_each = e.1 }
 
 pub apply-requires : goal.apply-requires
 unfolding plan
@@ -76,4 +77,5 @@ returns c =
     let p = rw (c.of_session.ensures, z.lengths.classes) at c.write_plan_by-p.ensures in
     let d = write_planned _ _ _ _ B.locks _ a.caps.now a.classes.now a.value _ p c.lock_for-l.ensures in
     let h = c.write-t.ensures a.caps.now a.classes.now p in
-    replies_under (record { caps = a.caps.now }) (Write _ _ a.value) B _ _ refl z _ d _ _ _ h _ c.of_session-log.ensures (has_caps_lem a.caps.now c.if-caps-ne16.false) _ c.apply.ensures.carried _ c.from.ensures
+    let h = replies_under (record { caps = a.caps.now }) (Write _ _ a.value) B _ _ refl z _ d _ _ _ h _ c.of_session-log.ensures (has_caps_lem a.caps.now c.if-caps-ne16.false) _ c.apply.ensures.carried _ c.from.ensures in
+    search (rules, h)

@@ -13,12 +13,13 @@ invariant-loop-call l =
     record {
       inside : l.place ≤ length l.input;
       read : 4 * l.ordinal ≤ l.place + 4;
-      written : l.at + 21 ≤ 21 * l.ordinal;
-      room : length l.output ≡ length l.initial.output;
+      same : l.page.output.ghost_name ≡ l.initial.page.output.ghost_name;
+      written : l.page.at + 21 ≤ 21 * l.ordinal;
+      room : length l.page.output.now ≡ length l.initial.page.output.now;
       cells : length l.values ≡ length l.initial.values;
-      text : put l.output l.at
+      text : put l.page.output.now l.page.at
           (calls_text l.ordinal (store_of ours l.values l.classes l.readers l.claimants l.exclusives l.logs l.sessions) (items_at l.input l.place))
-          ≡ put l.initial.output 0
+          ≡ put l.initial.page.output.now l.initial.page.at
           (calls_text 1 (store_of ours l.initial.values l.classes l.initial.readers l.initial.claimants l.initial.exclusives l.initial.logs l.initial.sessions)
           (items_at l.input l.initial.place));
     }

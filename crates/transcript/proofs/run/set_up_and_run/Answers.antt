@@ -4,12 +4,12 @@ use Rattle.lines.specs.Output.{put}
 use Rattle.transcript.proofs.Starting.{refused_text, accepted_text}
 use Rattle.transcript.proofs.run.set_up_and_run.Goals as goal
 
-pub returns-then-n-ne100 : goal.returns-then-n-ne100
-returns-then-n-ne100 c =
-    let line = c.put_set_up.ensures in
+pub returns-then-n-ne100-clause-text : goal.returns-then-n-ne100-clause-text
+returns-then-n-ne100-clause-text c =
+    let line = c.set_up.ensures.text in
     (line.0 ∙ ap (put _ _) (refused_text _ _ _ _ _ _ _ c.requires.fitted c.set_up-reply.ensures _ _ c.number-n.ensures c.if-n-ne100.true), omega arith)
 
-pub returns : goal.returns
-returns c =
-    let run = c.run_calls.ensures in
+pub returns-clause-text : goal.returns-clause-text
+returns-clause-text c =
+    let run = c.run_calls.ensures.text in
     (run.0 ∙ ap (put _ _) (accepted_text _ _ _ _ _ _ _ c.requires.fitted c.set_up-reply.ensures _ _ c.number-n.ensures c.if-n-ne100.false), run.1)
