@@ -30,32 +30,32 @@ cell_low n log k i c b l e = rw e (below_is n (cell_at log) k b i l)
 
 -- ---- the marks
 
--- a cell marked: it and all that were
+marked_here : (entered : List ℕ) (c : ℕ) → length entered ≡ 16 → c < 1024 → marked (mark entered c) c ≡ true
+marked_here entered c w l = marked_same entered c (omega arith)
+
 marked_more : (entered : List ℕ) (c d : ℕ) → length entered ≡ 16 → c < 1024 → marked entered d ≡ true → marked (mark entered c) d ≡ true
-marked_more entered c d w l h = same d c (λ e. rw e (marked_same entered c (omega arith))) (λ n. marked_other entered c d (omega arith) n ∙ h)
+marked_more entered c d w l h = same d c (λ e. rw e (marked_here entered c w l)) (λ n. marked_other entered c d (omega arith) n ∙ h)
 
--- before the first entry nothing need be marked
-pub covers_none : (entered log : List ℕ) → length entered ≡ 16 → Covers entered log 0
-covers_none entered log w = record { words = w; cells = λ j l. absurd (omega arith) }
-
--- the next entry's cell marked
-pub covers_next : (entered log : List ℕ) (k c : ℕ) → Covers entered log k → c ≡ cell_at log k → c < 1024 → Covers (mark entered c) log (k + 1)
+-- a cell marked: it is, and all that were still are
+pub inserted : (entered log : List ℕ) (k c : ℕ) → Covers entered log k → c < 1024 → Covers (mark entered c) log k × (marked (mark entered c) c ≡ true)
 unfolding mark
-covers_next entered log k c v e l =
-    record {
-      words = rw length-set v.words;
-      cells = λ j i. same j k (λ h. rw (h, ← e) (unfold mark in marked_same entered c (let w = v.words in omega arith)))
-          (λ n. unfold mark in marked_more entered c (cell_at log j) v.words l (v.cells j (omega arith)));
-    }
+inserted entered log k c v l = (
+  record { words = rw length-set v.words; cells = λ j i. unfold mark in marked_more entered c (cell_at log j) v.words l (v.cells j i) },
+  unfold mark in marked_here entered c v.words l,
+)
 
--- a cell that is not marked has no entry
+-- the next entry's cell is
+pub covers_next : (entered log : List ℕ) (k c : ℕ) → Covers entered log k → c ≡ cell_at log k → marked entered c ≡ true → Covers entered log (k + 1)
+covers_next entered log k c v e m = record { words = v.words; cells = λ j i. same j k (λ h. rw (h, ← e) m) (λ n. v.cells j (omega arith)) }
+
+-- a cell that is not has no entry
 pub unmarked : (entered log : List ℕ) (k c : ℕ) → Covers entered log k → marked entered c ≡ false → none ≡ slot_in log k c
 unmarked entered log k c v h =
     which (slot_in log k c) (λ p. sym p)
     (λ j p. let w = slot_some log k c p in absurd (clash (marked entered c) (subst (λ (d : ℕ). marked entered d ≡ true) w.1 (v.cells j w.0)) h))
 
--- a new entry's cell marked
-pub covers_entered : (entered log : List ℕ) (k c v : ℕ) → Covers entered log k → c < 1024 → k < 32 → length log ≡ 128 → Covers (mark entered c) (appended log k c v) (k + 1)
+-- a new entry of a cell that is
+pub covers_entered : (entered log : List ℕ) (k c v : ℕ) → Covers entered log k → marked entered c ≡ true → k < 32 → length log ≡ 128 → Covers entered (appended log k c v) (k + 1)
 covers_entered entered log k c v m i l w =
     covers_next entered (appended log k c v) k c
     (record { words = m.words; cells = λ j q. rw (appended_apart log k c v l w j q) (m.cells j q) }) (sym (appended_cell log k c v l w)) i

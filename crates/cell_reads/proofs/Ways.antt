@@ -4,7 +4,7 @@ use native.Mathlib.Numerals.{add-one}
 use native.Mathlib.Omega.{arith}
 use mathlib.Core.Path.{◌≡◌, refl, sym, subst, ◌∙◌}
 use mathlib.Core.List.{List, [], ◌∷◌}
-use mathlib.Core.Option.{Option, none}
+use mathlib.Core.Option.{Option, none, some}
 use Rattle.std.specs.Prelude.{Some, None, Ok, Err}
 use Rattle.std.specs.Prelude as code
 use borrow.Author.Tests.{lt-ltb, le-ltb, eq-eqb, ne_eqb, ltb-true}
@@ -20,8 +20,8 @@ use Rattle.session_log.specs.Slots.{found}
 use Rattle.records.specs.declared.Refusal.{Refusal}
 use Rattle.records.specs.declared.Refusal.TheVariants.{UnknownSession, WrongPhase, UnknownCell, AboveCap, FullLog, Conflict, WrongLengths, UnknownClass, DamagedRecord, ShortTarget, NotEntered, WrongList, WrongCaps, ValueAboveCaps}
 use Rattle.records.specs.Records.{refusal_number}
-use Rattle.cell_reads.specs.Cells.{Fits, Covers, CellRead, cell_read, new_read, slot_read, read_cell, CellsRead, cells_read, read_cells, answered}
-use Rattle.cell_reads.specs.declared.Obtained.{Obtained}
+use Rattle.cell_reads.specs.Cells.{Fits, Covers, CellRead, cell_read, new_read, slot_read, read_cell, CellsRead, cells_read, read_cells, ReadsFit, SameReads, current_of, ReadsCell}
+use Rattle.cell_reads.specs.declared.Reads.{Reads}
 
 -- a refusal is no value
 pub not_read : (r : Refusal) → refusal_number r ≡ 101 → ⊥
@@ -39,6 +39,19 @@ not_read NotEntered h = omega arith
 not_read WrongList h = omega arith
 not_read WrongCaps h = omega arith
 not_read ValueAboveCaps h = omega arith
+
+-- ---- a cell in the log, and one that is not
+
+module _ (vs C : List ℕ) (s : ℕ) (R W : List ℕ) (k c : ℕ) where
+  pub slot_known : (o : Option ℕ) (v : ℕ) → some v ≡ current_of W o → slot_read vs C s R W k c o ≡ cell_read 101 v R W k
+  unfolding slot_read
+  slot_known none v e = cc
+  slot_known (some j) v e = let q : v ≡ (entry_at W j).current = cc in rw q refl
+
+  pub slot_new : (o : Option ℕ) → none ≡ current_of W o → slot_read vs C s R W k c o ≡ new_read vs C s R W k c
+  unfolding slot_read
+  slot_new none e = refl
+  slot_new (some j) e = cc
 
 -- ---- what is known of a running session past its tests is known after a read
 
@@ -69,28 +82,34 @@ module _ (vs C : List ℕ) (s : ℕ) (R W : List ℕ) (k : ℕ) (f : Fits s (len
       (λ i. rw i f)
 
   -- as the code has it
-  pub fits_after : (n v : ℕ) (R' W' : List ℕ) (k' : ℕ) → cell_read n v R' W' k' ≡ read_cell vs C s R W k c → Fits s (length vs) (length R') (length C) W' k'
-  fits_after n v R' W' k' e = subst (λ (o : CellRead). Fits s (length vs) (length o.readers) (length C) o.log o.entries) (sym e) fits_still
+  still : (n v : ℕ) (R' W' : List ℕ) (k' : ℕ) → cell_read n v R' W' k' ≡ read_cell vs C s R W k c → Fits s (length vs) (length R') (length C) W' k'
+  still n v R' W' k' e = subst (λ (o : CellRead). Fits s (length vs) (length o.readers) (length C) o.log o.entries) (sym e) fits_still
 
--- ---- the reads so far: of cells cs those from place i on are left
+-- ---- the reads so far
 
-module _ (vs C : List ℕ) (s : ℕ) (cs T R W : List ℕ) (k i : ℕ) where
+-- what those of cells cs from place i on come to
+abbrev pub left : Reads → List ℕ → List ℕ → ℕ → CellsRead
+left a cs T i = read_cells a.values.now a.claimants.now a.session i (drop i cs) T a.readers.now a.log.now a.entries
+
+module _ (a : Reads) (cs T : List ℕ) (i : ℕ) where
   -- none is left
-  pub reads_end : i ≡ length cs → cells_read 101 (length cs) T R W k ≡ read_cells vs C s i (drop i cs) T R W k
+  pub reads_end : i ≡ length cs → cells_read 101 (length cs) T a.readers.now a.log.now a.entries ≡ left a cs T i
   unfolding read_cells
   reads_end e = rw (drop_of_length-le cs {i = i} (omega arith), e) refl
 
-  -- what the next one left of the reader sets and the log
-  module _ (l : i < length cs) (R' W' : List ℕ) where
-    pub reads_stop : (r : Refusal) → answered R' W' k (Err r) ≡ read_cell vs C s R W k (get_or cs i 0)
-        → cells_read (refusal_number r) i T R' W' k ≡ read_cells vs C s i (drop i cs) T R W k
+  -- b is what the next one left
+  module _ (l : i < length cs) (b : Reads) where
+    pub reads_stop : (r : Refusal) → ReadsCell (get_or cs i 0) a b (Err r) → cells_read (refusal_number r) i T b.readers.now b.log.now b.entries ≡ left a cs T i
     unfolding read_cells
-    reads_stop r e = rw (drop-cons cs i 0 l, ← e, ne_eqb (refusal_number r) 101 (not_read r)) refl
+    reads_stop r e = rw (drop-cons cs i 0 l, ← e.0, ne_eqb (refusal_number r) 101 (not_read r)) refl
 
-    pub reads_go_on : (o : Obtained) → answered R' W' k (Ok o) ≡ read_cell vs C s R W k (get_or cs i 0)
-        → read_cells vs C s i (drop i cs) T R W k ≡ read_cells vs C s (i + 1) (drop (i + 1) cs) (set T i o.value) R' W' o.entries
-    unfolding read_cells
-    reads_go_on o e = rw (drop-cons cs i 0 l, ← e, add-one) refl
+    module _ (k : SameReads a b) (v : ℕ) (e : ReadsCell (get_or cs i 0) a b (Ok v)) where
+      pub reads_go_on : left a cs T i ≡ left b cs (set T i v) (i + 1)
+      unfolding read_cells
+      reads_go_on = rw (k.0, k.1, k.2) (rw (drop-cons cs i 0 l, ← e.0, add-one) refl)
+
+      pub fits_after : ReadsFit a → ReadsFit b
+      fits_after f = rw (k.0, k.1, k.2) (still _ _ _ _ _ _ f.0 _ _ _ _ _ _ e.0, e.1)
 
 -- ---- what is known of the session is known after the reads; no more values are obtained than there are cells
 

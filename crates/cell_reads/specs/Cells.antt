@@ -10,7 +10,7 @@ use Rattle.model.specs.Slices.{Slice}
 use Rattle.sweeps.specs.Sweeps.{marked}
 use Rattle.records.specs.declared.Refusal.{Refusal}
 use Rattle.records.specs.Records.{refusal_number}
-use Rattle.cell_reads.specs.declared.Obtained.{Obtained}
+use Rattle.cell_reads.specs.declared.Reads.{Reads}
 use Rattle.cell_reads.specs.declared.CellsReply.{CellsReply}
 
 -- past the tests, of n cells, r reader sets and c claimants: the session is one of sixteen, and the k entries of its log, at most 32, are of cells below n
@@ -79,28 +79,48 @@ read_cells vs C s i (c ∷ cs) T R W k =
     cond (eqb o.number 101) (read_cells vs C s (suc i) cs (set T i o.value) o.readers o.log o.entries)
     (cells_read o.number i T o.readers o.log o.entries)
 
--- ---- what the functions leave
+-- ---- what the functions ask and leave
 
-abbrev pub Enters : Slice → Slice → Slice → ℕ → ℕ → ℕ → ℕ → Type 0
-Enters values readers log k s c r =
-    (r ≡ get_or values.entry.now c 0)
-    × (readers.exit.now ≡ set readers.entry.now c (with_reader s (get_or readers.entry.now c 0)))
-    × (log.exit.now ≡ appended log.entry.now k c (get_or values.entry.now c 0))
+-- past the tests, with the cells entered in the set
+abbrev pub ReadsFit : Reads → Type 0
+ReadsFit a =
+    Fits a.session (length a.values.now) (length a.readers.now) (length a.claimants.now) a.log.now a.entries × Covers a.entered.now a.log.now a.entries
 
--- one read, as the code answers it: the value and the entries on the reader sets and the log that it left, or a refusal with the k entries that there were
-abbrev pub answered : List ℕ → List ℕ → ℕ → Result Obtained Refusal → CellRead
-answered R W k (Ok o) = cell_read 101 o.value R W o.entries
-answered R W k (Err r) = cell_read (refusal_number r) 0 R W k
+-- of the same values and claims, with the same two slices, whatever stands in these: so who lent them learns what stands there
+abbrev pub SameReads : Reads → Reads → Type 0
+SameReads a b =
+    (b.values ≡ a.values) × (b.claimants ≡ a.claimants) × (b.session ≡ a.session) × (b.readers.ghost_name ≡ a.readers.ghost_name)
+    × (b.log.ghost_name ≡ a.log.ghost_name)
 
-abbrev pub ReadsCell : Slice → Slice → Slice → Slice → Slice → ℕ → ℕ → ℕ → Result Obtained Refusal → Type 0
-ReadsCell values readers claimants log entered k s c r =
-    let o = answered readers.exit.now log.exit.now k r in
-    (o ≡ read_cell values.entry.now claimants.entry.now s readers.entry.now log.entry.now k c) × Covers entered.exit.now log.exit.now o.entries
+-- the present value of the entry at a place
+abbrev pub current_of : List ℕ → Option ℕ → Option ℕ
+current_of W none = none
+current_of W (some j) = some (entry_at W j).current
+
+abbrev pub Enters : ℕ → Reads → Reads → ℕ → Type 0
+Enters c a b r =
+    (r ≡ get_or a.values.now c 0)
+    × (b.readers.now ≡ set a.readers.now c (with_reader a.session (get_or a.readers.now c 0)))
+    × (b.log.now ≡ appended a.log.now a.entries c (get_or a.values.now c 0))
+    × (b.entries ≡ suc a.entries) × Covers b.entered.now b.log.now b.entries
 
 -- the number of what reads came to: 101 where each got a value, else the refusal's
 abbrev pub number_of : {A : Type 0} → Result A Refusal → ℕ
 number_of (Ok _) = 101
 number_of (Err r) = refusal_number r
+
+-- a read's value, 0 with a refusal
+abbrev pub value_of : Result ℕ Refusal → ℕ
+value_of (Ok v) = v
+value_of (Err r) = 0
+
+-- one read, as the code answers it and with what it left
+abbrev pub answered : Reads → Result ℕ Refusal → CellRead
+answered b r = cell_read (number_of r) (value_of r) b.readers.now b.log.now b.entries
+
+abbrev pub ReadsCell : ℕ → Reads → Reads → Result ℕ Refusal → Type 0
+ReadsCell c a b r =
+    (answered b r ≡ read_cell a.values.now a.claimants.now a.session a.readers.now a.log.now a.entries c) × Covers b.entered.now b.log.now b.entries
 
 abbrev pub ReadsCells : Slice → Slice → Slice → Slice → ℕ → ℕ → Slice → Slice → CellsReply → Type 0
 ReadsCells values readers claimants log k s cells target r =

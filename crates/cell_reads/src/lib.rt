@@ -8,7 +8,8 @@ ghost use Rattle.model.specs.ManyReads.{list_refusal};
 ghost use Rattle.model.specs.Slices.{as_lent};
 ghost use Rattle.records.specs.Records.{refusal_of};
 ghost use Rattle.session_log.specs.Slots.{found};
-ghost use Rattle.cell_reads.specs.Cells.{Covers, Enters, ReadsCell, ReadsCells, Fits};
+ghost use Rattle.sweeps.specs.Sweeps.{marked};
+ghost use Rattle.cell_reads.specs.Cells.{Fits, Covers, ReadsFit, current_of, SameReads, Enters, ReadsCell, ReadsCells};
 
 use records::Refusal;
 use sweeps::CellSet;
@@ -32,7 +33,7 @@ pub fn list_refusal(cells: usize, target: usize) -> Result<(), Refusal>
 // ---- the cells in the log
 
 // The cells of the first count entries.
-#[tactic(auto, using(crate::proofs::Marks::cell_low, crate::proofs::Marks::covers_none))]
+#[tactic(auto, using(crate::proofs::Marks::cell_low))]
 fn cells_of(log: &[u32], count: usize) -> CellSet
     requires { (4 * count ≤ length log.now) × (below 1024 (cell_at log.now) count ≡ true) }
     ensures { Covers result log.now count }
@@ -44,86 +45,81 @@ fn cells_of(log: &[u32], count: usize) -> CellSet
     entered
 }
 
-// The place of a cell's first entry. A cell that is not in the set has none, and is not searched for.
-#[tactic(auto, using(crate::proofs::Marks::unmarked))]
-fn slot_of(log: &[u32], count: usize, entered: &CellSet, cell: u32) -> Option<usize>
-    requires { (4 * count ≤ length log.now) × (cell < 1024) × Covers entered.now log.now count }
-    ensures { found result ≡ slot_in log.now count cell }
-{
-    let unmarked = !entered.contains(cell);
-    if unmarked {
-        return None;
-    }
-    look_ups::locate(log, count, cell)
-}
-
 // ---- one read, past the tests of 7, 1, 9 and 2
 
-// A new cell: the session joins its readers, and an entry is appended. The value.
-fn enter(
-    values: &[u32],
-    readers: &mut [u16],
-    log: &mut [u32],
-    count: usize,
+// The reads of a running session so far: of what values and claims, and what they leave. Its log has so many entries, and their cells are in the set.
+#[derive(Drop)]
+struct Reads<'a> {
+    values: &'a [u32],
+    claimants: &'a [u8],
     session: u8,
-    cell: u32,
-) -> u32
-    requires { (session < 16) × (count < 32) × (length log.old ≡ 128) × (cell < length values.now) × (length readers.old ≡ length values.now) }
-    ensures { Enters values (as_lent readers) (as_lent log) count session cell result }
-{
-    let c = cell as usize;
-    let value = values[c];
-    let set = readers[c];
-    readers[c] = lock::with_reader(set, session);
-    session_log::append(log, count, cell, value);
-    value
-}
-
-// What a read that is not refused comes to: the value, and how many entries the log has.
-#[derive(Clone, Copy)]
-struct Obtained {
-    value: u32,
+    readers: &'a mut [u16],
+    log: &'a mut [u32],
     entries: usize,
+    entered: &'a mut CellSet,
 }
 
-#[tactic(auto, unfolding(crate::specs::Cells::read_cell, crate::specs::Cells::slot_read, crate::specs::Cells::new_read))]
-// A known cell's value or a new cell's, or 3, 5 or 6 with all as before. The session is not rolled back here.
-fn read_cell(
-    values: &[u32],
-    readers: &mut [u16],
-    claimants: &[u8],
-    log: &mut [u32],
-    entered: &mut CellSet,
-    count: usize,
-    session: u8,
-    cell: u32,
-) -> Result<Obtained, Refusal>
-    requires { Fits session (length values.now) (length readers.old) (length claimants.now) log.old count × Covers entered.old log.old count }
-    ensures { ReadsCell values (as_lent readers) claimants (as_lent log) (as_lent entered) count session cell result }
-{
-    let c = cell as usize;
-    if values.len() <= c {
-        return Err(Refusal::UnknownCell);
+impl Reads<'_> {
+    // The present value of a cell that has an entry.
+    fn value_of(&self, cell: u32) -> Option<u32>
+        requires { 4 * self.now.entries ≤ length self.now.log.now }
+        ensures { found result ≡ current_of self.now.log.now (slot_in self.now.log.now self.now.entries cell) }
+    {
+        let k = look_ups::locate(self.log, self.entries, cell)?;
+        Some(session_log::current(self.log, k))
     }
-    let place = slot_of(log, count, entered, cell);
-    if let Some(k) = place {
-        return Ok(Obtained {
-            value: session_log::current(log, k),
-            entries: count,
-        });
+
+    // The same, and the cell is in the set from now on. One that was not in it has none, and is not searched for.
+    fn known(&mut self, cell: u32) -> Option<u32>
+        requires { ReadsFit self.old × (cell < 1024) }
+        ensures value { found result ≡ current_of self.old.log.now (slot_in self.old.log.now self.old.entries cell) }
+        ensures kept { self.new ≡ record self.old { entered = self.new.entered } }
+        ensures inserted { Covers self.new.entered.now self.new.log.now self.new.entries × (marked self.new.entered.now cell ≡ true) }
+    {
+        let unmarked = !self.entered.contains(cell);
+        self.entered.insert(cell);
+        if unmarked {
+            return None;
+        }
+        self.value_of(cell)
     }
-    if 31 < count {
-        return Err(Refusal::FullLog);
+
+    // A new cell: the session joins its readers, and an entry is appended. The value.
+    fn enter(&mut self, cell: u32) -> u32
+        requires { ReadsFit self.old × (self.old.entries < 32) × (cell < length self.old.values.now) × (marked self.old.entered.now cell ≡ true) }
+        ensures kept { SameReads self.old self.new }
+        ensures entered { Enters cell self.old self.new result }
+    {
+        let c = cell as usize;
+        let value = self.values[c];
+        self.readers[c] = lock::with_reader(self.readers[c], self.session);
+        session_log::append(self.log, self.entries, cell, value);
+        self.entries += 1;
+        value
     }
-    if claimants[c] != 16 {
-        return Err(Refusal::Conflict);
+
+    // A known cell's value or a new cell's, or 3, 5 or 6 with the reader sets and the log as before. The session is not rolled back here.
+    #[tactic(auto, unfolding(crate::specs::Cells::read_cell, crate::specs::Cells::new_read), using(crate::proofs::Ways::slot_known, crate::proofs::Ways::slot_new))]
+    fn read(&mut self, cell: u32) -> Result<u32, Refusal>
+        requires { ReadsFit self.old }
+        ensures kept { SameReads self.old self.new }
+        ensures read { ReadsCell cell self.old self.new result }
+    {
+        let c = cell as usize;
+        if self.values.len() <= c {
+            return Err(Refusal::UnknownCell);
+        }
+        if let Some(value) = self.known(cell) {
+            return Ok(value);
+        }
+        if 31 < self.entries {
+            return Err(Refusal::FullLog);
+        }
+        if self.claimants[c] != 16 {
+            return Err(Refusal::Conflict);
+        }
+        Ok(self.enter(cell))
     }
-    entered.insert(cell);
-    let value = enter(values, readers, log, count, session, cell);
-    Ok(Obtained {
-        value,
-        entries: count + 1,
-    })
 }
 
 // ---- the reads
@@ -151,28 +147,23 @@ pub fn read_cells(
     ensures { ReadsCells values (as_lent readers) claimants (as_lent log) count session cells (as_lent target) result }
 {
     let mut entered = cells_of(log, count);
-    let mut entries = count;
+    let mut reads = Reads {
+        values,
+        claimants,
+        session,
+        readers,
+        log,
+        entries: count,
+        entered: &mut entered,
+    };
     for (i, cell) in cells.iter().enumerate() {
-        let read = read_cell(
-            values,
-            readers,
-            claimants,
-            log,
-            &mut entered,
-            entries,
-            session,
-            *cell,
-        );
-        match read {
-            Ok(obtained) => {
-                target[i] = obtained.value;
-                entries = obtained.entries;
-            }
+        match reads.read(*cell) {
+            Ok(value) => target[i] = value,
             Err(refusal) => {
                 return CellsReply {
                     ended: Err(refusal),
                     count: i,
-                    entries,
+                    entries: reads.entries,
                 };
             }
         }
@@ -180,6 +171,6 @@ pub fn read_cells(
     CellsReply {
         ended: Ok(()),
         count: cells.len(),
-        entries,
+        entries: reads.entries,
     }
 }

@@ -1,5 +1,5 @@
 -- The reads that are left come to the last answer where the next read gets no value, and otherwise go on behind it.
-use Rattle.std.proofs.Common.{sym, ◌∙◌, arith}
+use Rattle.std.proofs.Common.{sym, ◌∙◌, arith, rules}
 use Rattle.cell_reads.proofs.Marks.{below_less}
 use Rattle.cell_reads.proofs.Ways.{fits_after, reads_end, reads_stop, reads_go_on}
 use Rattle.cell_reads.proofs.read_cells.Goals as goal
@@ -10,14 +10,26 @@ cells_of-entered-requires c =
     (omega (arith, f.count, f.words), below_less _ _ _ _ f.few f.cells)
 
 pub returns-in-Err : goal.returns-in-Err
-returns-in-Err c = reads_stop _ _ _ _ _ _ _ _ _ c.loop-i-test.true _ _ _ c.in-Err.ensures.0 ∙ sym c.loop-i.invariant.2
+returns-in-Err c =
+    let l = c.loop-i in
+    let h = reads_stop l.reads _ _ _ c.loop-i-test.true c.read.new.self _ c.in-Err.ensures.read ∙ sym l.invariant.2 in
+    search (rules, h)
 
 pub loop-i-preserved : goal.loop-i-preserved
-loop-i-preserved c = (
-  fits_after _ _ _ _ _ _ c.loop-i.invariant.0 _ _ _ _ _ _ c.in-Ok.ensures.0,
-  c.in-Ok.ensures.1,
-  c.loop-i.invariant.2 ∙ reads_go_on _ _ _ _ _ _ _ _ _ c.loop-i-test.true _ _ _ c.in-Ok.ensures.0,
-)
+loop-i-preserved c =
+    let l = c.loop-i in
+    let i = l.invariant in
+    let j = i.0 in
+    let b = c.read.new.self in
+    let k = c.in-Ok.ensures.kept in
+    let e = c.in-Ok.ensures.read in (
+      (k.0 ∙ j.0, k.1 ∙ j.1, k.2 ∙ j.2, k.3 ∙ j.3, k.4 ∙ j.4),
+      fits_after l.reads _ l.target _ c.loop-i-test.true b k _ e i.1,
+      i.2 ∙ reads_go_on l.reads _ l.target _ c.loop-i-test.true b k _ e,
+    )
 
 pub returns : goal.returns
-returns c = reads_end _ _ _ _ _ _ _ _ _ (omega (arith, c.loop-i-test.false, c.loop-i.auto.i-end)) ∙ sym c.loop-i.invariant.2
+returns c =
+    let l = c.loop-i in
+    let h = reads_end l.reads _ l.target _ (omega (arith, c.loop-i-test.false, l.auto.i-end)) ∙ sym l.invariant.2 in
+    search (rules, h)
