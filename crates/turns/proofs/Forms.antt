@@ -1,15 +1,14 @@
 -- What the calls on three slices cite: which part of a change each call's turn can hand back, and that what a read, a hold or a write decides with the lock looked up for it
 -- is its plan.
 use mathlib.Core.Path.{◌≡◌, refl, sym, ap, ◌∙◌}
-use mathlib.Core.Bool.{Bool, true, false, not, ◌&&◌}
+use mathlib.Core.Bool.{Bool, true, not}
 use mathlib.Core.Option.{Option, none, some}
 use mathlib.Core.List.{List}
 use Prim.Native.Nat.{ℕ, ◌<◌, ◌≤◌}
 use lib.Dec.{T, eqb}
 use lib.ListN.{length}
-use Rattle.model.specs.Buffers.{Locks, Buffers, Limits, ours, free, log_in, entry_at, target_in, lock_at, lengths_match}
-use Rattle.model.specs.Readers.{other_readers}
-use Rattle.model.specs.Plans.{table_fits, guard, claimed, promote_plan, seal_target, seal_plan, read_plan, hold_plan, write_plan, plan}
+use Rattle.model.specs.Buffers.{Locks, Buffers, Limits, ours, free, log_in, target_in, lock_at}
+use Rattle.model.specs.Plans.{table_fits, guard, seal_target, seal_plan, read_plan, hold_plan, write_plan, plan}
 use Rattle.model.specs.Step.{session_of, TakesUnder, TakesRecord}
 use Rattle.model.specs.Turns.{TurnEffect, leaves, turn_of, changed}
 use Rattle.records.specs.declared.Session.{Session}
@@ -20,16 +19,15 @@ use Rattle.records.specs.declared.Answer.TheVariants as say
 use Rattle.records.specs.declared.SessionReply.{SessionReply}
 use Rattle.records.specs.declared.Turn.{Turn}
 use Rattle.records.specs.declared.Plan.{Plan}
-use Rattle.records.specs.declared.Plan.TheVariants.{Refuse, Tell, Enter, Update, EnterUpdate, Mark, EnterMark, Cancel}
+use Rattle.records.specs.declared.Plan.TheVariants.{Refuse}
 use Rattle.records.specs.declared.Change.{Change}
 use Rattle.records.specs.declared.Change.TheVariants.{Keep}
-use Rattle.model.proofs.Tools.{split}
 use Rattle.locks.specs.Changes.{LockFor, drop_of, ChangeFits}
 use Rattle.records.proofs.Tags.{tag}
 use Rattle.refusals.specs.Pieces.{match_of, admission}
 use Rattle.records.specs.declared.Refusal.{Refusal}
 use Rattle.records.specs.Records.{refusal_number}
-use Rattle.advance.specs.Pieces.{due_on, due_cell, advance_on, due_plan}
+use Rattle.advance.specs.Pieces.{due_on, due_cell, due_plan}
 use Rattle.targets.specs.declared.Next.{Next}
 use Rattle.std.specs.Prelude.{Result}
 use Rattle.advance.proofs.Agree.{advance_agree}

@@ -1,5 +1,4 @@
 -- Refused by the tests, or 100 with what `empty` leaves.
-use Rattle.std.proofs.Common.{sym, ◌∙◌}
 use Rattle.contracts.specs.Lent.{store_of}
 use Rattle.loads.proofs.SetUp.{set_refused, set_done}
 use Rattle.set_up.proofs.set_up_with_caps.Goals as goal
