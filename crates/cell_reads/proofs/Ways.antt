@@ -5,9 +5,8 @@ use native.Mathlib.Omega.{arith}
 use mathlib.Core.Path.{◌≡◌, refl, sym, subst, ◌∙◌}
 use mathlib.Core.List.{List, [], ◌∷◌}
 use mathlib.Core.Option.{Option, none, some}
-use Rattle.std.specs.Prelude.{Some, None, Ok, Err}
-use Rattle.std.specs.Prelude as code
-use borrow.Author.Tests.{lt-ltb, le-ltb, eq-eqb, ne_eqb, ltb-true}
+use Rattle.std.specs.Prelude.{Ok, Err}
+use borrow.Author.Tests.{ne_eqb, ltb-true}
 use lib.Dec.{ltb, eqb}
 use lib.ListN.{length, get_or, set, drop, length-set, drop_of_length-le}
 use lib.Seq.{drop-cons}
@@ -16,11 +15,10 @@ use Rattle.model.specs.Readers.{with_reader}
 use Rattle.model.proofs.Carried.{length-appended}
 use Rattle.model.proofs.Laws.{appended_below}
 use Rattle.model.proofs.Tools.{split, test, which}
-use Rattle.session_log.specs.Slots.{found}
 use Rattle.records.specs.declared.Refusal.{Refusal}
 use Rattle.records.specs.declared.Refusal.TheVariants.{UnknownSession, WrongPhase, UnknownCell, AboveCap, FullLog, Conflict, WrongLengths, UnknownClass, DamagedRecord, ShortTarget, NotEntered, WrongList, WrongCaps, ValueAboveCaps}
 use Rattle.records.specs.Records.{refusal_number}
-use Rattle.cell_reads.specs.Cells.{Fits, Covers, CellRead, cell_read, new_read, slot_read, read_cell, CellsRead, cells_read, read_cells, ReadsFit, SameReads, current_of, ReadsCell}
+use Rattle.cell_reads.specs.Cells.{Fits, CellRead, cell_read, new_read, slot_read, read_cell, CellsRead, cells_read, read_cells, ReadsFit, SameReads, current_of, ReadsCell}
 use Rattle.cell_reads.specs.declared.Reads.{Reads}
 
 -- a refusal is no value

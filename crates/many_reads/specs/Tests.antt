@@ -1,5 +1,5 @@
 -- The tests that come before the first read, as numbers. Nothing here is part of what the call promises.
-use Rattle.std.specs.Prelude.{ℕ, List, eqb, length}
+use Rattle.std.specs.Prelude.{ℕ, List, eqb}
 use Rattle.model.specs.Buffers.{log_in}
 use Rattle.model.specs.ManyReads.{list_refusal}
 use Rattle.model.specs.Plans.{require, record_fits}

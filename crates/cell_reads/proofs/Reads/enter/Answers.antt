@@ -1,5 +1,5 @@
 -- The new entry's cell is in the set.
-use Rattle.std.proofs.Common.{arith, refl, add-one}
+use Rattle.std.proofs.Common.{refl, add-one}
 use Rattle.cell_reads.proofs.Marks.{covers_entered}
 use Rattle.cell_reads.proofs.Reads.enter.Goals as goal
 

@@ -1,5 +1,5 @@
 -- A cell that was not in the set is not in the log; it is in the set now, which covers the log as before.
-use Rattle.std.proofs.Common.{arith, sym, ◌∙◌, ap}
+use Rattle.std.proofs.Common.{sym, ◌∙◌, ap}
 use Rattle.cell_reads.specs.Cells.{current_of}
 use Rattle.cell_reads.proofs.Marks.{unmarked, inserted}
 use Rattle.cell_reads.proofs.Reads.known.Goals as goal
