@@ -6,8 +6,8 @@ use mathlib.Core.List.{List}
 use lib.ListN.{length}
 use lib.Dec.{eqb}
 use borrow.Author.Tests.{eq-eqb, ne_eqb, eqb-true}
-use Rattle.model.specs.Buffers.{Buffers, Store, has_caps, passes, all_fit, lengths_match, lengths_fit}
-use Rattle.model.specs.Load.{all_idle, all_classed, load_refusal, with_caps, load_answer, load, load_effect}
+use Rattle.model.specs.Buffers.{Buffers, Store, has_caps, lengths_match, lengths_fit}
+use Rattle.model.specs.Load.{load_refusal, with_caps, load_answer, load, load_effect}
 use Rattle.model.specs.Step.{outcome}
 use Rattle.records.specs.declared.Sessions.{Sessions}
 use Rattle.records.specs.declared.Answer.TheVariants.{Done, Refused}

@@ -4,9 +4,9 @@ use mathlib.Core.Bool.{true, ◌&&◌}
 use mathlib.Core.List.{List}
 use Prim.Native.Nat.{ℕ}
 use native.Mathlib.Omega.{arith}
-use borrow.Author.Tests.{eq-eqb, ne_eqb}
+use borrow.Author.Tests.{ne_eqb}
 use lib.ListN.{length, replicate}
-use Rattle.model.specs.Buffers.{Buffers, Store, size, has_caps, passes, all_fit, lengths_match, lengths_fit, fresh, idle}
+use Rattle.model.specs.Buffers.{Store, size, has_caps, lengths_match, lengths_fit, fresh, idle}
 use Rattle.model.specs.Step.{outcome, set_up_refusal, set_up_answer, set_up, set_up_effect}
 use Rattle.records.specs.declared.Refusal.{Refusal}
 use Rattle.records.specs.declared.Sessions.{Sessions}
@@ -30,7 +30,7 @@ module _ (σ : Store) where
 
   module _ (h : 0 ≡ set_up_tests σ.limits.caps (lengths_in σ.lent) σ.lent.values σ.lent.classes) where
     -- past the tests the lengths fit
-    fit : lengths_fit σ.lent ≡ true
+    pub fit : lengths_fit σ.lent ≡ true
     unfolding set_up_refusal
     fit =
         test (has_caps σ.limits.caps && lengths_fit σ.lent) (both_r (has_caps σ.limits.caps) (lengths_fit σ.lent))

@@ -11,6 +11,7 @@ use records::{Refusal, Sessions};
 use refusals::Lengths;
 
 // Whether every session is idle.
+#[inline(never)]
 pub fn are_idle(sessions: Sessions) -> bool
     ensures { result ≡ all_idle sessions }
 {

@@ -9,22 +9,7 @@ ghost use Rattle.lock_records.specs.Lent.{Takes, TakesBy, SetsUp, SetsUpBy, Load
 
 use records::{Call, Lock, Reply, Sessions};
 
-// Set-up: all sessions idle, all locks empty, all log words 0. 100, 7 or 8.
-pub fn set_up(
-    sessions: Sessions,
-    values: &[u32],
-    classes: &[u8],
-    locks: &mut [Lock],
-    logs: &mut [u32],
-) -> Reply
-    ensures { SetsUp values classes (as_lent locks) (as_lent logs) sessions result }
-{
-    let t = run_turns::set_up_turn(sessions, values, classes, locks.len(), logs);
-    lock_run::sweep(locks, logs, t.change);
-    t.reply
-}
-
-// Set-up by a table of the caller's own. 100, 7, 16 or 8.
+// Set-up by a table: all sessions idle, all locks empty, all log words 0. 100, 7, 16 or 8.
 pub fn set_up_with_caps(
     sessions: Sessions,
     values: &[u32],
@@ -38,6 +23,19 @@ pub fn set_up_with_caps(
     let t = run_turns::set_up_turn_by(sessions, values, classes, locks.len(), logs, caps);
     lock_run::sweep(locks, logs, t.change);
     t.reply
+}
+
+// Set-up by our table, which passes: 100, 7 or 8.
+pub fn set_up(
+    sessions: Sessions,
+    values: &[u32],
+    classes: &[u8],
+    locks: &mut [Lock],
+    logs: &mut [u32],
+) -> Reply
+    ensures { SetsUp values classes (as_lent locks) (as_lent logs) sessions result }
+{
+    set_up_with_caps(sessions, values, classes, locks, logs, caps::ours())
 }
 
 // A table in the place of the one in force, while every session is idle. 100, 7, 2, 16, 8 or 17.

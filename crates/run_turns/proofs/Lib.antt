@@ -1,4 +1,3 @@
 pub mod OnRun
 pub mod ByTable
-pub mod Replies
 pub mod SetUps

@@ -1,18 +1,17 @@
 -- What the code of a call sees of the run is its length and one lock. So what it ensures, it ensures of every run of that length with that lock.
 use Rattle.std.specs.Prelude.{◌≡◌, ℕ, List, eqb, length}
 use Rattle.std.specs.Borrow.{Bor}
-use Rattle.model.specs.Buffers.{Limits, ours, session_at, log_in, lengths_match}
+use Rattle.model.specs.Buffers.{Limits, session_at, log_in, lengths_match}
 use Rattle.model.specs.Load.{load_effect}
 use Rattle.model.specs.Plans.{require}
 use Rattle.model.specs.Slices.{Slice, caps_before, IsPart}
-use Rattle.model.specs.Step.{outcome, effect, set_up_effect, plan_of, session_of, peek_shows, GoesBy}
+use Rattle.model.specs.Step.{outcome, effect, set_up_effect, session_of, peek_shows, GoesBy}
 use Rattle.records.specs.declared.Sessions.{Sessions}
 use Rattle.records.specs.declared.Lock.{Lock}
 use Rattle.records.specs.declared.Reply.{Reply}
 use Rattle.records.specs.declared.Answer.{Answer}
-use Rattle.records.specs.declared.Plan.{Plan}
 use Rattle.records.specs.declared.Call.{Call}
-use Rattle.records.specs.declared.Call.TheVariants.{Write, Peek}
+use Rattle.records.specs.declared.Call.TheVariants.{Write}
 use Rattle.refusals.specs.Pieces.{admission}
 use Rattle.any_call.specs.AnyCall.{cell_for}
 use Rattle.refusals.specs.declared.Lengths.{Lengths}
@@ -66,18 +65,13 @@ IsLoad T caps T' values classes m w sessions r =
     → outcome r.answer (store_on (record { caps = T' }) values classes L logs r.sessions)
     ≡ load_effect T (store_on (record { caps = caps }) values classes L logs sessions)
 
--- a peek's plan, and its part, whatever the limits are
-abbrev pub IsPeekPlan : ℕ → ℕ → ℕ → List ℕ → Sessions → ℕ → ℕ → Plan → Type 0
-IsPeekPlan n k m logs sessions s c p =
-    (G : Limits) (values classes : List ℕ) (L : List Lock) → length values ≡ n → length classes ≡ k → length L ≡ m
-    → p ≡ plan_of (Peek s c) (store_on G values classes L logs sessions)
-
+-- a peek's part, whatever the limits are
 abbrev pub IsPeekPart : Bor (List ℕ) → ℕ → ℕ → Bor (List ℕ) → Sessions → ℕ → ℕ → Bor (List ℕ) → Type 0
 IsPeekPart values k m logs sessions s c r =
     (G : Limits) (classes : List ℕ) (L : List Lock) → length classes ≡ k → length L ≡ m
     → IsPart values logs (peek_shows s c (store_on G values.now classes L logs.now sessions)) r
 
--- the same over whole parameters: of a call, of a write by a table, of set-up by our caps and by a table, and of a table loaded
+-- the same over whole parameters: of a call, of a write by a table, of set-up by a table, and of a table loaded
 abbrev pub TakesOnRun : Call → Slice → Slice → ℕ → Lock → Slice → Sessions → Turn → Type 0
 TakesOnRun k values classes m l logs sessions r =
     IsTurn k values.entry.now classes.entry.now m l logs.entry.now sessions values.exit.now logs.exit.now r
@@ -85,10 +79,6 @@ TakesOnRun k values classes m l logs sessions r =
 abbrev pub WritesOnRun : Slice → ℕ → ℕ → ℕ → Slice → Slice → ℕ → Lock → Slice → Sessions → Turn → Type 0
 WritesOnRun caps s c v values classes m l logs sessions r =
     IsTurnUnder (caps_before caps) (Write s c v) c values.entry.now classes.entry.now m l logs.entry.now sessions values.exit.now logs.exit.now r
-
-abbrev pub SetsUpTurn : Slice → Slice → ℕ → Slice → Sessions → Turn → Type 0
-SetsUpTurn values classes m logs sessions r =
-    IsSetUpTurn ours values.entry.now classes.entry.now m logs.entry.now sessions logs.exit.now r
 
 abbrev pub SetsUpTurnBy : Slice → Slice → Slice → ℕ → Slice → Sessions → Turn → Type 0
 SetsUpTurnBy caps values classes m logs sessions r =

@@ -8,9 +8,9 @@ ghost use Rattle.model.specs.Slices.{as_lent};
 ghost use Rattle.records.specs.declared.Answer.TheVariants.{Refused};
 ghost use Rattle.records.specs.Records.{refusal_number};
 ghost use Rattle.run_changes.specs.Run.{on_run};
-ghost use Rattle.run_turns.specs.Turns.{lengths_on, only_answer, look_of, IsPeekPlan, IsPeekPart, TakesOnRun, WritesOnRun, SetsUpTurn, SetsUpTurnBy, LoadsOnRun};
+ghost use Rattle.run_turns.specs.Turns.{lengths_on, only_answer, look_of, IsPeekPart, TakesOnRun, WritesOnRun, SetsUpTurnBy, LoadsOnRun};
 
-use records::{Answer, Call, Lock, Plan, Refusal, Reply, Sessions};
+use records::{Answer, Call, Lock, Refusal, Reply, Sessions};
 use refusals::Lengths;
 use run_changes::Change;
 
@@ -87,7 +87,7 @@ pub fn set_up_turn_by(
     if let Err(refusal) = loads::judge_set_up(lengths, values, classes, caps) {
         return Turn::refused(refusal, sessions);
     }
-    logs.fill(0);
+    session_log::clear_words(logs);
     Turn {
         reply: Reply {
             answer: Answer::Done,
@@ -95,19 +95,6 @@ pub fn set_up_turn_by(
         },
         change: Change::Clear(n as u32),
     }
-}
-
-// The same by our table.
-pub fn set_up_turn(
-    sessions: Sessions,
-    values: &[u32],
-    classes: &[u8],
-    locks: usize,
-    logs: &mut [u32],
-) -> Turn
-    ensures { SetsUpTurn values classes locks (as_lent logs) sessions result }
-{
-    set_up_turn_by(sessions, values, classes, locks, logs, caps::ours())
 }
 
 // ---- a call, but for the run
@@ -208,26 +195,6 @@ pub fn load_turn(
 
 // ---- a peek, which leaves all that is lent as it is: of the run it is told the count
 
-// What a peek decides.
-fn peek_plan(
-    sessions: Sessions,
-    n: usize,
-    classes: usize,
-    locks: usize,
-    logs: &[u32],
-    session: u8,
-    cell: u32,
-) -> Plan
-    ensures { IsPeekPlan n classes locks logs.now sessions session cell result }
-{
-    let lengths = lengths_on(n, classes, locks, logs.len());
-    if let Err(refusal) = lengths.admit(session) {
-        return Plan::from(refusal);
-    }
-    let x = turns::record_of(sessions, session);
-    plans::peek_plan(session_log::of_session(logs, session), n, x, cell)
-}
-
 // A peek's part.
 pub fn peek_part<'a>(
     sessions: Sessions,
@@ -240,16 +207,7 @@ pub fn peek_part<'a>(
 ) -> &'a [u32]
     ensures { IsPeekPart values.entry classes locks logs.entry sessions session cell result }
 {
-    let p = peek_plan(sessions, values.len(), classes, locks, logs, session, cell);
-    if let Plan::ShowStore(_) = p {
-        let c = cell as usize;
-        let d = c + 1;
-        return &values[c..d];
-    }
-    if let Plan::ShowLog(k) = p {
-        let from = 128 * (session as usize) + (4 * (k as usize) + 2);
-        let to = from + 1;
-        return &logs[from..to];
-    }
-    &values[0..0]
+    let lengths = lengths_on(values.len(), classes, locks, logs.len());
+    let x = turns::record_of(sessions, session);
+    plans::peek_part(lengths, values, logs, x, session, cell)
 }
