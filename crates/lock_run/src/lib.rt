@@ -26,6 +26,7 @@ fn change_at(locks: &mut [Lock], cell: usize, change: Change)
 
 // The change carried out, lock by lock.
 #[tactic(auto, unfolding(run_changes::specs::Run::swept), using(crate::proofs::Fits::session_fits))]
+#[inline(always)]
 pub fn sweep<'a>(locks: &'a mut [Lock], logs: &'a [u32], change: Change)
     requires { ChangeFits logs.now change }
     ensures { locks.new ≡ swept_by logs.now change locks.old }
