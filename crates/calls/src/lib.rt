@@ -45,11 +45,10 @@ pub fn take_read(values: &[u32], log: &mut [u32], x: Session, l: Lock, cell: u32
     requires { (length log.old ≡ 128) × (p ≡ read_plan (length values.now) log.old x free cell) }
     ensures { TakesTurn (read_plan (length values.now) log.old x l cell) values (as_lent log) x result }
 {
-    if let Plan::Tell(value) = p {
-        return records::keeps(Answer::Value(value), x);
-    }
-    if let Plan::Refuse(number) = p {
-        return records::keeps(Answer::Refused(number), x);
+    match p {
+        Plan::Tell(value) => return records::keeps(Answer::Value(value), x),
+        Plan::Refuse(number) => return records::keeps(Answer::Refused(number), x),
+        _ => {}
     }
     if lock::is_claimed(l) {
         return records::rolled_back(x);
@@ -65,12 +64,13 @@ pub fn take_hold(values: &[u32], log: &mut [u32], x: Session, l: Lock, cell: u32
     requires { (length log.old ≡ 128) × (p ≡ hold_plan (length values.now) log.old x free cell) }
     ensures { TakesTurn (hold_plan (length values.now) log.old x l cell) values (as_lent log) x result }
 {
-    if let Plan::Mark(k, value) = p {
-        session_log::mark(log, k as usize);
-        return records::keeps(Answer::Value(value), x);
-    }
-    if let Plan::Refuse(number) = p {
-        return records::keeps(Answer::Refused(number), x);
+    match p {
+        Plan::Mark(k, value) => {
+            session_log::mark(log, k as usize);
+            return records::keeps(Answer::Value(value), x);
+        }
+        Plan::Refuse(number) => return records::keeps(Answer::Refused(number), x),
+        _ => {}
     }
     if lock::is_claimed(l) {
         return records::rolled_back(x);
@@ -95,12 +95,13 @@ pub fn take_write(
     requires { (length log.old ≡ 128) × (WriteDecided (length values.now) log.old x cell written p) }
     ensures { TurnsWrite values (as_lent log) x l cell written p result }
 {
-    if let Plan::Update(k, value) = p {
-        session_log::update(log, k as usize, value);
-        return records::keeps(Answer::Done, x);
-    }
-    if let Plan::Refuse(number) = p {
-        return records::keeps(Answer::Refused(number), x);
+    match p {
+        Plan::Update(k, value) => {
+            session_log::update(log, k as usize, value);
+            return records::keeps(Answer::Done, x);
+        }
+        Plan::Refuse(number) => return records::keeps(Answer::Refused(number), x),
+        _ => {}
     }
     if lock::is_claimed(l) {
         return records::rolled_back(x);

@@ -18,15 +18,6 @@ pub fn ours() -> &'static [u32; 16]
     &CAPS
 }
 
-// The cap of a class, of ours.
-#[tactic(auto, unfolding(model::specs::Buffers::our_caps, model::specs::Buffers::cap))]
-pub fn cap(class: u8) -> u32
-    requires { class < 16 }
-    ensures { result ≡ cap our_caps class }
-{
-    CAPS[class as usize]
-}
-
 // A class byte at most 15, and a value within the cap of that class in a table.
 #[tactic(auto, unfolding(model::specs::Buffers::fits, model::specs::Buffers::cap))]
 fn fits(caps: &[u32], class: u8, value: u32) -> bool
@@ -39,7 +30,7 @@ fn fits(caps: &[u32], class: u8, value: u32) -> bool
 // Each class byte at most 15, and each value within the cap of its class in a table. The classes go by index: over a zip the loop is ten instructions a cell, and not nine.
 #[tactic(auto, using(crate::proofs::Caps::fit_stops, crate::proofs::Caps::fit_goes_on, crate::proofs::Caps::fit_ends))]
 #[inline(never)]
-pub fn all_fit_by(caps: &[u32], values: &[u32], classes: &[u8]) -> bool
+pub fn all_fit(caps: &[u32], values: &[u32], classes: &[u8]) -> bool
     requires { (length caps.now ≡ 16) × (length classes.now ≡ length values.now) }
     ensures { result ≡ all_fit caps.now values.now classes.now }
 {
@@ -49,16 +40,6 @@ pub fn all_fit_by(caps: &[u32], values: &[u32], classes: &[u8]) -> bool
         }
     }
     true
-}
-
-// The same by our table, put on the stack once: of a borrowed one the loop loads the address for each cell.
-#[tactic(auto, unfolding(model::specs::Buffers::our_caps))]
-pub fn all_fit(values: &[u32], classes: &[u8]) -> bool
-    requires { length classes.now ≡ length values.now }
-    ensures { result ≡ all_fit our_caps values.now classes.now }
-{
-    let caps = CAPS;
-    all_fit_by(&caps, values, classes)
 }
 
 // The first cap 1 or more, and each above the one before it.

@@ -40,7 +40,7 @@ pub fn judge_set_up(
         Err(Refusal::WrongLengths)
     } else if !caps::caps_pass(caps) {
         Err(Refusal::WrongCaps)
-    } else if !caps::all_fit_by(caps, values, classes) {
+    } else if !caps::all_fit(caps, values, classes) {
         Err(Refusal::UnknownClass)
     } else {
         Ok(())
@@ -67,7 +67,7 @@ fn judge_table(
     if !caps::all_classed(classes) {
         return Err(Refusal::UnknownClass);
     }
-    if !caps::all_fit_by(table, values, classes) {
+    if !caps::all_fit(table, values, classes) {
         return Err(Refusal::ValueAboveCaps);
     }
     Ok(())

@@ -8,7 +8,8 @@ ghost use Rattle.records.specs.declared.Plan.TheVariants.{Refuse};
 ghost use Rattle.records.specs.declared.Change.TheVariants.{Keep, Join, Withdraw};
 ghost use Rattle.records.specs.Records.{idle, running, with_entry, with_entries, move_to, number, value_of, session_of, refusal_number, answered};
 
-// A session's record: phase (0 idle, 1 running, 2 promoting, 3 publishing, 4 releasing), entry count, next cell.
+// A session's record: phase (0 idle, 1 running, 2 promoting, 3 publishing, 4 releasing), entry count, next cell. The phase is a byte, since C keeps the record and may
+// hand in any: one above 4 is refused by 9.
 #[repr(C)]
 #[derive(Clone, Copy, PartialEq, Eq)]
 pub struct Session {
@@ -24,7 +25,7 @@ pub struct Sessions {
     pub records: [Session; 16],
 }
 
-// A cell's lock: the reader set (bit s for session s), the claimant (16 is nobody) and the writer mark.
+// A cell's lock: the reader set (bit s for session s), the claimant (16 is nobody) and the writer mark. Claimant and mark are bytes, as C lends them.
 #[derive(Clone, Copy, PartialEq, Eq)]
 pub struct Lock {
     pub readers: u16,
@@ -73,6 +74,7 @@ pub enum Answer {
     // the number of other readers
     Waiting(u32),
     Committed,
+    // by its number, which `number` hands on whatever it is, and by which the definitions of crate model and their theorems speak
     Refused(u8),
 }
 
@@ -169,7 +171,7 @@ impl Answer {
 // What a call decides before it changes anything; `plan_effect` in model/specs/Effects.antt says what each answers and leaves.
 #[derive(Clone, Copy)]
 pub enum Plan {
-    // the number of a refusal
+    // the number of a refusal, as `plan_effect` has it
     Refuse(u8),
     Start,
     // a known cell's value
@@ -222,7 +224,7 @@ pub struct Turn {
     pub change: Change,
 }
 
-// A call's answer and the record that it hands back.
+// A call's answer and the record that it hands back. (`Reply` has sixteen: no generic type, since the definitions of crate contracts name what is handed back.)
 #[derive(Clone, Copy)]
 pub struct SessionReply {
     pub answer: Answer,
@@ -369,10 +371,9 @@ pub fn keeps(answer: Answer, session: Session) -> Turn
 pub fn rolled_back(x: Session) -> Turn
     ensures { result ≡ record { answer = Refused 6; session = idle; change = Withdraw } }
 {
-    let y = x.idled();
     Turn {
-        answer: Answer::Refused(6),
-        session: y,
+        answer: Answer::from(Refusal::Conflict),
+        session: x.idled(),
         change: Change::Withdraw,
     }
 }
@@ -382,10 +383,9 @@ pub fn enters(answer: Answer, x: Session, cell: u32) -> Turn
     requires { x.count < 32 }
     ensures { result ≡ record { answer = answer; session = with_entry x; change = Join cell } }
 {
-    let y = x.with_entry();
     Turn {
         answer,
-        session: y,
+        session: x.with_entry(),
         change: Change::Join(cell),
     }
 }

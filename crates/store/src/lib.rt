@@ -37,7 +37,8 @@ pub fn load_caps(
     }
 }
 
-// ---- the calls
+// ---- the calls. Read and hold differ in what decides and what takes the turn: one function over both would be handed two closures, and say by what they answer what it
+// says now by the model's call.
 
 // Begin: idle only. The session runs with no entry. 100.
 pub fn begin(

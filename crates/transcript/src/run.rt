@@ -10,7 +10,7 @@ ghost use Rattle.replay_text.specs.Transcript.{transcript};
 use field::Refused;
 use items::{Next, next_at, read_cells};
 use lines::Page;
-use records::{Call, Sessions};
+use records::{Call, Refusal, Sessions};
 
 // The call that stands at a place, with its field's length; none where something else stands, or nothing.
 #[tactic(auto, unfolding(crate::specs::Output::call_of))]
@@ -143,7 +143,7 @@ pub(crate) fn print(input: &[u8], page: &mut Page)
     let mut values = [0u32; 1024];
     let mut classes = [0u8; 1024];
     let Some(cells) = read_cells(input, &mut values, &mut classes) else {
-        page.set_up(7);
+        page.set_up(Refusal::WrongLengths.number());
         return;
     };
     run_cells(

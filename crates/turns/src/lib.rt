@@ -11,7 +11,8 @@ ghost use Rattle.calls.specs.Pieces.{WriteDecided};
 
 use records::{Lock, Plan, Reply, Session, Sessions, Turn};
 
-// ---- a turn that changes the session's log
+// ---- a turn that changes the session's log. One function for each call, and none that hands out the session's part of the logs to be changed: of a slice that is lent
+// on, the check does not tell what the logs are afterwards.
 
 // Read.
 pub fn read(

@@ -35,33 +35,33 @@ returns-in-Refuse c =
 pub returns-then-is_claimed : goal.returns-then-is_claimed
 returns-then-is_claimed c =
     let a = c.args in
-    let w = when_new (chosen a.values.now a.log.now a.x a.l a.cell a.p c.requires.1) (λ k. c.in_default.not-Mark k _) (λ r. c.in_default-p.not-Refuse r) in
+    let w = when_new (chosen a.values.now a.log.now a.x a.l a.cell a.p c.requires.1) (λ k. c.in_default.not-Mark k _) (λ r. c.in_default.not-Refuse r) in
     turn_rolled_back _ _ _ _ _ (rw (sym c.is_claimed.ensures ∙ c.if-is_claimed.true) at w.3) c.rolled_back.ensures
 
 pub bounds-values-cell : goal.bounds-values-cell
 bounds-values-cell c =
     let a = c.args in
-    (when_new (chosen a.values.now a.log.now a.x a.l a.cell a.p c.requires.1) (λ k. c.in_default.not-Mark k _) (λ r. c.in_default-p.not-Refuse r)).0
+    (when_new (chosen a.values.now a.log.now a.x a.l a.cell a.p c.requires.1) (λ k. c.in_default.not-Mark k _) (λ r. c.in_default.not-Refuse r)).0
 
 pub append-requires : goal.append-requires
 append-requires c =
     let a = c.args in
-    let w = when_new (chosen a.values.now a.log.now a.x a.l a.cell a.p c.requires.1) (λ k. c.in_default.not-Mark k _) (λ r. c.in_default-p.not-Refuse r) in
+    let w = when_new (chosen a.values.now a.log.now a.x a.l a.cell a.p c.requires.1) (λ k. c.in_default.not-Mark k _) (λ r. c.in_default.not-Refuse r) in
     omega (arith, w.1, c.requires.0)
 
 pub mark-requires-2 : goal.mark-requires-2
 mark-requires-2 c =
     let a = c.args in
-    let w = when_new (chosen a.values.now a.log.now a.x a.l a.cell a.p c.requires.1) (λ k. c.in_default.not-Mark k _) (λ r. c.in_default-p.not-Refuse r) in
+    let w = when_new (chosen a.values.now a.log.now a.x a.l a.cell a.p c.requires.1) (λ k. c.in_default.not-Mark k _) (λ r. c.in_default.not-Refuse r) in
     omega (arith, w.1, c.requires.0, c.append.auto.log)
 
 pub enters-requires : goal.enters-requires
 enters-requires c =
     let a = c.args in
-    (when_new (chosen a.values.now a.log.now a.x a.l a.cell a.p c.requires.1) (λ k. c.in_default.not-Mark k _) (λ r. c.in_default-p.not-Refuse r)).1
+    (when_new (chosen a.values.now a.log.now a.x a.l a.cell a.p c.requires.1) (λ k. c.in_default.not-Mark k _) (λ r. c.in_default.not-Refuse r)).1
 
 pub returns : goal.returns
 returns c =
     let a = c.args in
-    let w = when_new (chosen a.values.now a.log.now a.x a.l a.cell a.p c.requires.1) (λ k. c.in_default.not-Mark k _) (λ r. c.in_default-p.not-Refuse r) in
+    let w = when_new (chosen a.values.now a.log.now a.x a.l a.cell a.p c.requires.1) (λ k. c.in_default.not-Mark k _) (λ r. c.in_default.not-Refuse r) in
     turn_enter_marked _ _ _ _ _ _ _ _ _ (rw (sym c.is_claimed.ensures ∙ c.if-is_claimed.false) at w.3) refl c.append.ensures c.mark-2.ensures c.enters.ensures

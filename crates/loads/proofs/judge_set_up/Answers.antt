@@ -2,5 +2,5 @@
 use Rattle.loads.proofs.Loading.{even}
 use Rattle.loads.proofs.judge_set_up.Goals as goal
 
-pub all_fit_by-requires : goal.all_fit_by-requires
-all_fit_by-requires c = (c.if-caps-ne16.false, even c.args.lengths _ _ c.requires _ c.fit.ensures c.if-not-fit.false)
+pub all_fit-requires : goal.all_fit-requires
+all_fit-requires c = (c.if-caps-ne16.false, even c.args.lengths _ _ c.requires _ c.fit.ensures c.if-not-fit.false)

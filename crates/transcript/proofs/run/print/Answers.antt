@@ -11,7 +11,7 @@ returns-then-input-gt65536-clause-text c =
 
 pub returns-in_default-clause-text : goal.returns-in_default-clause-text
 returns-in_default-clause-text c =
-    let line = c.set_up.ensures.text in
+    let line = rw c.number.ensures at c.set_up.ensures.text in
     (line.0 ∙ ap (put _ _) (too_many_text _ c.if-input-gt65536.false c.in_default.ensures), omega arith)
 
 pub returns-clause-text : goal.returns-clause-text
