@@ -18,8 +18,9 @@ fn empty(readers: &mut [u16], claimants: &mut [u8], exclusives: &mut [u8], logs:
     logs.fill(0);
 }
 
-// Set-up by a table: all sessions idle, all locks empty, all log words 0. 100, 7, 16 or 8.
-#[inline(always)]
+// Set-up by a table: all sessions idle, all locks empty, all log words 0. 100, 7, 16 or 8. It is not inlined: before a call on sixteen records that is, the compiler
+// would keep these as 48 numbers.
+#[inline(never)]
 pub fn set_up_with_caps(
     sessions: Sessions,
     values: &[u32],
