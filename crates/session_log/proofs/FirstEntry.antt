@@ -61,6 +61,17 @@ module _ (log : List ℕ) (m c : ℕ) where
   none_exactly (Some k) f h = absurd (h k f.among f.has_cell)
   none_exactly None f h = refl
 
+  -- the same of a cell looked up: r is the answer
+  module _ (r : code.Option ℕ) (w : found r ≡ slot_in log m c) where
+    pub known_first : {k : ℕ} → r ≡ Some k → FirstEntry log m c k
+    known_first e = rw e at (place_found r w)
+
+    pub unknown_none : r ≡ None → NoEntry log m c
+    unknown_none e = rw e at (place_found r w)
+
+    pub none_unknown : NoEntry log m c → r ≡ None
+    none_unknown h = none_exactly r (place_found r w) h
+
 -- ---- the words that play no part
 
 -- two logs whose first m entries have the same cells
