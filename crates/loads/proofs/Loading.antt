@@ -48,6 +48,10 @@ unfolding lengths_match
 even l n k s f q g =
     sym s.1 ∙ eqb-true l.classes l.values (test (eqb l.classes l.values) (λ p. p) (λ p. absurd (clash f g (q ∙ rw (p, and-false))))) ∙ s.0
 
+-- the lengths that a load is told
+abbrev pub told : List ℕ → List ℕ → ℕ → ℕ → ℕ → ℕ → Lengths
+told vs ks r c e w = record { values = length vs; classes = length ks; readers = r; claimants = c; exclusives = e; logs = w }
+
 -- ---- as the code has it: the table C in force, the values vs, the classes ks, and the lengths of the rest
 
 module _ (vs ks : List ℕ) (l : Lengths) (C T : List ℕ) (ss : Sessions) where

@@ -73,18 +73,29 @@ fn judge_table(
     Ok(())
 }
 
-// The table in the place of the one in force, of locks and logs of these lengths: refused by 7, 2, 16, 8 or 17 with the old table as it was.
+// The table in the place of the one in force, of locks and logs of these lengths: refused by 7, 2, 16, 8 or 17 with the old table as it was. (Four lengths and no `Lengths`:
+// one whose values or classes are not as many as the slices' could not be told from a mistake.)
 pub fn load_caps(
     sessions: Sessions,
-    lengths: Lengths,
     values: &[u32],
     classes: &[u8],
+    readers: usize,
+    claimants: usize,
+    exclusives: usize,
+    logs: usize,
     caps: &mut [u32],
     table: &[u32],
 ) -> Result<(), Refusal>
-    requires { (lengths.values ≡ length values.now) × (lengths.classes ≡ length classes.now) }
-    ensures { LoadsCaps values classes lengths.readers lengths.claimants lengths.exclusives lengths.logs (as_lent caps) table sessions (answered result) }
+    ensures { LoadsCaps values classes readers claimants exclusives logs (as_lent caps) table sessions (answered result) }
 {
+    let lengths = Lengths {
+        values: values.len(),
+        classes: classes.len(),
+        readers,
+        claimants,
+        exclusives,
+        logs,
+    };
     if caps.len() != 16 {
         return Err(Refusal::WrongLengths);
     }

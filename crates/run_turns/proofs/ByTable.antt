@@ -67,12 +67,12 @@ module _ (T vs cs W : List ℕ) (ss : Sessions) (m : ℕ) (l : Lock) (s c v : �
 
 -- ---- a table T loaded in the place of `caps`, where it leaves T'
 
-pub loads_on : (T caps T' vs cs : List ℕ) (ss : Sessions) (m w : ℕ) (N : Lengths) → N ≡ lengths_on (length vs) (length cs) m w → (a b : Answer)
-    → ((B : Buffers) → Lends vs cs N.readers N.claimants N.exclusives N.logs B → outcome a (record { lent = B; limits = record { caps = T' }; sessions = ss }) ≡ load_effect T (record { lent = B; limits = record { caps = caps }; sessions = ss }))
+pub loads_on : (T caps T' vs cs : List ℕ) (ss : Sessions) (m w : ℕ) (a b : Answer)
+    → ((B : Buffers) → Lends vs cs m m m w B → outcome a (record { lent = B; limits = record { caps = T' }; sessions = ss }) ≡ load_effect T (record { lent = B; limits = record { caps = caps }; sessions = ss }))
     → b ≡ a → IsLoad T caps T' vs cs m w ss (record { answer = b; sessions = ss })
-loads_on T caps T' vs cs ss m w N e a b f g L logs q i =
+loads_on T caps T' vs cs ss m w a b f g L logs q i =
     rw g
-    (f (lent_on vs cs L logs) (rw e record {
+    (f (lent_on vs cs L logs) (record {
       values = refl;
       classes = refl;
       readers = sym q ∙ sym (each_length (λ l. l.readers) L);

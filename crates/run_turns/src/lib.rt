@@ -185,8 +185,9 @@ pub fn load_turn(
 ) -> Reply
     ensures { LoadsOnRun (as_lent caps) table values classes locks logs sessions result }
 {
-    let lengths = lengths_on(values.len(), classes.len(), locks, logs);
-    let loaded = loads::load_caps(sessions, lengths, values, classes, caps, table);
+    let loaded = loads::load_caps(
+        sessions, values, classes, locks, locks, locks, logs, caps, table,
+    );
     Reply {
         answer: Answer::from(loaded),
         sessions,

@@ -29,8 +29,17 @@ pub fn load_caps(
 ) -> Reply
     ensures { Loads (as_lent caps) table values classes readers claimants exclusives logs sessions result }
 {
-    let lengths = Lengths::of(values, classes, readers, claimants, exclusives, logs);
-    let loaded = loads::load_caps(sessions, lengths, values, classes, caps, table);
+    let loaded = loads::load_caps(
+        sessions,
+        values,
+        classes,
+        readers.len(),
+        claimants.len(),
+        exclusives.len(),
+        logs.len(),
+        caps,
+        table,
+    );
     Reply {
         answer: Answer::from(loaded),
         sessions,

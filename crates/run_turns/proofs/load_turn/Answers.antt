@@ -3,4 +3,4 @@ use Rattle.run_turns.proofs.ByTable.{loads_on}
 use Rattle.run_turns.proofs.load_turn.Goals as goal
 
 pub returns : goal.returns
-returns c = loads_on _ _ _ _ _ _ _ _ _ c.lengths_on-lengths.ensures _ _ c.load_caps-loaded.ensures c.from.ensures
+returns c = loads_on _ _ _ _ _ _ _ _ _ _ c.load_caps-loaded.ensures c.from.ensures
