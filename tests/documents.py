@@ -1,6 +1,6 @@
 #!/usr/bin/env python3
-"""Holds the documents to the tree: each path, function, theorem, must-fail edit and link that README.md and docs/ name is there. docs/landings and docs/PORT.md are
-left out: they name what stood when they were written. Every must-fail edit stands in docs/datasheet/wrong_answers.md, which has a row with two at the least for each exported
+"""Holds the documents to the tree: each path, function, theorem, must-fail edit and link that README.md and docs/ name is there. docs/landings, docs/PORT.md and
+docs/DESIGN-PASS.md are left out: they name what stood when they were written. Every must-fail edit stands in docs/datasheet/wrong_answers.md, which has a row with two at the least for each exported
 function.
 
 Usage: documents.py. Prints what is missing, and last 'N passed, M failed'."""
@@ -12,6 +12,7 @@ import sys
 
 ROOT = os.path.dirname(os.path.dirname(os.path.abspath(__file__)))
 WRONG_ANSWERS = "docs/datasheet/wrong_answers.md"
+LEFT_OUT = ("PORT.md", "DESIGN-PASS.md")
 EXPORTING = ("set_up", "store", "peeks", "many_reads", "lists", "lock_records", "field", "transcript")
 INNER = {"peeks::peek_plan"}
 PATH = r"[\w{},./-]+"
@@ -31,7 +32,7 @@ def there(path):
 def documents():
     found = ["README.md"]
     for folder, _, names in os.walk(os.path.join(ROOT, "docs")):
-        found += [os.path.relpath(os.path.join(folder, name), ROOT) for name in names if name.endswith(".md") and name != "PORT.md" and not folder.endswith("landings")]
+        found += [os.path.relpath(os.path.join(folder, name), ROOT) for name in names if name.endswith(".md") and name not in LEFT_OUT and not folder.endswith("landings")]
     return sorted(found)
 
 
