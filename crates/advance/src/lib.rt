@@ -28,7 +28,7 @@ pub fn due_slot(log: &[u32], n: usize, x: Session) -> Result<Next, Refusal>
     Ok(due)
 }
 
-// The cell of the entry that is due; 0 where the advance is refused.
+// The cell of the entry that is due; 0 where the advance is refused, as in the definition: of that cell's lock the turn then reads nothing.
 #[tactic(auto, unfolding(crate::specs::Pieces::due_cell, crate::specs::Pieces::DueFits))]
 pub fn due_cell(log: &[u32], due: Result<Next, Refusal>) -> u32
     requires { (length log.now ≡ 128) × (DueFits due) }

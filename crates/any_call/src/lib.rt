@@ -12,7 +12,7 @@ ghost use Rattle.any_call.specs.AnyCall.{cell_for, plan_with};
 
 use records::{Answer, Call, Change, Lock, Plan, Session, Turn};
 
-// The cell whose lock a call may need, by its session's log and record; 0 where it needs none.
+// The cell whose lock a call may need, by its session's log and record; 0 where it needs none, as in the definition, so that every call has one lock handed in.
 #[tactic(auto, unfolding(crate::specs::AnyCall::cell_for))]
 pub fn cell_for(call: Call, log: &[u32], n: usize, x: Session) -> u32
     requires { (length log.now ≡ 128) × (n ≤ 1024) }

@@ -40,6 +40,9 @@ pub fn take_abandon(log: &[u32], n: usize, x: Session) -> Turn
     }
 }
 
+// Read, hold and write have a function each, though a new cell is entered alike: what is told, marked or updated differs at both ends, and one function over these would take
+// three closures.
+
 // Read: running only. 101 with a known cell's present value; a new cell is entered, or, where it is claimed, the session rolled back, 6.
 pub fn take_read(values: &[u32], log: &mut [u32], x: Session, l: Lock, cell: u32, p: Plan) -> Turn
     requires { (length log.old ≡ 128) × (p ≡ read_plan (length values.now) log.old x free cell) }

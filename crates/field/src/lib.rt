@@ -88,10 +88,10 @@ pub struct Refused {
     pub place: usize,
 }
 
-// The number of a field that was read or written.
+// The number of a field that was read or written, as C is told it.
 pub const DONE: u8 = 100;
 
-// The number where no byte is left.
+// The number where no byte is left, as C is told it.
 pub const END_OF_FIELDS: u8 = 106;
 
 // The numbers of the body that starts at `at`.

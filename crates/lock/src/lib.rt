@@ -9,7 +9,7 @@ ghost use Rattle.model.specs.Plans.{claimed};
 
 use records::Lock;
 
-// ---- reader sets
+// ---- reader sets. A session is a byte that the clauses ask to be below 16, and no type of its own: so the calls have it, and the definitions take its number.
 
 // A session joins the readers.
 pub fn with_reader(readers: u16, session: u8) -> u16

@@ -1,12 +1,32 @@
--- That the stores of a change of one cell are that change.
+-- That the stores of a change of one cell are that change, and that the three parts of a change together are the change.
 use Prim.Native.Nat.{ℕ}
-use mathlib.Core.List.{List}
+use mathlib.Core.List.{List, []}
 use mathlib.Core.Path.{◌≡◌, refl}
 use lib.ListN.{get_or, set}
 use lib.Seq.{set-get_or}
-use Rattle.model.specs.Buffers.{lock_at, set_lock, on_lock, join, claim, acquire, vacate}
+use Rattle.model.specs.Buffers.{Locks, lock_at, set_lock, on_lock, join, claim, acquire, vacate}
 use Rattle.model.specs.Readers.{with_reader, without_reader}
+use Rattle.model.specs.Turns.{changed}
+use Rattle.records.specs.declared.Change.{Change}
+use Rattle.records.specs.declared.Change.TheVariants.{Keep, Join, Claim, Acquire, Vacate, Withdraw, DropReads}
 use Rattle.contracts.specs.Lent.{locks_of}
+use Rattle.locks.specs.Changes.{one_of, withdraw_of, drop_of}
+
+-- ---- the three parts of a change
+
+-- one after the other they carry the change out
+pub in_three : (d : Change) (log : List ℕ) (m s : ℕ) (L : Locks)
+    → changed (drop_of d) log m s (changed (withdraw_of d) log m s (changed (one_of d) [] 0 s L)) ≡ changed d log m s L
+unfolding changed one_of withdraw_of drop_of
+in_three Keep log m s L = refl
+in_three (Join c) log m s L = refl
+in_three (Claim c) log m s L = refl
+in_three (Acquire c) log m s L = refl
+in_three (Vacate c) log m s L = refl
+in_three Withdraw log m s L = refl
+in_three DropReads log m s L = refl
+
+-- ---- the stores of each change
 
 module _ (s : ℕ) (R C E : List ℕ) (c : ℕ) where
   pub join_stored : locks_of (set R c (with_reader s (get_or R c 0))) C E ≡ on_lock c (join s) (locks_of R C E)

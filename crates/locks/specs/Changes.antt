@@ -26,7 +26,25 @@ ChangeFits (Vacate c) s log m n = c < n
 ChangeFits Withdraw s log m n = Swept s log m n
 ChangeFits DropReads s log m n = Swept s log m n × (n ≤ 1024)
 
--- the part of a change that is a sealing's
+-- the parts of a change: of one cell, of rolling back, of sealing; `in_three` in proofs/Changes.antt says that they make it up
+unfoldable pub one_of : Change → Change
+one_of Keep = Keep
+one_of (Join c) = Join c
+one_of (Claim c) = Claim c
+one_of (Acquire c) = Acquire c
+one_of (Vacate c) = Vacate c
+one_of Withdraw = Keep
+one_of DropReads = Keep
+
+unfoldable pub withdraw_of : Change → Change
+withdraw_of Keep = Keep
+withdraw_of (Join c) = Keep
+withdraw_of (Claim c) = Keep
+withdraw_of (Acquire c) = Keep
+withdraw_of (Vacate c) = Keep
+withdraw_of Withdraw = Withdraw
+withdraw_of DropReads = Keep
+
 unfoldable pub drop_of : Change → Change
 drop_of Keep = Keep
 drop_of (Join c) = Keep
@@ -36,7 +54,7 @@ drop_of (Vacate c) = Keep
 drop_of Withdraw = Keep
 drop_of DropReads = DropReads
 
--- what it leaves of the reader sets
+-- what its sealing leaves of the reader sets
 abbrev pub DropsIf : Change → List ℕ → ℕ → ℕ → List ℕ → List ℕ → Type 0
 DropsIf d log m s R R' =
     (C E : List ℕ) → length C ≡ length R → length E ≡ length R → locks_of R' C E ≡ changed (drop_of d) log m s (locks_of R C E)

@@ -67,7 +67,7 @@ pub fn begin_in_numbers(r: SessionReply) -> NumberReply
     }
 }
 
-// The number of a refusal, 0 of any other answer.
+// The number of a refusal, 0 of any other answer: a number and no Option, since it is what C is told beside the value.
 pub fn refusal(answer: Answer) -> u32
     ensures { result ≡ refusal_of answer }
 {

@@ -202,7 +202,8 @@ pub enum Plan {
     EnterMark(u32),
 }
 
-// What becomes of the locks when a plan is carried out: nothing; one cell's changes; or those of the session's entries do.
+// What becomes of the locks when a plan is carried out: nothing; one cell's changes; or those of the session's entries do. An enum and no closure: a turn hands it out,
+// and each form of the locks carries it out in its own way.
 #[derive(Clone, Copy)]
 pub enum Change {
     Keep,

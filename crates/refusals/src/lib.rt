@@ -86,6 +86,9 @@ impl Lengths {
     }
 }
 
+// The log, the number of cells and the record are three arguments here and in the calls above: a struct of them would be built where they are lent and taken apart in
+// each function, whose clauses name the three.
+
 // Phase at most 4; in phases 1 to 4 at most 32 entries, each of a cell below n.
 pub fn entries_fit(log: &[u32], n: usize, x: Session) -> bool
     requires { (length log.now ≡ 128) × (n ≤ 1024) }

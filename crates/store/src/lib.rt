@@ -1,6 +1,7 @@
 // The store: the calls but peek (crate peeks), and a load of caps, on number slices that the caller lends (document 01, "The steps").
 // A call takes the record of its session and hands it back with its answer. It is admitted (7 and 1), looks up the lock that it needs, takes its turn
-// (crates calls, advance and turns) and carries out what becomes of the locks.
+// (crates calls, advance and turns) and carries out what becomes of the locks. The six slices are parameters, as C lends them: by `&` or `&mut` each shows what the call
+// may change.
 #![tactic(auto)]
 
 ghost use Rattle.std.specs.Prelude.{◌≡◌};
