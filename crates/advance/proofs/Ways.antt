@@ -1,5 +1,5 @@
 -- One law for each way through an advance.
-use mathlib.Core.Path.{◌≡◌, sym, ap, ◌∙◌}
+use mathlib.Core.Path.{◌≡◌, refl, sym, ap, ◌∙◌}
 use mathlib.Core.Bool.{Bool, true, false, not, ◌&&◌}
 use mathlib.Core.Option.{Option, none, some}
 use mathlib.Core.List.{List}
@@ -21,8 +21,8 @@ use Rattle.records.specs.declared.Answer.TheVariants.{Moved, Waiting, Committed}
 use Rattle.records.specs.declared.Plan.{Plan}
 use Rattle.records.specs.declared.Plan.TheVariants.{RollBack, Wait, Acquire, Publish, Release}
 use Rattle.model.proofs.Sets.{others_told}
-use Rattle.model.proofs.Tools.{test, which}
-use Rattle.session_log.specs.Slots.{target_slot, is_more}
+use Rattle.model.proofs.Tools.{test}
+use Rattle.session_log.specs.Slots.{target_slot}
 use Rattle.session_log.proofs.Targets.{written_first, slot_some, target_some}
 use Rattle.advance.specs.Pieces.{due_at, due_on, advance_on, handled_by}
 use Rattle.targets.specs.declared.Next.{Next}
@@ -30,7 +30,8 @@ use Rattle.targets.specs.Told.{next_of, next_in}
 use Rattle.records.specs.declared.Refusal.TheVariants.{WrongPhase, DamagedRecord}
 use Rattle.records.specs.declared.SessionReply.{SessionReply}
 use Rattle.std.specs.Prelude as code
-use Rattle.std.specs.Prelude.{Ok, Err, None, Some}
+use Rattle.std.specs.Prelude.{Err}
+use Rattle.std.specs.Option.{ok_or}
 
 -- the lowest written cell has a first entry
 pub target_slot_lem : (log : List ℕ) (m from : ℕ) {c : ℕ} → target_in log m from ≡ some c
@@ -39,6 +40,12 @@ target_slot_lem log m from {c} e =
     let k = written_first log m c (target_some log m from e).1 in
     let s = slot_some log m c k.1 in
     (k.0, k.1, s.0, s.1)
+
+-- what the search finds is due; where it finds nothing there is 9
+due_or : (log : List ℕ) (m : ℕ) (o : Option ℕ) → ok_or (next_of log m o) DamagedRecord ≡ due_at log m o
+unfolding due_at
+due_or log m none = refl
+due_or log m (some k) = refl
 
 module _ (n : ℕ) (log : List ℕ) (x : Session) where
   -- b is what the test of the entries answered
@@ -52,23 +59,10 @@ module _ (n : ℕ) (log : List ℕ) (x : Session) where
       unfolding due_on
       due_early l = simp (sym e ∙ h, lt-leb 2 x.phase l)
 
-      -- o is the first entry of the lowest written cell
-      module _ (l : 2 ≤ x.phase) where
-        at : (o : Option ℕ) → target_slot log x.count x.next ≡ o → due_at log x.count o ≡ due_on n log x
-        unfolding due_on
-        at o q = simp (sym e ∙ h, le-leb 2 x.phase l, q)
-
-        -- r is what the search for it answered
-        module _ (r : code.Option Next) (t : r ≡ next_in log x.count x.next) where
-          pub due_none : r ≡ None → Err DamagedRecord ≡ due_on n log x
-          unfolding due_at
-          due_none i = which (target_slot log x.count x.next) (λ q. at none q) (λ k q. absurd (let z : None ≡ Some _ = sym i ∙ t ∙ ap (next_of log x.count) q in cc))
-
-          pub due_some : (d : Next) → r ≡ Some d → Ok d ≡ due_on n log x
-          unfolding due_at
-          due_some d i =
-              which (target_slot log x.count x.next) (λ q. absurd (let z : Some d ≡ None = sym i ∙ t ∙ ap (next_of log x.count) q in cc))
-              (λ k q. let z : Some d ≡ Some _ = sym i ∙ t ∙ ap (next_of log x.count) q in let w : d ≡ record { slot = k; more = is_more log x.count (some k) } = cc in rw w (at (some k) q))
+      -- r is what the search for the entry answered
+      pub due_next : 2 ≤ x.phase → (r : code.Option Next) → r ≡ next_in log x.count x.next → ok_or r DamagedRecord ≡ due_on n log x
+      unfolding due_on
+      due_next l r t = simp (t, due_or log x.count (target_slot log x.count x.next), sym e ∙ h, le-leb 2 x.phase l)
 
 -- ---- advance
 

@@ -22,10 +22,7 @@ pub fn due_slot(log: &[u32], n: usize, x: Session) -> Result<Next, Refusal>
     if x.phase < 2 {
         return Err(Refusal::WrongPhase);
     }
-    let Some(due) = targets::next_two(log, x.count as usize, n as u32, x.next as u32) else {
-        return Err(Refusal::DamagedRecord);
-    };
-    Ok(due)
+    targets::next_two(log, x.count as usize, n as u32, x.next as u32).ok_or(Refusal::DamagedRecord)
 }
 
 // The cell of the entry that is due; 0 where the advance is refused, as in the definition: of that cell's lock the turn then reads nothing.

@@ -28,15 +28,11 @@ fn lowest_publishing(log: &[u32], count: usize, n: u32, from: u32) -> u32
     requires { 4 * count ≤ length log.now }
     ensures { result ≡ lowest_publishing log.now n from count }
 {
-    let mut i = 0;
     let mut best = n;
-    loop {
-        if count <= i {
-            break best;
-        }
+    for i in 0..count {
         best = lower(log, i, from, best);
-        i += 1;
     }
+    best
 }
 
 // The first entry of the lowest cell that publishes, not below from: the entry that an advance handles.
@@ -91,6 +87,7 @@ fn lower_two(log: &[u32], i: usize, from: u32, best: Two) -> Two
 }
 
 // The lowest two cells not below from and below n of the first count entries that publish, each judged by itself.
+// A loop with break, and no `for`: the named form of document 01, which yields the cell of an advance by break.
 #[tactic(auto, unfolding(session_log::specs::Slots::lowest_publishing))]
 fn lowest_two(log: &[u32], count: usize, n: u32, from: u32) -> Two
     requires { 4 * count ≤ length log.now }

@@ -1,7 +1,7 @@
 -- Each return is a way through `due_on`.
-use Rattle.std.proofs.Common.{arith, rules}
+use Rattle.std.proofs.Common.{◌∙◌, arith, rules}
 use Rattle.refusals.proofs.Ways.{listed}
-use Rattle.advance.proofs.Ways.{due_odd, due_early, due_none, due_some}
+use Rattle.advance.proofs.Ways.{due_odd, due_early, due_next}
 use Rattle.advance.proofs.due_slot.Goals as goal
 
 pub returns-then-not-entries_fit : goal.returns-then-not-entries_fit
@@ -15,10 +15,6 @@ next_two-requires c =
     let w = listed _ _ _ _ c.entries_fit.ensures c.if-not-entries_fit.false c.if-x-lt2.false in
     (omega (arith, w.count), search rules, w.cells)
 
-pub returns-in_default : goal.returns-in_default
-returns-in_default c =
-    due_none _ _ _ _ c.entries_fit.ensures c.if-not-entries_fit.false c.if-x-lt2.false _ c.next_two.ensures c.in_default.is
-
 pub returns : goal.returns
 returns c =
-    due_some _ _ _ _ c.entries_fit.ensures c.if-not-entries_fit.false c.if-x-lt2.false _ c.next_two.ensures _ c.in-Some.is
+    c.ok_or.ensures.value ∙ due_next _ _ _ _ c.entries_fit.ensures c.if-not-entries_fit.false c.if-x-lt2.false _ c.next_two.ensures
