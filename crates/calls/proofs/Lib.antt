@@ -1,3 +1,4 @@
 pub mod Ways
 pub mod Turning
 pub mod Choices
+pub mod Entering

@@ -2,13 +2,13 @@
 // of the locks is handed back.
 #![tactic(auto)]
 
-ghost use Rattle.std.specs.Prelude.{◌≡◌, ◌||◌, ◌≤◌, eqb, length};
+ghost use Rattle.std.specs.Prelude.{◌≡◌, ◌||◌, ◌≤◌, ◌<◌, eqb, length};
 ghost use Rattle.model.specs.Buffers.{free};
 ghost use Rattle.model.specs.Plans.{guard, read_plan, hold_plan, seal_plan};
 ghost use Rattle.model.specs.Slices.{as_lent};
 ghost use Rattle.model.specs.Turns.{TakesTurn, TurnsLog};
 ghost use Rattle.records.specs.declared.Plan.TheVariants.{Start, Cancel};
-ghost use Rattle.calls.specs.Pieces.{WriteDecided, TurnsWrite};
+ghost use Rattle.calls.specs.Pieces.{found_unclaimed, logged, WriteDecided, TurnsWrite};
 
 use records::{Answer, Change, Lock, Plan, Session, Turn};
 
@@ -40,8 +40,22 @@ pub fn take_abandon(log: &[u32], n: usize, x: Session) -> Turn
     }
 }
 
-// Read, hold and write have a function each, though a new cell is entered alike: what is told, marked or updated differs at both ends, and one function over these would take
-// three closures.
+// Read, hold and write enter a new cell by one function. What is told, marked or updated differs at both ends, so they have a function each: one over these would take three
+// closures.
+
+// A new cell entered: its value; or none, and no entry, where it is claimed.
+#[inline(always)]
+fn enter(values: &[u32], log: &mut [u32], x: Session, l: Lock, cell: u32) -> Option<u32>
+    requires { (length log.old ≡ 128) × (x.count < 32) × (cell < length values.now) }
+    ensures { (result ≡ found_unclaimed values.now l cell) × (log.new ≡ logged log.old x.count cell result) }
+{
+    if lock::is_claimed(l) {
+        return None;
+    }
+    let value = values[cell as usize];
+    session_log::append(log, x.count as usize, cell, value);
+    Some(value)
+}
 
 // Read: running only. 101 with a known cell's present value; a new cell is entered, or, where it is claimed, the session rolled back, 6.
 pub fn take_read(values: &[u32], log: &mut [u32], x: Session, l: Lock, cell: u32, p: Plan) -> Turn
@@ -53,12 +67,9 @@ pub fn take_read(values: &[u32], log: &mut [u32], x: Session, l: Lock, cell: u32
         Plan::Refuse(number) => return records::keeps(Answer::Refused(number), x),
         _ => {}
     }
-    if lock::is_claimed(l) {
+    let Some(value) = enter(values, log, x, l, cell) else {
         return records::rolled_back(x);
-    }
-    let count = x.count as usize;
-    let value = values[cell as usize];
-    session_log::append(log, count, cell, value);
+    };
     records::enters(Answer::Value(value), x, cell)
 }
 
@@ -75,13 +86,10 @@ pub fn take_hold(values: &[u32], log: &mut [u32], x: Session, l: Lock, cell: u32
         Plan::Refuse(number) => return records::keeps(Answer::Refused(number), x),
         _ => {}
     }
-    if lock::is_claimed(l) {
+    let Some(value) = enter(values, log, x, l, cell) else {
         return records::rolled_back(x);
-    }
-    let count = x.count as usize;
-    let value = values[cell as usize];
-    session_log::append(log, count, cell, value);
-    session_log::mark(log, count);
+    };
+    session_log::mark(log, x.count as usize);
     records::enters(Answer::Value(value), x, cell)
 }
 
@@ -106,13 +114,10 @@ pub fn take_write(
         Plan::Refuse(number) => return records::keeps(Answer::Refused(number), x),
         _ => {}
     }
-    if lock::is_claimed(l) {
+    let Some(_) = enter(values, log, x, l, cell) else {
         return records::rolled_back(x);
-    }
-    let count = x.count as usize;
-    let value = values[cell as usize];
-    session_log::append(log, count, cell, value);
-    session_log::update(log, count, written);
+    };
+    session_log::update(log, x.count as usize, written);
     records::enters(Answer::Done, x, cell)
 }
 

@@ -1,5 +1,5 @@
 -- Each return is the turn of what is decided with the lock.
-use Rattle.std.proofs.Common.{◌≡◌, ℕ, List, length, refl, sym, ◌∙◌, arith}
+use Rattle.std.proofs.Common.{◌≡◌, ℕ, List, length}
 use Rattle.model.specs.Buffers.{free, entry_at}
 use Rattle.model.specs.Plans.{read_plan}
 use Rattle.records.specs.declared.Session.{Session}
@@ -7,6 +7,7 @@ use Rattle.records.specs.declared.Lock.{Lock}
 use Rattle.records.specs.declared.Plan.{Plan}
 use Rattle.records.specs.declared.Plan.TheVariants.{Tell, Enter}
 use Rattle.calls.proofs.Choices.{Choice, read_choice, when_told, when_new}
+use Rattle.calls.proofs.Entering.{when_claimed, when_found}
 use Rattle.refusals.proofs.Turned.{turn_refused, turn_rolled_back}
 use Rattle.calls.proofs.Turning.{turn_told, turn_entered}
 use Rattle.calls.proofs.take_read.Goals as goal
@@ -26,22 +27,18 @@ returns-in-Refuse c =
     let a = c.args in
     turn_refused _ _ _ _ _ _ (when_told (chosen a.values.now a.log.now a.x a.l a.cell a.p c.requires.1) _ tt c.in-Refuse.is) c.keeps-in-Refuse.ensures
 
-pub returns-then-is_claimed : goal.returns-then-is_claimed
-returns-then-is_claimed c =
+pub returns-in_default-enter : goal.returns-in_default-enter
+returns-in_default-enter c =
     let a = c.args in
     let w = when_new (chosen a.values.now a.log.now a.x a.l a.cell a.p c.requires.1) (λ k. c.in_default.not-Tell _) (λ r. c.in_default.not-Refuse r) in
-    turn_rolled_back _ _ _ _ _ (rw (sym c.is_claimed.ensures ∙ c.if-is_claimed.true) at w.3) c.rolled_back.ensures
+    let d = c.in_default-enter.ensures in
+    rw d.1 (turn_rolled_back _ _ _ _ _ (rw (when_claimed _ _ _ d.0) at w.3) c.rolled_back.ensures)
 
-pub bounds-values-cell : goal.bounds-values-cell
-bounds-values-cell c =
-    let a = c.args in
-    (when_new (chosen a.values.now a.log.now a.x a.l a.cell a.p c.requires.1) (λ k. c.in_default.not-Tell _) (λ r. c.in_default.not-Refuse r)).0
-
-pub append-requires : goal.append-requires
-append-requires c =
+pub enter-requires : goal.enter-requires
+enter-requires c =
     let a = c.args in
     let w = when_new (chosen a.values.now a.log.now a.x a.l a.cell a.p c.requires.1) (λ k. c.in_default.not-Tell _) (λ r. c.in_default.not-Refuse r) in
-    omega (arith, w.1, c.requires.0)
+    (c.requires.0, w.1, w.0)
 
 pub enters-requires : goal.enters-requires
 enters-requires c =
@@ -52,4 +49,5 @@ pub returns : goal.returns
 returns c =
     let a = c.args in
     let w = when_new (chosen a.values.now a.log.now a.x a.l a.cell a.p c.requires.1) (λ k. c.in_default.not-Tell _) (λ r. c.in_default.not-Refuse r) in
-    turn_entered _ _ _ _ _ _ _ _ (rw (sym c.is_claimed.ensures ∙ c.if-is_claimed.false) at w.3) refl c.append.ensures c.enters.ensures
+    let f = when_found _ _ _ _ c.in-Some.ensures.0 in
+    turn_entered _ _ _ _ _ _ _ _ (rw f.0 at w.3) f.1 c.in-Some.ensures.1 c.enters.ensures

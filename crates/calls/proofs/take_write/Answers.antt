@@ -1,5 +1,5 @@
 -- Each return is the turn of what is decided with the lock.
-use Rattle.std.proofs.Common.{◌≡◌, ℕ, List, length, refl, sym, ◌∙◌, arith}
+use Rattle.std.proofs.Common.{◌≡◌, ℕ, List, length, arith}
 use Rattle.model.specs.Buffers.{free}
 use Rattle.model.specs.Plans.{write_plan}
 use Rattle.records.specs.declared.Session.{Session}
@@ -8,6 +8,7 @@ use Rattle.records.specs.declared.Plan.{Plan}
 use Rattle.records.specs.declared.Plan.TheVariants.{Update, EnterUpdate}
 use Rattle.calls.specs.Pieces.{WriteDecided}
 use Rattle.calls.proofs.Choices.{Choice, write_choice, when_told, when_new, when_updated}
+use Rattle.calls.proofs.Entering.{when_claimed, when_found}
 use Rattle.refusals.proofs.Turned.{turn_refused, turn_rolled_back}
 use Rattle.calls.proofs.Turning.{turn_updated, turn_enter_updated}
 use Rattle.calls.proofs.take_write.Goals as goal
@@ -39,29 +40,25 @@ returns-in-Refuse c =
     let a = c.args in
     λ T ks e. turn_refused _ _ _ _ _ _ (when_told (chosen_by a.values.now a.log.now a.x a.l a.cell a.written a.p T ks e) _ tt c.in-Refuse.is) c.keeps-in-Refuse.ensures
 
-pub returns-then-is_claimed : goal.returns-then-is_claimed
-returns-then-is_claimed c =
+pub returns-in_default-enter : goal.returns-in_default-enter
+returns-in_default-enter c =
     let a = c.args in
     λ T ks e.
     let w = when_new (chosen_by a.values.now a.log.now a.x a.l a.cell a.written a.p T ks e) (λ k. c.in_default.not-Update k _) (λ r. c.in_default.not-Refuse r) in
-    turn_rolled_back _ _ _ _ _ (rw (sym c.is_claimed.ensures ∙ c.if-is_claimed.true) at w.3) c.rolled_back.ensures
+    let d = c.in_default-enter.ensures in
+    rw d.1 (turn_rolled_back _ _ _ _ _ (rw (when_claimed _ _ _ d.0) at w.3) c.rolled_back.ensures)
 
-pub bounds-values-cell : goal.bounds-values-cell
-bounds-values-cell c =
-    let a = c.args in
-    (when_new (chosen a.values.now a.log.now a.x a.l a.cell a.written a.p c.requires.1) (λ k. c.in_default.not-Update k _) (λ r. c.in_default.not-Refuse r)).0
-
-pub append-requires : goal.append-requires
-append-requires c =
+pub enter-requires : goal.enter-requires
+enter-requires c =
     let a = c.args in
     let w = when_new (chosen a.values.now a.log.now a.x a.l a.cell a.written a.p c.requires.1) (λ k. c.in_default.not-Update k _) (λ r. c.in_default.not-Refuse r) in
-    omega (arith, w.1, c.requires.0)
+    (c.requires.0, w.1, w.0)
 
 pub update-requires-2 : goal.update-requires-2
 update-requires-2 c =
     let a = c.args in
     let w = when_new (chosen a.values.now a.log.now a.x a.l a.cell a.written a.p c.requires.1) (λ k. c.in_default.not-Update k _) (λ r. c.in_default.not-Refuse r) in
-    omega (arith, w.1, c.requires.0, c.append.auto.log)
+    omega (arith, w.1, c.requires.0, c.enter.auto.log)
 
 pub enters-requires : goal.enters-requires
 enters-requires c =
@@ -73,4 +70,5 @@ returns c =
     let a = c.args in
     λ T ks e.
     let w = when_new (chosen_by a.values.now a.log.now a.x a.l a.cell a.written a.p T ks e) (λ k. c.in_default.not-Update k _) (λ r. c.in_default.not-Refuse r) in
-    turn_enter_updated _ _ _ _ _ _ _ _ _ _ (rw (sym c.is_claimed.ensures ∙ c.if-is_claimed.false) at w.3) refl c.append.ensures c.update-2.ensures c.enters.ensures
+    let f = when_found _ _ _ _ c.in-Some.ensures.0 in
+    turn_enter_updated _ _ _ _ _ _ _ _ _ _ (rw f.0 at w.3) f.1 c.in-Some.ensures.1 c.update-2.ensures c.enters.ensures
