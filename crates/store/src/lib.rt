@@ -49,8 +49,8 @@ pub fn load_caps(
     }
 }
 
-// ---- the calls. Read and hold differ in what decides and what takes the turn: one function over both would be handed two closures, and say by what they answer what it
-// says now by the model's call.
+// ---- the calls. Read and hold differ in what decides and in what takes the turn: one function over both would be handed two closures, and its contract would have to
+// say of each what it answers; the contracts of read and hold say it by the model's call.
 
 // The end of read, hold, write, advance and abandon: the turn's change of the locks is carried out, its answer and record are handed back. (A seal is lent the readers
 // alone to change.)
