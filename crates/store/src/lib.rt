@@ -4,14 +4,16 @@
 // may change.
 #![tactic(auto)]
 
-ghost use Rattle.std.specs.Prelude.{◌≡◌};
+ghost use Rattle.std.specs.Prelude.{◌≡◌, ◌<◌, length};
 ghost use Rattle.records.specs.declared.Answer.TheVariants.{Refused};
 ghost use Rattle.records.specs.declared.Call.TheVariants.{Begin, Read, Write, Seal, Advance, Abandon, Hold};
-ghost use Rattle.contracts.specs.Lent.{TakesOne, TakesOneBy, Loads};
+ghost use Rattle.contracts.specs.Lent.{TakesOne, TakesOneBy, Loads, locks_of};
 ghost use Rattle.model.specs.Slices.{as_lent};
+ghost use Rattle.model.specs.Turns.{changed};
+ghost use Rattle.locks.specs.Changes.{ChangeFits};
 
 use locks::Locks;
-use records::{Answer, Refusal, Reply, Session, SessionReply, Sessions};
+use records::{Answer, Refusal, Reply, Session, SessionReply, Sessions, Turn};
 use refusals::Lengths;
 
 // ---- a table of caps
@@ -47,8 +49,32 @@ pub fn load_caps(
     }
 }
 
-// ---- the calls. Read and hold differ in what decides and what takes the turn: one function over both would be handed two closures, and say by what they answer what it
-// says now by the model's call.
+// ---- the calls. Read and hold differ in what decides and in what takes the turn: one function over both would be handed two closures, and its contract would have to
+// say of each what it answers; the contracts of read and hold say it by the model's call.
+
+// The end of read, hold, write, advance and abandon: the turn's change of the locks is carried out, its answer and record are handed back. (A seal is lent the readers
+// alone to change.)
+fn carry_out(
+    t: Turn,
+    readers: &mut [u16],
+    claimants: &mut [u8],
+    exclusives: &mut [u8],
+    log: &[u32],
+    count: usize,
+    session: u8,
+) -> SessionReply
+    requires { ((length claimants.old ≡ length readers.old) × (length exclusives.old ≡ length readers.old)) × ((session < 16) × ChangeFits t.change session log.now count (length readers.old)) }
+    ensures carried { locks_of readers.new claimants.new exclusives.new ≡ changed t.change log.now count session (locks_of readers.old claimants.old exclusives.old) }
+    ensures reply { result ≡ record { answer = t.answer; session = t.session } }
+{
+    let mut locks = Locks {
+        readers,
+        claimants,
+        exclusives,
+    };
+    locks::apply(&mut locks, t.change, log, count, session);
+    SessionReply::from(t)
+}
 
 // Begin: idle only. The session runs with no entry. 100.
 pub fn begin(
@@ -98,13 +124,15 @@ pub fn read(
     let l = locks::lock_for(readers, claimants, exclusives, p);
     let t = turns::read(values, logs, x, l, session, cell, p);
     let log = session_log::of_session(logs, session);
-    let mut locks = Locks {
+    carry_out(
+        t,
         readers,
         claimants,
         exclusives,
-    };
-    locks::apply(&mut locks, t.change, log, x.count as usize, session);
-    SessionReply::from(t)
+        log,
+        x.count as usize,
+        session,
+    )
 }
 
 // Hold: running only. As read, and with 101 the cell's entry is held: from the seal on the cell counts as written.
@@ -134,13 +162,15 @@ pub fn hold(
     let l = locks::lock_for(readers, claimants, exclusives, p);
     let t = turns::hold(values, logs, x, l, session, cell, p);
     let log = session_log::of_session(logs, session);
-    let mut locks = Locks {
+    carry_out(
+        t,
         readers,
         claimants,
         exclusives,
-    };
-    locks::apply(&mut locks, t.change, log, x.count as usize, session);
-    SessionReply::from(t)
+        log,
+        x.count as usize,
+        session,
+    )
 }
 
 // Write: running only. A new cell is locked and entered as by read; then the entry is updated. 100.
@@ -172,13 +202,15 @@ pub fn write(
     let l = locks::lock_for(readers, claimants, exclusives, p);
     let t = turns::write(values, logs, x, l, session, cell, value, p);
     let log = session_log::of_session(logs, session);
-    let mut locks = Locks {
+    carry_out(
+        t,
         readers,
         claimants,
         exclusives,
-    };
-    locks::apply(&mut locks, t.change, log, x.count as usize, session);
-    SessionReply::from(t)
+        log,
+        x.count as usize,
+        session,
+    )
 }
 
 // The same by a table, which need not pass.
@@ -215,13 +247,15 @@ pub fn write_with_caps(
     let l = locks::lock_for(readers, claimants, exclusives, p);
     let t = turns::write(values, logs, x, l, session, cell, value, p);
     let log = session_log::of_session(logs, session);
-    let mut locks = Locks {
+    carry_out(
+        t,
         readers,
         claimants,
         exclusives,
-    };
-    locks::apply(&mut locks, t.change, log, x.count as usize, session);
-    SessionReply::from(t)
+        log,
+        x.count as usize,
+        session,
+    )
 }
 
 // Seal: running only. The session leaves the readers of each cell entered that it does not publish. 105 where it publishes none, else 102.
@@ -269,13 +303,15 @@ pub fn advance(
     let cell = advance::due_cell(log, due);
     let l = locks::at(readers, claimants, exclusives, cell);
     let t = advance::take_advance(values, log, x, l, session, due);
-    let mut locks = Locks {
+    carry_out(
+        t,
         readers,
         claimants,
         exclusives,
-    };
-    locks::apply(&mut locks, t.change, log, x.count as usize, session);
-    SessionReply::from(t)
+        log,
+        x.count as usize,
+        session,
+    )
 }
 
 // Abandon: phases 1 and 2. The session is rolled back. 100.
@@ -297,11 +333,13 @@ pub fn abandon(
     }
     let log = session_log::of_session(logs, session);
     let t = calls::take_abandon(log, values.len(), x);
-    let mut locks = Locks {
+    carry_out(
+        t,
         readers,
         claimants,
         exclusives,
-    };
-    locks::apply(&mut locks, t.change, log, x.count as usize, session);
-    SessionReply::from(t)
+        log,
+        x.count as usize,
+        session,
+    )
 }

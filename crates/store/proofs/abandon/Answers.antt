@@ -26,21 +26,13 @@ take_abandon-t-requires c =
     let z = admitted_by B _ _ c.of-lengths.ensures c.in_default.ensures in
     log_fits _ _ z _ c.of_session-log.ensures
 
-pub invariant_of-locks : goal.invariant_of-locks
-invariant_of-locks c =
-    let a = c.args in
-    let B = buffers_of a.values.now a.classes.now a.readers.now a.claimants.now a.exclusives.now a.logs.now in
-    let z = admitted_by B _ _ c.of-lengths.ensures c.in_default.ensures in
-    let e = even _ _ z in
-    record { claimant_each = e.0; exclusive_each = e.1 }
-
-pub apply-requires : goal.apply-requires
+pub carry_out-requires : goal.carry_out-requires
 unfolding plan
-apply-requires c =
+carry_out-requires c =
     let a = c.args in
     let B = buffers_of a.values.now a.classes.now a.readers.now a.claimants.now a.exclusives.now a.logs.now in
     let z = admitted_by B _ _ c.of-lengths.ensures c.in_default.ensures in
-    kept_carry (Abandon _) B _ _ refl z _ c.of_session-log.ensures _ refl _ _ (c.take_abandon-t.ensures a.values.now)
+    (even _ _ z, kept_carry (Abandon _) B _ _ refl z _ c.of_session-log.ensures _ refl _ _ (c.take_abandon-t.ensures a.values.now))
 
 pub returns : goal.returns
 unfolding plan
@@ -48,5 +40,5 @@ returns c =
     let a = c.args in
     let B = buffers_of a.values.now a.classes.now a.readers.now a.claimants.now a.exclusives.now a.logs.now in
     let z = admitted_by B _ _ c.of-lengths.ensures c.in_default.ensures in
-    let h = kept_replies (Abandon _) B _ _ refl z _ c.of_session-log.ensures _ refl _ _ (c.take_abandon-t.ensures a.values.now) _ c.apply.ensures.carried _ c.from.ensures in
+    let h = kept_replies (Abandon _) B _ _ refl z _ c.of_session-log.ensures _ refl _ _ (c.take_abandon-t.ensures a.values.now) _ c.carry_out.ensures.carried _ c.carry_out.ensures.reply in
     search (rules, h)

@@ -41,21 +41,13 @@ take_advance-t-requires c =
     let w = log_fits _ _ z _ c.of_session-log.ensures in
     (w.0, w.1, z.low, c.due_slot-due.ensures)
 
-pub invariant_of-locks : goal.invariant_of-locks
-invariant_of-locks c =
-    let a = c.args in
-    let B = buffers_of a.values.now a.classes.now a.readers.now a.claimants.now a.exclusives.now a.logs.now in
-    let z = admitted_by B _ _ c.of-lengths.ensures c.in_default.ensures in
-    let e = even _ _ z in
-    record { claimant_each = e.0; exclusive_each = e.1 }
-
-pub apply-requires : goal.apply-requires
-apply-requires c =
+pub carry_out-requires : goal.carry_out-requires
+carry_out-requires c =
     let a = c.args in
     let B = buffers_of a.values.now a.classes.now a.readers.now a.claimants.now a.exclusives.now a.logs.now in
     let z = admitted_by B _ _ c.of-lengths.ensures c.in_default.ensures in
     let e = advance_planned _ _ _ _ _ B.locks _ _ _ c.due_slot-due.ensures c.due_cell-cell.ensures c.at-l.ensures in
-    kept_carry (Advance _) B _ _ refl z _ c.of_session-log.ensures _ e _ _ c.take_advance-t.ensures
+    (even _ _ z, kept_carry (Advance _) B _ _ refl z _ c.of_session-log.ensures _ e _ _ c.take_advance-t.ensures)
 
 pub returns : goal.returns
 returns c =
@@ -63,5 +55,5 @@ returns c =
     let B = buffers_of a.values.now a.classes.now a.readers.now a.claimants.now a.exclusives.now a.logs.now in
     let z = admitted_by B _ _ c.of-lengths.ensures c.in_default.ensures in
     let e = advance_planned _ _ _ _ _ B.locks _ _ _ c.due_slot-due.ensures c.due_cell-cell.ensures c.at-l.ensures in
-    let h = kept_replies (Advance _) B _ _ refl z _ c.of_session-log.ensures _ e _ _ c.take_advance-t.ensures _ c.apply.ensures.carried _ c.from.ensures in
+    let h = kept_replies (Advance _) B _ _ refl z _ c.of_session-log.ensures _ e _ _ c.take_advance-t.ensures _ c.carry_out.ensures.carried _ c.carry_out.ensures.reply in
     search (rules, h)

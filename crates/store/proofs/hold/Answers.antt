@@ -40,22 +40,14 @@ of_session-log-requires c =
     let z = admitted_by B _ _ c.of-lengths.ensures c.in_default.ensures in
     (z.low, c.hold-t.auto.logs ∙ z.lengths.logs)
 
-pub invariant_of-locks : goal.invariant_of-locks
-invariant_of-locks c =
-    let a = c.args in
-    let B = buffers_of a.values.now a.classes.now a.readers.now a.claimants.now a.exclusives.now a.logs.now in
-    let z = admitted_by B _ _ c.of-lengths.ensures c.in_default.ensures in
-    let e = even _ _ z in
-    record { claimant_each = e.0; exclusive_each = e.1 }
-
-pub apply-requires : goal.apply-requires
+pub carry_out-requires : goal.carry_out-requires
 unfolding plan
-apply-requires c =
+carry_out-requires c =
     let a = c.args in
     let B = buffers_of a.values.now a.classes.now a.readers.now a.claimants.now a.exclusives.now a.logs.now in
     let z = admitted_by B _ _ c.of-lengths.ensures c.in_default.ensures in
     let d = hold_planned _ _ _ _ B.locks _ _ (rw c.of_session.ensures at c.hold_plan-p.ensures) c.lock_for-l.ensures in
-    can_carry (Hold _ _) B _ _ refl z _ d _ _ _ c.hold-t.ensures _ c.of_session-log.ensures
+    (even _ _ z, can_carry (Hold _ _) B _ _ refl z _ d _ _ _ c.hold-t.ensures _ c.of_session-log.ensures)
 
 pub returns : goal.returns
 unfolding plan
@@ -64,5 +56,5 @@ returns c =
     let B = buffers_of a.values.now a.classes.now a.readers.now a.claimants.now a.exclusives.now a.logs.now in
     let z = admitted_by B _ _ c.of-lengths.ensures c.in_default.ensures in
     let d = hold_planned _ _ _ _ B.locks _ _ (rw c.of_session.ensures at c.hold_plan-p.ensures) c.lock_for-l.ensures in
-    let h = replies (Hold _ _) B _ _ refl z _ d _ _ _ c.hold-t.ensures _ c.of_session-log.ensures _ c.apply.ensures.carried _ c.from.ensures in
+    let h = replies (Hold _ _) B _ _ refl z _ d _ _ _ c.hold-t.ensures _ c.of_session-log.ensures _ c.carry_out.ensures.carried _ c.carry_out.ensures.reply in
     search (rules, h)

@@ -41,24 +41,16 @@ of_session-log-requires c =
     let z = admitted_by B _ _ c.of-lengths.ensures c.in_default.ensures in
     (z.low, c.write-t.auto.logs ∙ z.lengths.logs)
 
-pub invariant_of-locks : goal.invariant_of-locks
-invariant_of-locks c =
-    let a = c.args in
-    let B = buffers_of a.values.now a.classes.now a.readers.now a.claimants.now a.exclusives.now a.logs.now in
-    let z = admitted_by B _ _ c.of-lengths.ensures c.in_default.ensures in
-    let e = even _ _ z in
-    record { claimant_each = e.0; exclusive_each = e.1 }
-
-pub apply-requires : goal.apply-requires
+pub carry_out-requires : goal.carry_out-requires
 unfolding plan
-apply-requires c =
+carry_out-requires c =
     let a = c.args in
     let B = buffers_of a.values.now a.classes.now a.readers.now a.claimants.now a.exclusives.now a.logs.now in
     let z = admitted_by B _ _ c.of-lengths.ensures c.in_default.ensures in
     let p = rw (c.of_session.ensures, z.lengths.classes) at c.write_plan-p.ensures in
     let d = write_planned _ _ _ _ B.locks _ our_caps a.classes.now a.value _ p c.lock_for-l.ensures in
     let h = c.write-t.ensures our_caps a.classes.now p in
-    can_carry (Write _ _ a.value) B _ _ refl z _ d _ _ _ h _ c.of_session-log.ensures
+    (even _ _ z, can_carry (Write _ _ a.value) B _ _ refl z _ d _ _ _ h _ c.of_session-log.ensures)
 
 pub returns : goal.returns
 unfolding plan
@@ -69,5 +61,5 @@ returns c =
     let p = rw (c.of_session.ensures, z.lengths.classes) at c.write_plan-p.ensures in
     let d = write_planned _ _ _ _ B.locks _ our_caps a.classes.now a.value _ p c.lock_for-l.ensures in
     let h = c.write-t.ensures our_caps a.classes.now p in
-    let h = replies (Write _ _ a.value) B _ _ refl z _ d _ _ _ h _ c.of_session-log.ensures _ c.apply.ensures.carried _ c.from.ensures in
+    let h = replies (Write _ _ a.value) B _ _ refl z _ d _ _ _ h _ c.of_session-log.ensures _ c.carry_out.ensures.carried _ c.carry_out.ensures.reply in
     search (rules, h)
