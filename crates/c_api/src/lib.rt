@@ -1,4 +1,5 @@
 // The calls for C: the fields, and each call of the store with the record of its session passed in and handed back by value, the answer as two numbers beside it; many reads; and a load of caps.
+// The six slices are parameters, as C lends them: by `&` or `&mut` each shows what the call may change.
 #![tactic(auto)]
 
 mod fields;

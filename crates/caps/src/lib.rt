@@ -27,7 +27,7 @@ fn fits(caps: &[u32], class: u8, value: u32) -> bool
     class < 16 && value <= caps[class as usize]
 }
 
-// Each class byte at most 15, and each value within the cap of its class in a table. The classes go by index: over a zip the loop is ten instructions a cell, and not nine.
+// Each class byte at most 15, and each value within the cap of its class in a table. The classes go by index: over a zip the loop takes one instruction a cell more.
 #[tactic(auto, using(crate::proofs::Caps::fit_stops, crate::proofs::Caps::fit_goes_on, crate::proofs::Caps::fit_ends))]
 #[inline(never)]
 pub fn all_fit(caps: &[u32], values: &[u32], classes: &[u8]) -> bool

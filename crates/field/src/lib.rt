@@ -63,7 +63,7 @@ pub enum Refusal {
 }
 
 impl Refusal {
-    // Document 01's number.
+    // Document 01's number. (No `From`: it has one name with the numbers of the calls' refusals and answers.)
     pub fn number(self) -> u8
         ensures { result ≡ number_of self }
     {

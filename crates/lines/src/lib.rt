@@ -1,4 +1,5 @@
-// The replay's output (document 01, "Call fields"): its lines. Each writer puts a text behind what stands on the page.
+// The replay's output (document 01, "Call fields"): its lines. Each writer puts a text behind what stands on the page: it needs no heap, as the page is
+// lent. (No `write!`, which would need a type of its own that says what it wrote.)
 #![tactic(auto)]
 
 ghost use Rattle.std.specs.Prelude.{◌≡◌, ◌∷◌, [], ◌++◌, ◌+◌, ◌*◌, ◌≤◌, ◌<◌, length};

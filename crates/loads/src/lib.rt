@@ -74,7 +74,7 @@ fn judge_table(
 }
 
 // The table in the place of the one in force, of locks and logs of these lengths: refused by 7, 2, 16, 8 or 17 with the old table as it was. (Four lengths and no `Lengths`:
-// one whose values or classes are not as many as the slices' could not be told from a mistake.)
+// `LoadsCaps` is of any lengths, and a `Lengths` would ask that two of its six are those of the slices.)
 pub fn load_caps(
     sessions: Sessions,
     values: &[u32],

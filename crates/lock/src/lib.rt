@@ -43,7 +43,7 @@ pub fn others(readers: u16, session: u8) -> u32
     with_reader(readers, session).count_ones() - 1
 }
 
-// ---- a lock
+// ---- a lock. `joined` and `left` have one shape and a function each: one over how the set changes would take a closure.
 
 // No readers, nobody claimant, no mark.
 pub fn empty() -> Lock

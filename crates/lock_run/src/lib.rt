@@ -14,7 +14,7 @@ pub fn lock_at(locks: &[Lock], cell: usize) -> Lock
     locks.get(cell).copied().unwrap_or(lock::empty())
 }
 
-// One lock changed; past the last cell nothing is. (By index: over `get_mut` the check leaves both ways open, and so none.)
+// One lock changed; past the last cell nothing is. (By index: over `get_mut` the proof does not close.)
 fn change_at(locks: &mut [Lock], cell: usize, change: Change)
     requires { SessionFits change }
     ensures { locks.new ≡ changed_at change cell locks.old }

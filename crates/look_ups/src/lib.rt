@@ -8,7 +8,7 @@ ghost use Rattle.model.specs.Buffers.{cell_at, slot_in};
 ghost use Rattle.session_log.specs.Slots.{found};
 ghost use Rattle.look_ups.specs.First.{IsFirst};
 
-// The first place below count of which the test holds. By `(0..count).find(test)` a round takes seven instructions in place of six.
+// The first place below count of which the test holds. By `(0..count).find(test)` a round takes one instruction more.
 #[tactic(auto, unfolding(crate::specs::First::IsFirst))]
 fn first<F: Fn(usize) -> bool>(count: usize, test: F) -> Option<usize>
     requires { (k : ℕ) → k < count → F.pre test k }
@@ -22,8 +22,7 @@ fn first<F: Fn(usize) -> bool>(count: usize, test: F) -> Option<usize>
     None
 }
 
-// The same by fours: the first count mod 4 places are tried one by one, the others four in a round. In a full log the read of a known cell so takes 226 instructions
-// in place of 322 (docs/decisions/store.md).
+// The same by fours: the first count mod 4 places are tried one by one, the others four in a round. So a search takes about a third less in a full log.
 #[tactic(auto, unfolding(crate::specs::First::IsFirst))]
 fn first_by_fours<F: Fn(usize) -> bool>(count: usize, test: F) -> Option<usize>
     requires { (k : ℕ) → k < count → F.pre test k }

@@ -1,4 +1,5 @@
-// Many reads in one call (document 02, Paper 1), on number slices that the caller lends.
+// Many reads in one call (document 02, Paper 1), on number slices that the caller lends. The six slices are parameters, as C lends them: by `&` or `&mut` each shows what
+// the call may change.
 #![tactic(auto)]
 
 ghost use Rattle.std.specs.Prelude.{◌≡◌, length, eqb};
@@ -46,7 +47,7 @@ fn refused(refusal: Refusal, session: Session) -> ReadManyReply
 
 // ---- after the last
 
-// 101 where each cell was read, else the number of the refusal.
+// 101 where each cell was read, else the number of the refusal. (No `From`: `u32` and `Result` are of other crates.)
 fn number(ended: Result<(), Refusal>) -> u32
     ensures { result ≡ number_of ended }
 {

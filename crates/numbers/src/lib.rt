@@ -25,7 +25,7 @@ pub struct SetUpReply {
     pub sessions: Sessions,
 }
 
-// An answer in numbers.
+// An answer in numbers. (Two `From` of one shape: the two structs are the C interface.)
 impl From<SessionReply> for NumberReply {
     ghost from_gives = { λ r reply. reply ≡ numbers_of r };
 
@@ -51,7 +51,7 @@ impl From<Reply> for SetUpReply {
     }
 }
 
-// The same for begin, and below for read and seal, each by the answers that it gives: one test or two in place of a jump by the tag.
+// The answer of begin in numbers, and below those of read and seal, each by the answers that it gives: one test or two in place of a jump by the tag.
 pub fn begin_in_numbers(r: SessionReply) -> NumberReply
     requires { of_begin r.answer ≡ true }
     ensures { result ≡ numbers_of r }

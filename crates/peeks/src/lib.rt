@@ -1,4 +1,5 @@
 // A peek on number slices that the caller lends (document 01, "The steps"): what it decides, the part that it hands back, and its number.
+// The six slices are parameters, as C lends them: by `&` or `&mut` each shows what the call may change.
 #![tactic(auto)]
 
 ghost use Rattle.records.specs.declared.Call.TheVariants.{Peek};

@@ -21,7 +21,7 @@ fn new_cell(x: Session, p: Plan) -> Plan
     p
 }
 
-// Read: a cell in the log gives its present value; otherwise it is to be entered.
+// Read: a cell in the log gives its present value; otherwise it is to be entered. (No `?`, here and below: a `Plan` is no `Result`, and each would be two functions.)
 pub fn read_plan(log: &[u32], n: usize, x: Session, cell: u32) -> Plan
     requires { (length log.now ≡ 128) × (n ≤ 1024) }
     ensures { result ≡ read_plan n log.now x free cell }

@@ -98,7 +98,7 @@ pub enum Refusal {
 }
 
 impl Refusal {
-    // Document 01's number.
+    // Document 01's number. (No `From`: it stands beside `Answer::number` under one name.)
     pub fn number(self) -> u8
         ensures { result ≡ refusal_number self }
     {
@@ -137,7 +137,7 @@ impl From<Refusal> for Plan {
 }
 
 impl Answer {
-    // Document 01's number.
+    // Document 01's number. (No `From`, here and for `value`: public functions by these names, which theorems and documents cite.)
     pub fn number(self) -> u8
         ensures { result ≡ number self }
     {
@@ -152,7 +152,7 @@ impl Answer {
         }
     }
 
-    // The value: 0 except with 101 and 104.
+    // The value: 0 except with 101 and 104. (A function by this name, as `number` is.)
     pub fn value(self) -> u32
         ensures { result ≡ value_of self }
     {
@@ -168,7 +168,8 @@ impl Answer {
     }
 }
 
-// What a call decides before it changes anything; `plan_effect` in model/specs/Effects.antt says what each answers and leaves.
+// What a call decides before it changes anything; `plan_effect` in model/specs/Effects.antt says what each answers and leaves. An enum that the turn takes apart: a
+// closure in its place would be handed out, which is refused.
 #[derive(Clone, Copy)]
 pub enum Plan {
     // the number of a refusal, as `plan_effect` has it
@@ -271,8 +272,15 @@ pub struct Reply {
     pub sessions: Sessions,
 }
 
+// Idle: no entry.
+const IDLE: Session = Session {
+    phase: 0,
+    count: 0,
+    next: 0,
+};
+
 impl Session {
-    // Begin: running, with no entry.
+    // Begin: running, with no entry. (Of one shape with `lock::empty`: no plainer as one function, which would take the record.)
     pub fn begun(self) -> Session
         ensures { result ≡ running }
     {
@@ -287,11 +295,7 @@ impl Session {
     pub fn idled(self) -> Session
         ensures { result ≡ idle }
     {
-        Session {
-            phase: 0,
-            count: 0,
-            next: 0,
-        }
+        IDLE
     }
 
     // One entry more.
@@ -347,12 +351,9 @@ impl Session {
 pub fn all_idle() -> Sessions
     ensures { result ≡ record { records = replicate 16 idle } }
 {
-    let records = [Session {
-        phase: 0,
-        count: 0,
-        next: 0,
-    }; 16];
-    Sessions { records }
+    Sessions {
+        records: [IDLE; 16],
+    }
 }
 
 // ---- how a turn ends

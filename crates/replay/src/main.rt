@@ -10,7 +10,8 @@ ghost use Rattle.replay_text.specs.Transcript.{transcript};
 use std::io;
 use std::io::{Read, Write};
 
-// Reads until `bytes` is full or the input ends, and answers how many bytes it put at the front.
+// Reads until `bytes` is full or the input ends, and answers how many bytes it put at the front. (A `while`: it counts no index, and reads until the
+// input ends.)
 fn read_full<R: Read>(from: &mut R, bytes: &mut [u8]) -> io::Result<usize>
     ensures inside { ReadsAtMost result bytes.new }
     ensures taken { IfOk result (λ n. Consumes (R.remaining from.old) (R.remaining from.new) (take n bytes.new)) }

@@ -1,4 +1,5 @@
-// Set-up, on number slices that the caller lends (document 01, "What the caller lends"), by our caps and by a table.
+// Set-up, on number slices that the caller lends (document 01, "What the caller lends"), by our caps and by a table. The six slices are parameters, as C
+// lends them: by `&` or `&mut` each shows what the call may change.
 #![tactic(auto)]
 
 ghost use Rattle.std.specs.Prelude.{◌≡◌, length, replicate};
@@ -18,8 +19,8 @@ fn empty(readers: &mut [u16], claimants: &mut [u8], exclusives: &mut [u8], logs:
     logs.fill(0);
 }
 
-// Set-up by a table: all sessions idle, all locks empty, all log words 0. 100, 7, 16 or 8. It is not inlined: before a call on sixteen records that is, the compiler
-// would keep these as 48 numbers.
+// Set-up by a table: all sessions idle, all locks empty, all log words 0. 100, 7, 16 or 8. It is not inlined: inlined before a call that takes the sixteen
+// records, the compiler would keep these as 48 numbers.
 #[inline(never)]
 pub fn set_up_with_caps(
     sessions: Sessions,

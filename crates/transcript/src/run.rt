@@ -1,4 +1,4 @@
-// The cells, set-up, and the calls.
+// The cells, set-up, and the calls. The six slices are parameters, as the calls that are replayed take them.
 ghost use Rattle.std.specs.Prelude.{◌≡◌, ◌≤◌, length};
 ghost use Rattle.model.specs.Buffers.{ours};
 ghost use Rattle.model.specs.Slices.{as_lent};
@@ -25,8 +25,7 @@ fn call_of(next: Result<Option<Next>, Refused>) -> Option<(Call, usize)>
     }
 }
 
-// The calls from a place on, each with its line, then the line of what ends them and the cells. The six slices of the store stand apart: so `lists::step` and
-// `set_up::set_up` take them.
+// The calls from a place on, each with its line, then the line of what ends them and the cells.
 fn run_calls(
     input: &[u8],
     mut place: usize,
