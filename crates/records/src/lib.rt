@@ -33,7 +33,7 @@ pub struct Lock {
     pub exclusive: u8,
 }
 
-// A call on the store.
+// A call on the store. The session is a byte, as C and a field hand it: one above 15 is refused by 1.
 #[derive(Clone, Copy)]
 pub enum Call {
     Begin(u8),

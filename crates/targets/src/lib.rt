@@ -104,7 +104,7 @@ fn lowest_two(log: &[u32], count: usize, n: u32, from: u32) -> Two
     }
 }
 
-// The entry that an advance handles, and whether another cell that publishes is left above its cell.
+// The entry that an advance handles, and whether another cell that publishes is left above its cell: a fact of its own, which says nothing of the entry.
 #[derive(Clone, Copy)]
 pub struct Next {
     pub slot: usize,
