@@ -1,19 +1,23 @@
 -- Set-up: whatever stands in the locks, logs and records that are handed to it, it answers and leaves what the text takes; and the whole answer from there.
 use Prim.Native.Nat.{ℕ, ◌+◌, ◌≤◌, ◌<◌}
 use native.Mathlib.Omega.{arith}
-use mathlib.Core.Path.{◌≡◌, refl, sym, ◌∙◌, ap}
+use mathlib.Core.Path.{◌≡◌, refl, sym, ◌∙◌, ap, subst}
+use mathlib.Core.Bool.{Bool, true, false, ◌&&◌}
 use mathlib.Core.List.{List, ◌++◌}
 use lib.ListN.{length, take, drop, length-replicate}
 use lib.Seq.{sets, sets-eq, length-take-le}
 use borrow.Author.Tests.{le-leb, lt-leb, eq-eqb, ne_eqb}
+use Rattle.model.proofs.Tools.{clash}
 use Rattle.records.specs.declared.Answer.{Answer}
+use Rattle.records.specs.declared.Answer.TheVariants.{Done, Refused}
 use Rattle.records.specs.declared.Sessions.{Sessions}
-use Rattle.model.specs.Buffers.{Store, ours, size, lengths_fit, fresh}
+use Rattle.model.specs.Buffers.{Store, ours, size, lengths_fit, fresh, has_caps, passes, all_fit}
 use Rattle.model.specs.Effects.{number}
+use Rattle.model.specs.Plans.{require}
 use Rattle.model.specs.Step.{Outcome, outcome, set_up_refusal, set_up_answer, set_up, set_up_effect}
 use Rattle.model.proofs.Demand3.{set_up_fresh}
 use Rattle.contracts.specs.Lent.{store_of}
-use Rattle.std.specs.Prelude.{Some, None}
+use Rattle.std.specs.Prelude.{Some, None, eqb}
 use Rattle.items.specs.Items.{Item}
 use Rattle.replay_text.specs.Lines.{set_up_line}
 use Rattle.transcript.specs.Replay.{replayed, replaying}
@@ -22,6 +26,22 @@ use Rattle.lines.specs.Output.{Out, out, put, held}
 use Rattle.transcript.specs.Output.{Fitted}
 use Rattle.replay_text.specs.Transcript.{given, calls_text, after_set_up, set_up_text, transcript}
 use Rattle.lines.proofs.Puts.{ends_at}
+
+-- ---- set-up's answer: 100, or a refusal by another number
+
+data DoneOrRefused : Answer → Type 0 where
+  done : DoneOrRefused Done
+  not_done : (r : ℕ) → (r ≡ 100 → ⊥) → DoneOrRefused (Refused r)
+
+tests_answer : (x y z : Bool) → let r : ℕ = require x 7 (require y 16 (require z 8 0)) in DoneOrRefused (require (eqb r 0) (Refused r) Done)
+tests_answer false y z = not_done 7 (λ h. omega arith)
+tests_answer true false z = not_done 16 (λ h. omega arith)
+tests_answer true true false = not_done 8 (λ h. omega arith)
+tests_answer true true true = done
+
+by_answer : {P : Type 0} {a : Answer} → DoneOrRefused a → (a ≡ Done → P) → ((r : ℕ) → a ≡ Refused r → (r ≡ 100 → ⊥) → P) → P
+by_answer done f g = f refl
+by_answer (not_done r h) f g = g r refl h
 
 -- ---- set-up on lent buffers
 
@@ -42,6 +62,21 @@ module _ (vs ks readers claimants exclusives logs : List ℕ) (ss : Sessions) (f
     said : a ≡ set_up_answer (given vs ks)
     unfolding set_up_effect
     said = ap (λ (r : Outcome). r.answer) e ∙ same_answer
+
+    -- set-up answers one or the other
+    done_or_refused : DoneOrRefused a
+    unfolding set_up_answer set_up_refusal
+    done_or_refused =
+        let σ = given vs ks in
+        subst DoneOrRefused (sym said)
+        (tests_answer (has_caps σ.limits.caps && lengths_fit σ.lent) (passes σ.limits.caps) (all_fit σ.limits.caps σ.lent.values σ.lent.classes))
+
+    -- what a test for `Done` says of the number
+    pub other : {b : Bool} → b ≡ true → (a ≡ Done → b ≡ false) → number a ≡ 100 → ⊥
+    other t d h = by_answer done_or_refused (λ k. clash _ t (d k)) (λ r k n. n (sym (ap number k) ∙ h))
+
+    pub is_100 : {b : Bool} → b ≡ false → ((r : ℕ) → a ≡ Refused r → b ≡ true) → number a ≡ 100
+    is_100 t d = by_answer done_or_refused (λ k. ap number k) (λ r k n. absurd (clash _ (d r k) t))
 
     left : number a ≡ 100 → φ ≡ set_up (given vs ks)
     unfolding set_up_effect given set_up

@@ -10,7 +10,7 @@ ghost use Rattle.replay_text.specs.Transcript.{transcript};
 use field::Refused;
 use items::{Next, next_at, read_cells};
 use lines::Page;
-use records::{Call, Refusal, Sessions};
+use records::{Answer, Call, Refusal, Sessions};
 
 // The call that stands at a place, with its field's length; none where something else stands, or nothing.
 #[tactic(auto, unfolding(crate::specs::Output::call_of))]
@@ -86,9 +86,8 @@ fn set_up_and_run(
         exclusives,
         logs,
     );
-    let n = reply.answer.number();
-    if n != 100 {
-        page.set_up(n);
+    if reply.answer != Answer::Done {
+        page.set_up(reply.answer.number());
         return;
     }
     run_calls(
