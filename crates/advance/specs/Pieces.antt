@@ -28,12 +28,12 @@ due_on n log x =
     require (entries_fit n log x) (Err DamagedRecord)
     (require (leb 2 x.phase) (Err WrongPhase) (due_at log x.count (target_slot log x.count x.next)))
 
--- its cell, and that it is one of 32 entries
-unfoldable pub due_cell : List ℕ → Result Next Refusal → ℕ
+-- its cell, 0 where there is none whatever a refusal is, and that it is one of 32 entries
+unfoldable pub due_cell : {R : Type 0} → List ℕ → Result Next R → ℕ
 due_cell log (Err r) = 0
 due_cell log (Ok d) = cell_at log d.slot
 
-unfoldable pub DueFits : Result Next Refusal → Type 0
+unfoldable pub DueFits : {R : Type 0} → Result Next R → Type 0
 DueFits (Err r) = Unit
 DueFits (Ok d) = d.slot < 32
 

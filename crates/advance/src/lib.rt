@@ -25,9 +25,9 @@ pub fn due_slot(log: &[u32], n: usize, x: Session) -> Result<Next, Refusal>
     targets::next_two(log, x.count as usize, n as u32, x.next as u32).ok_or(Refusal::DamagedRecord)
 }
 
-// The cell of the entry that is due; 0 where the advance is refused, as in the definition: of that cell's lock the turn then reads nothing.
+// The cell of the entry that is due; 0 where the advance is refused, by whatever number, as in the definition: of that cell's lock the turn then reads nothing.
 #[tactic(auto, unfolding(crate::specs::Pieces::due_cell, crate::specs::Pieces::DueFits))]
-pub fn due_cell(log: &[u32], due: Result<Next, Refusal>) -> u32
+pub fn due_cell<R: Copy>(log: &[u32], due: Result<Next, R>) -> u32
     requires { (length log.now ≡ 128) × (DueFits due) }
     ensures { result ≡ due_cell log.now due }
 {

@@ -1,6 +1,6 @@
 -- That the stores of a change of one cell are that change, and that the three parts of a change together are the change.
 use Prim.Native.Nat.{ℕ}
-use mathlib.Core.List.{List, []}
+use mathlib.Core.List.{List}
 use mathlib.Core.Path.{◌≡◌, refl}
 use lib.ListN.{get_or, set}
 use lib.Seq.{set-get_or}
@@ -10,14 +10,13 @@ use Rattle.model.specs.Turns.{changed}
 use Rattle.records.specs.declared.Change.{Change}
 use Rattle.records.specs.declared.Change.TheVariants.{Keep, Join, Claim, Acquire, Vacate, Withdraw, DropReads}
 use Rattle.contracts.specs.Lent.{locks_of}
-use Rattle.locks.specs.Changes.{one_of, withdraw_of, drop_of}
+use Rattle.locks.specs.Changes.{one_of, withdraw_of, drop_of, in_parts}
 
 -- ---- the three parts of a change
 
 -- one after the other they carry the change out
-pub in_three : (d : Change) (log : List ℕ) (m s : ℕ) (L : Locks)
-    → changed (drop_of d) log m s (changed (withdraw_of d) log m s (changed (one_of d) [] 0 s L)) ≡ changed d log m s L
-unfolding changed one_of withdraw_of drop_of
+pub in_three : (d : Change) (log : List ℕ) (m s : ℕ) (L : Locks) → in_parts d log m s L ≡ changed d log m s L
+unfolding in_parts changed one_of withdraw_of drop_of
 in_three Keep log m s L = refl
 in_three (Join c) log m s L = refl
 in_three (Claim c) log m s L = refl

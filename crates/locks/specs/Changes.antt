@@ -1,5 +1,5 @@
 -- A change of the locks on three lent slices.
-use Rattle.std.specs.Prelude.{◌≡◌, ℕ, ◌≤◌, ◌<◌, List, length}
+use Rattle.std.specs.Prelude.{◌≡◌, ℕ, ◌≤◌, ◌<◌, List, [], length}
 use Rattle.model.specs.Buffers.{Locks, lock_at}
 use Rattle.model.specs.Turns.{changed}
 use Rattle.records.specs.declared.Lock.{Lock}
@@ -26,7 +26,7 @@ ChangeFits (Vacate c) s log m n = c < n
 ChangeFits Withdraw s log m n = Swept s log m n
 ChangeFits DropReads s log m n = Swept s log m n × (n ≤ 1024)
 
--- the parts of a change: of one cell, of rolling back, of sealing; `in_three` in proofs/Changes.antt says that they make it up
+-- the parts of a change: of one cell, of rolling back, of sealing
 unfoldable pub one_of : Change → Change
 one_of Keep = Keep
 one_of (Join c) = Join c
@@ -53,6 +53,10 @@ drop_of (Acquire c) = Keep
 drop_of (Vacate c) = Keep
 drop_of Withdraw = Keep
 drop_of DropReads = DropReads
+
+-- a change by its parts, one after the other; `in_three` in proofs/Changes.antt says that they make it up
+unfoldable pub in_parts : Change → List ℕ → ℕ → ℕ → Locks → Locks
+in_parts d log m s L = changed (drop_of d) log m s (changed (withdraw_of d) log m s (changed (one_of d) [] 0 s L))
 
 -- what its sealing leaves of the reader sets
 abbrev pub DropsIf : Change → List ℕ → ℕ → ℕ → List ℕ → List ℕ → Type 0

@@ -4,16 +4,15 @@
 // may change.
 #![tactic(auto)]
 
-ghost use Rattle.std.specs.Prelude.{◌≡◌, ◌<◌, length};
-ghost use Rattle.records.specs.declared.Answer.TheVariants.{Refused};
-ghost use Rattle.records.specs.declared.Call.TheVariants.{Begin, Read, Write, Seal, Advance, Abandon, Hold};
-ghost use Rattle.contracts.specs.Lent.{TakesOne, TakesOneBy, Loads, locks_of};
-ghost use Rattle.model.specs.Slices.{as_lent};
-ghost use Rattle.model.specs.Turns.{changed};
-ghost use Rattle.locks.specs.Changes.{ChangeFits};
+mod ends;
 
-use locks::Locks;
-use records::{Answer, Refusal, Reply, Session, SessionReply, Sessions, Turn};
+ghost use Rattle.std.specs.Prelude.{◌≡◌};
+ghost use Rattle.records.specs.declared.Call.TheVariants.{Begin, Read, Write, Seal, Advance, Abandon, Hold};
+ghost use Rattle.contracts.specs.Lent.{TakesOne, TakesOneBy, Loads};
+ghost use Rattle.model.specs.Slices.{as_lent};
+
+use ends::carry_out;
+use records::{Answer, Refusal, Reply, Session, SessionReply, Sessions};
 use refusals::Lengths;
 
 // ---- a table of caps
@@ -50,31 +49,7 @@ pub fn load_caps(
 }
 
 // ---- the calls. Read and hold differ in what decides and in what takes the turn: one function over both would be handed two closures, and its contract would have to
-// say of each what it answers; the contracts of read and hold say it by the model's call.
-
-// The end of read, hold, write, advance and abandon: the turn's change of the locks is carried out, its answer and record are handed back. (A seal is lent the readers
-// alone to change.)
-fn carry_out(
-    t: Turn,
-    readers: &mut [u16],
-    claimants: &mut [u8],
-    exclusives: &mut [u8],
-    log: &[u32],
-    count: usize,
-    session: u8,
-) -> SessionReply
-    requires { ((length claimants.old ≡ length readers.old) × (length exclusives.old ≡ length readers.old)) × ((session < 16) × ChangeFits t.change session log.now count (length readers.old)) }
-    ensures carried { locks_of readers.new claimants.new exclusives.new ≡ changed t.change log.now count session (locks_of readers.old claimants.old exclusives.old) }
-    ensures reply { result ≡ record { answer = t.answer; session = t.session } }
-{
-    let mut locks = Locks {
-        readers,
-        claimants,
-        exclusives,
-    };
-    locks::apply(&mut locks, t.change, log, count, session);
-    SessionReply::from(t)
-}
+// say of each what it answers; the contracts of read and hold say it by the model's call. What they share, their end, is in `ends`.
 
 // Begin: idle only. The session runs with no entry. 100.
 pub fn begin(

@@ -49,10 +49,10 @@ pub fn roll_back(locks: &mut Locks, log: &[u32], count: usize, session: u8)
 
 // ---- a set of cells
 
-// A set of cells below 1,024: a word for each 64 of them, in it a bit for each.
+// A set of cells below 1,024: a word for each 64 of them, in it a bit for each. Any sixteen words are a set.
 #[derive(Drop)]
 pub struct CellSet {
-    words: [u64; 16],
+    pub words: [u64; 16],
 }
 
 impl Model for CellSet {
