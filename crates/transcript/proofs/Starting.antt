@@ -4,10 +4,11 @@ use native.Mathlib.Omega.{arith}
 use mathlib.Core.Path.{◌≡◌, refl, sym, ◌∙◌, ap, subst}
 use mathlib.Core.Bool.{Bool, true, false, ◌&&◌}
 use mathlib.Core.List.{List, ◌++◌}
-use lib.ListN.{length, take, drop, length-replicate}
+use lib.Dec.{leb}
+use lib.ListN.{length, take, drop, length-replicate, length-append}
 use lib.Seq.{sets, sets-eq, length-take-le}
 use borrow.Author.Tests.{le-leb, lt-leb, eq-eqb, ne_eqb}
-use Rattle.model.proofs.Tools.{clash}
+use Rattle.model.proofs.Tools.{clash, test}
 use Rattle.records.specs.declared.Answer.{Answer}
 use Rattle.records.specs.declared.Answer.TheVariants.{Done, Refused}
 use Rattle.records.specs.declared.Sessions.{Sessions}
@@ -17,10 +18,10 @@ use Rattle.model.specs.Plans.{require}
 use Rattle.model.specs.Step.{Outcome, outcome, set_up_refusal, set_up_answer, set_up, set_up_effect}
 use Rattle.model.proofs.Demand3.{set_up_fresh}
 use Rattle.contracts.specs.Lent.{store_of}
-use Rattle.std.specs.Prelude.{Some, None, eqb}
+use Rattle.std.specs.Prelude.{Option, Some, None, eqb}
 use Rattle.items.specs.Items.{Item}
 use Rattle.replay_text.specs.Lines.{set_up_line}
-use Rattle.transcript.specs.Replay.{replayed, replaying}
+use Rattle.transcript.specs.Replay.{Replayed, replayed, replaying}
 use Rattle.lines.specs.declared.Page.{Page}
 use Rattle.lines.specs.Output.{Out, out, put, held}
 use Rattle.transcript.specs.Output.{Fitted}
@@ -148,3 +149,18 @@ module _ (input o : List ℕ) (p q : Page) (new : held p ≡ out 0 o) (text : he
 pub short : (input o : List ℕ) → length o < 409600 → replayed None o ≡ replaying input o
 unfolding replaying
 short input o h = rw (lt-leb _ _ h)
+
+-- what was printed lies inside the output
+pub within : (input o p : List ℕ) (r : Option ℕ) (n : ℕ) → replayed r p ≡ replaying input o → r ≡ Some n → n ≤ length p
+unfolding replaying
+within input o p r n e h =
+    test (leb 409600 (length o))
+    (λ t.
+    let full : replayed r p ≡ replayed (Some (length (transcript input))) (transcript input ++ drop (length (transcript input)) o) = e ∙ simp t in
+    let said : r ≡ Some (length (transcript input)) = ap (λ (x : Replayed). x.answer) full in
+    let many : n ≡ length (transcript input) = cc in
+    omega (arith, simp length-append at (ap (λ (x : Replayed). length x.output) full)))
+    (λ t.
+    let none : replayed r p ≡ replayed None o = e ∙ simp t in
+    let said : r ≡ None = ap (λ (x : Replayed). x.answer) none in
+    absurd cc)
