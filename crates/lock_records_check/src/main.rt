@@ -3,7 +3,8 @@
 // It writes each list as the replay does, with a line for a peek's number too; last, whether the two forms agreed throughout.
 #![tactic(auto)]
 
-ghost use Rattle.std.specs.Prelude.{◌<◌};
+ghost use Rattle.std.specs.Prelude.{◌≡◌, ◌<◌, slice_index};
+ghost use Rattle.lock_records_check.specs.Forms.{SlicesSetUp, SlicesTake, RunSetUp, RunTakes};
 
 use records::{Answer, Call, Lock, Reply, Session, Sessions};
 use std::io;
@@ -117,7 +118,9 @@ struct Slices {
 }
 
 impl Slices {
-    fn set_up() -> Slices {
+    fn set_up() -> Slices
+        ensures { SlicesSetUp result }
+    {
         let values = [3, 5];
         let mut readers = [7; 2];
         let mut claimants = [7; 2];
@@ -145,7 +148,9 @@ impl Slices {
         }
     }
 
-    fn step(&mut self, call: Call) {
+    fn step(&mut self, call: Call)
+        ensures { SlicesTake call self.old self.new }
+    {
         self.reply = lists::step(
             call,
             self.reply.sessions,
@@ -161,6 +166,11 @@ impl Slices {
     // The lock of a cell as a record.
     fn lock(&self, cell: usize) -> Lock
         requires { cell < 2 }
+        ensures { result ≡ record {
+          readers = slice_index self.now.readers cell;
+          claimant = slice_index self.now.claimants cell;
+          exclusive = slice_index self.now.exclusives cell;
+        } }
     {
         Lock {
             readers: self.readers[cell],
@@ -180,7 +190,9 @@ struct Run {
 }
 
 impl Run {
-    fn set_up() -> Run {
+    fn set_up() -> Run
+        ensures { RunSetUp result }
+    {
         let values = [3, 5];
         let mut locks = [Lock {
             readers: 7,
@@ -200,7 +212,9 @@ impl Run {
         }
     }
 
-    fn step(&mut self, call: Call) {
+    fn step(&mut self, call: Call)
+        ensures { RunTakes call self.old self.new }
+    {
         self.reply = lock_records::step(
             call,
             self.reply.sessions,
