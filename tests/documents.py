@@ -1,7 +1,7 @@
 #!/usr/bin/env python3
 """Holds the documents to the tree: each path, function, theorem, must-fail edit and link that README.md and docs/ name is there. docs/landings, docs/PORT.md and
 docs/DESIGN-PASS.md are left out: they name what stood when they were written. Every must-fail edit stands in docs/datasheet/wrong_answers.md, which has a row with two at the least for each exported
-function.
+function. Each function of the files that the datasheet names for demand 1 has an `ensures`, and none has a `requires`.
 
 Usage: documents.py. Prints what is missing, and last 'N passed, M failed'."""
 
@@ -15,6 +15,7 @@ WRONG_ANSWERS = "docs/datasheet/wrong_answers.md"
 LEFT_OUT = ("PORT.md", "DESIGN-PASS.md")
 EXPORTING = ("set_up", "store", "peeks", "many_reads", "lists", "lock_records", "field", "transcript")
 INNER = {"peeks::peek_plan"}
+ASKING_NOTHING = ("set_up", "store", "peeks")
 PATH = r"[\w{},./-]+"
 EDIT = r"`(\w+/(?:\w+|\{[\w, ]+\}))`"
 STATED = r"((?:`[\w-]+`(?:, | and )?)+) in `((?:crates/\w+/)?(?:specs|proofs)/\w+\.antt)`"
@@ -67,6 +68,13 @@ def exported():
     return {f"{crate}::{name}" for crate in EXPORTING for name in re.findall(r"^pub fn (\w+)", read(f"crates/{crate}/src/lib.rt"), re.M)} - INNER
 
 
+def contracts():
+    """What each function of the files for demand 1 says before its body, by its name."""
+    for crate in ASKING_NOTHING:
+        for name, head in re.findall(r"^(?:pub )?fn (\w+)(.*?)^\{", read(f"crates/{crate}/src/lib.rt"), re.M | re.S):
+            yield f"{crate}::{name}", head
+
+
 def shown(text):
     return {edit for word in re.findall(EDIT, text) for edit in expanded(word)}
 
@@ -111,6 +119,8 @@ def main():
     rows = dict(re.findall(r"^\| `([\w:]+)` (\|.*\|)$", page, re.M))
     for function in sorted(exported() | set(rows)):
         hold(WRONG_ANSWERS, "a row with two edits of", function, len(shown(rows.get(function, ""))) >= 2)
+    for function, head in contracts():
+        hold("docs/DATASHEET.md", "an `ensures`, and no `requires`, of", function, "ensures" in head and not re.search(r"\brequires\b", head))
     print(f"{passed} passed, {failed} failed")
     sys.exit(1 if failed or not passed else 0)
 
