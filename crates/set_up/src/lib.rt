@@ -4,9 +4,11 @@
 
 ghost use Rattle.std.specs.Prelude.{◌≡◌, length, replicate};
 ghost use Rattle.model.specs.Slices.{as_lent};
+ghost use Rattle.records.specs.Records.{answered};
 ghost use Rattle.contracts.specs.Lent.{SetsUp, SetsUpBy};
+ghost use Rattle.set_up.specs.Prepared.{Prepares, records_after};
 
-use records::{Answer, Reply, Sessions};
+use records::{Answer, Refusal, Reply, Sessions};
 use refusals::Lengths;
 
 // Every lock empty, every log word 0.
@@ -19,9 +21,43 @@ fn empty(readers: &mut [u16], claimants: &mut [u8], exclusives: &mut [u8], logs:
     logs.fill(0);
 }
 
-// Set-up by a table: all sessions idle, all locks empty, all log words 0. 100, 7, 16 or 8. It is not inlined: inlined before a call that takes the sixteen
-// records, the compiler would keep these as 48 numbers.
+// Set-up by a table but for the records: all locks empty, all log words 0. It stands apart, and is handed no records: inlined before a call that takes the sixteen,
+// the compiler would keep these as 48 numbers; handed them, it would copy them twice.
 #[inline(never)]
+fn prepare(
+    values: &[u32],
+    classes: &[u8],
+    readers: &mut [u16],
+    claimants: &mut [u8],
+    exclusives: &mut [u8],
+    logs: &mut [u32],
+    caps: &[u32],
+) -> Result<(), Refusal>
+    ensures { Prepares caps values classes (as_lent readers) (as_lent claimants) (as_lent exclusives) (as_lent logs) result }
+{
+    let lengths = Lengths::of(values, classes, readers, claimants, exclusives, logs);
+    loads::judge_set_up(lengths, values, classes, caps)?;
+    empty(readers, claimants, exclusives, logs);
+    Ok(())
+}
+
+// The reply: all sessions idle; refused, as they came.
+fn replied(prepared: Result<(), Refusal>, sessions: Sessions) -> Reply
+    ensures { result ≡ record { answer = answered prepared; sessions = records_after prepared sessions } }
+{
+    match prepared {
+        Ok(()) => Reply {
+            answer: Answer::Done,
+            sessions: records::all_idle(),
+        },
+        Err(refusal) => Reply {
+            answer: Answer::from(refusal),
+            sessions,
+        },
+    }
+}
+
+// Set-up by a table: all sessions idle, all locks empty, all log words 0. 100, 7, 16 or 8.
 pub fn set_up_with_caps(
     sessions: Sessions,
     values: &[u32],
@@ -34,18 +70,8 @@ pub fn set_up_with_caps(
 ) -> Reply
     ensures { SetsUpBy caps values classes (as_lent readers) (as_lent claimants) (as_lent exclusives) (as_lent logs) sessions result }
 {
-    let lengths = Lengths::of(values, classes, readers, claimants, exclusives, logs);
-    if let Err(refusal) = loads::judge_set_up(lengths, values, classes, caps) {
-        return Reply {
-            answer: Answer::from(refusal),
-            sessions,
-        };
-    }
-    empty(readers, claimants, exclusives, logs);
-    Reply {
-        answer: Answer::Done,
-        sessions: records::all_idle(),
-    }
+    let prepared = prepare(values, classes, readers, claimants, exclusives, logs, caps);
+    replied(prepared, sessions)
 }
 
 // Set-up by our table, which passes: 100, 7 or 8.
