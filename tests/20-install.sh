@@ -1,6 +1,6 @@
 #!/usr/bin/env bash
 # The installed copy: one header, one archive and a pkg-config file. The header stands alone in C99 and in C++, the archive has what the header
-# declares and no more, and the firmware example is built against the copy and run, also under valgrind.
+# declares and no more, and the firmware example is built against the copy and run, also under valgrind. The stack of each function is measured.
 set -uo pipefail
 cd "$(dirname "$0")/.."
 
@@ -83,6 +83,10 @@ same_output() {
     "$work/firmware" >"$work/firmware.txt" && diff examples/firmware/expected.txt "$work/firmware.txt"
 }
 
+stack() {
+    gcc $strict -std=gnu99 -O2 tests/c/stack.c $(flags) -o "$work/stack" && "$work/stack"
+}
+
 check "it is installed" bash scripts/install "$prefix"
 check "three files, and the header as it stands" files
 check "the archive has the sixteen functions that the header declares, and no other" exports
@@ -92,6 +96,7 @@ check "the header stands alone in C++" alone g++ -x c++ -std=c++98
 check "a C++ program" from_cpp
 check "the firmware example is built against the copy" firmware
 check "the firmware example prints what is expected" same_output
+check "no function takes 512 bytes of stack" stack
 check "the firmware example is clean under valgrind" valgrind -q --leak-check=full --error-exitcode=9 "$work/firmware"
 
 finish
