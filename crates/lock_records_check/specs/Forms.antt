@@ -11,7 +11,7 @@ use Rattle.lock_records_check.specs.declared.TheConstants.{CLASSES, UNUSED}
 use Rattle.lock_records_check.specs.declared.Slices.{Slices}
 use Rattle.lock_records_check.specs.declared.Run.{Run}
 
--- a field as a lent slice, from what it holds before and after; these contracts don't look where it lies
+-- a field as a lent slice, from what it holds before and after; these contracts do not tell where it lies
 abbrev pub placed : List ℕ → Bor (List ℕ)
 placed xs = record { ref_ptr = (0, 0); now = xs }
 
