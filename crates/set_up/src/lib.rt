@@ -21,8 +21,8 @@ fn empty(readers: &mut [u16], claimants: &mut [u8], exclusives: &mut [u8], logs:
     logs.fill(0);
 }
 
-// Set-up by a table but for the records: all locks empty, all log words 0. It stands apart, and is handed no records: inlined before a call that takes the sixteen,
-// the compiler would keep these as 48 numbers; handed them, it would copy them twice.
+// Set-up by a table but for the records: all locks empty, all log words 0. It stands apart, and is handed no records: inlined, set-up takes 696 bytes of stack in the
+// place of 472, and 632 where the records are handed on, which copies them twice.
 #[inline(never)]
 fn prepare(
     values: &[u32],
