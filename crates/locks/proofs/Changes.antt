@@ -10,7 +10,7 @@ use Rattle.model.specs.Turns.{changed}
 use Rattle.records.specs.declared.Change.{Change}
 use Rattle.records.specs.declared.Change.TheVariants.{Keep, Join, Claim, Acquire, Vacate, Withdraw, DropReads}
 use Rattle.contracts.specs.Lent.{locks_of}
-use Rattle.locks.specs.Changes.{one_of, withdraw_of, drop_of, in_parts}
+use Rattle.locks.specs.Changes.{one_of, withdraw_of, drop_of, in_parts, OwnParts}
 
 -- ---- the three parts of a change
 
@@ -24,6 +24,17 @@ in_three (Acquire c) log m s L = refl
 in_three (Vacate c) log m s L = refl
 in_three Withdraw log m s L = refl
 in_three DropReads log m s L = refl
+
+-- and rolling back is a part of one change alone, and sealing
+pub own_parts : (d : Change) → OwnParts d
+unfolding withdraw_of drop_of
+own_parts Keep = ((λ h. refl), (λ h. refl))
+own_parts (Join c) = ((λ h. refl), (λ h. refl))
+own_parts (Claim c) = ((λ h. refl), (λ h. refl))
+own_parts (Acquire c) = ((λ h. refl), (λ h. refl))
+own_parts (Vacate c) = ((λ h. refl), (λ h. refl))
+own_parts Withdraw = ((λ h. absurd (h refl)), (λ h. refl))
+own_parts DropReads = ((λ h. refl), (λ h. absurd (h refl)))
 
 -- ---- the stores of each change
 

@@ -58,6 +58,10 @@ drop_of DropReads = DropReads
 unfoldable pub in_parts : Change → List ℕ → ℕ → ℕ → Locks → Locks
 in_parts d log m s L = changed (drop_of d) log m s (changed (withdraw_of d) log m s (changed (one_of d) [] 0 s L))
 
+-- rolling back is a part of `Withdraw` alone, sealing of `DropReads` alone
+abbrev pub OwnParts : Change → Type 0
+OwnParts d = ((d ≡ Withdraw → ⊥) → withdraw_of d ≡ Keep) × ((d ≡ DropReads → ⊥) → drop_of d ≡ Keep)
+
 -- what its sealing leaves of the reader sets
 abbrev pub DropsIf : Change → List ℕ → ℕ → ℕ → List ℕ → List ℕ → Type 0
 DropsIf d log m s R R' =

@@ -6,7 +6,7 @@ ghost use Rattle.model.specs.Buffers.{lock_at};
 ghost use Rattle.contracts.specs.Lent.{locks_before};
 ghost use Rattle.lock.specs.Lent.{locks_in, SameSlices};
 ghost use Rattle.model.specs.Turns.{changed};
-ghost use Rattle.locks.specs.Changes.{LockFor, ChangeFits, in_parts, DropsIf};
+ghost use Rattle.locks.specs.Changes.{LockFor, ChangeFits, in_parts, OwnParts, DropsIf};
 
 pub use lock::Locks;
 use records::{Change, Lock, Plan};
@@ -41,12 +41,12 @@ pub fn lock_for(readers: &[u16], claimants: &[u8], exclusives: &[u8], p: Plan) -
 // ---- a change of the locks
 
 // A change carried out, and so its three parts, one after the other.
-#[tactic(auto, unfolding(crate::specs::Changes::ChangeFits, crate::specs::Changes::in_parts, crate::specs::Changes::one_of, crate::specs::Changes::withdraw_of, crate::specs::Changes::drop_of, model::specs::Turns::changed, model::specs::Effects::reads_dropped), using(crate::proofs::Changes::join_stored, crate::proofs::Changes::claim_stored, crate::proofs::Changes::acquire_stored, crate::proofs::Changes::vacate_stored))]
+#[tactic(auto, unfolding(crate::specs::Changes::ChangeFits, crate::specs::Changes::in_parts, crate::specs::Changes::one_of, crate::specs::Changes::withdraw_of, crate::specs::Changes::drop_of, model::specs::Turns::changed, model::specs::Effects::reads_dropped), using(crate::proofs::Changes::own_parts, crate::proofs::Changes::join_stored, crate::proofs::Changes::claim_stored, crate::proofs::Changes::acquire_stored, crate::proofs::Changes::vacate_stored))]
 pub fn apply(locks: &mut Locks, change: Change, log: &[u32], count: usize, session: u8)
     requires { (session < 16) × ChangeFits change session log.now count (length locks.old.readers.now) }
     ensures lent { SameSlices locks.old locks.new }
     ensures carried { locks_in locks.new ≡ changed change log.now count session (locks_in locks.old) }
-    ensures parts { locks_in locks.new ≡ in_parts change log.now count session (locks_in locks.old) }
+    ensures parts { (locks_in locks.new ≡ in_parts change log.now count session (locks_in locks.old)) × OwnParts change }
 {
     match change {
         Change::Keep => {}
