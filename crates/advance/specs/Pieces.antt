@@ -28,7 +28,7 @@ due_on n log x =
     require (entries_fit n log x) (Err DamagedRecord)
     (require (leb 2 x.phase) (Err WrongPhase) (due_at log x.count (target_slot log x.count x.next)))
 
--- its cell, 0 where there is none whatever a refusal is, and that it is one of 32 entries
+-- its cell, 0 where the advance is refused, whatever the refusal; and that the entry is one of 32
 unfoldable pub due_cell : {R : Type 0} → List ℕ → Result Next R → ℕ
 due_cell log (Err r) = 0
 due_cell log (Ok d) = cell_at log d.slot

@@ -25,7 +25,7 @@ in_three (Vacate c) log m s L = refl
 in_three Withdraw log m s L = refl
 in_three DropReads log m s L = refl
 
--- and rolling back is a part of one change alone, and sealing
+-- rolling back and sealing are each a part of one change alone
 pub own_parts : (d : Change) → OwnParts d
 unfolding withdraw_of drop_of
 own_parts Keep = ((λ h. refl), (λ h. refl))

@@ -40,7 +40,7 @@ pub fn lock_for(readers: &[u16], claimants: &[u8], exclusives: &[u8], p: Plan) -
 
 // ---- a change of the locks
 
-// A change carried out, and so its three parts, one after the other.
+// A change carried out, and so its three parts, one after the other, of which rolling back and sealing are each a part of one change alone.
 #[tactic(auto, unfolding(crate::specs::Changes::ChangeFits, crate::specs::Changes::in_parts, crate::specs::Changes::one_of, crate::specs::Changes::withdraw_of, crate::specs::Changes::drop_of, model::specs::Turns::changed, model::specs::Effects::reads_dropped), using(crate::proofs::Changes::own_parts, crate::proofs::Changes::join_stored, crate::proofs::Changes::claim_stored, crate::proofs::Changes::acquire_stored, crate::proofs::Changes::vacate_stored))]
 pub fn apply(locks: &mut Locks, change: Change, log: &[u32], count: usize, session: u8)
     requires { (session < 16) × ChangeFits change session log.now count (length locks.old.readers.now) }
